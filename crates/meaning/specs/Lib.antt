@@ -1,0 +1,12 @@
+-- The meaning of a rule book. Read in this order.
+pub mod Sets
+pub mod Books
+pub mod AnswerSet
+pub mod Colours
+pub mod Claim
+pub mod Paper
+pub mod Written
+pub mod Computed
+pub mod Lowest
+pub mod Engine
+pub mod Choice
