@@ -1,0 +1,21 @@
+-- Sets of atoms written out: place a of a list of 255 says whether atom a is in the set. The tables by which a pass asks of atoms.
+--
+--   atomTable x      the set, written out
+--   atomsIn l        the set that a table stands for
+use mathlib.Core.Bool.{Bool, false}
+use mathlib.Core.List.{List, [], _∷_}
+use Prim.Native.Nat.{ℕ, zero, suc}
+use lib.ListN.{getD}
+use Rattle.meaning.specs.Sets.{Set}
+use Rattle.meaning.specs.Books.{Atoms, atomNo}
+
+-- n places, of which the first is place i
+unfoldable pub tableFrom : ℕ → ℕ → Set ℕ → List Bool
+tableFrom i zero s = []
+tableFrom i (suc n) s = s i ∷ tableFrom (suc i) n s
+
+unfoldable pub atomTable : Atoms → List Bool
+atomTable x = tableFrom 0 255 (λ n. x (atomNo n))
+
+unfoldable pub atomsIn : List Bool → Atoms
+atomsIn l a = getD l (a .0) false
