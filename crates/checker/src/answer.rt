@@ -1,0 +1,26 @@
+// What checking a paper answers: the atom that is certain, or why the paper is refused.
+use book::Refusal;
+use meaning::AtomNo;
+
+pub enum Checked {
+    Certain(AtomNo),
+    // 1 to 7: the book is refused.
+    Book(Refusal),
+    // 20: under 6 or over 60,000 bytes.
+    Length,
+    // 21: the mark isn't 50 46.
+    Mark(usize),
+    // 22: witness start + w + 6 isn't the length.
+    Trailer(usize),
+    // 23: the claimed atom isn't below A.
+    Atom(usize),
+    // 24: a step of unknown code, a rule not below R, a bad list, or a step due at the witness
+    // start or passing it.
+    Form(usize),
+    // 25: a step's condition doesn't hold.
+    Fails(usize),
+    // 26: bytes between the last 45 and the witness.
+    Gap(usize),
+    // 27: the witness is wrong.
+    Witness(usize),
+}
