@@ -1,0 +1,62 @@
+-- The events of the walk, one for each try, in order. Document 01, "The walk and its tries": "One try is one closing. Start at the empty
+-- colouring. After a closing: contradiction, go back; every rule coloured, one answer set; else take the lowest uncoloured rule, walk
+-- first with it on, then with it off."
+--
+--   events b c       the events of the walk that starts at the colouring c
+--   rest b c x       those that come after the reading x: what is left to do for one who has gone as far as x
+--
+-- The lists are never built: they say what the walk does.
+use mathlib.Core.Bool.{Bool, true, false}
+use mathlib.Core.List.{List, [], _∷_, _++_}
+use Prim.Native.Nat.{ℕ, zero, suc}
+use Rattle.meaning.specs.declared.RuleNo.{RuleNo}
+use Rattle.meaning.specs.declared.colouring.Colouring.{Colouring}
+use Rattle.meaning.specs.Books.{Atoms, Book, count}
+use Rattle.meaning.specs.AnswerSet.{generating}
+use Rattle.meaning.specs.Colours.{clashing, uncoloured}
+use Rattle.meaning.specs.Written.{colourOn, colourOff, pair}
+use Rattle.meaning.specs.Computed.{close}
+use Rattle.meaning.specs.Lowest.{Pick, none, one, lowest}
+
+-- how a try ends: in a contradiction, at a rule without a colour, or with every rule coloured
+pub data Event : Type 0 where
+  clash : Event
+  fork : RuleNo → Event
+  reading : Colouring → Event
+
+-- after a closing that gave d: whether it has a contradiction, its lowest uncoloured rule, and the walk below
+unfoldable pub after : Colouring → Bool → Pick → (Colouring → List Event) → List Event
+after d true p further = clash ∷ []
+after d false none further = reading d ∷ []
+after d false (one r) further = fork r ∷ (further (colourOn r d) ++ further (colourOff r d))
+
+abbrev pub afterClosing : Book → Colouring → (Colouring → List Event) → List Event
+afterClosing b d further = after d (clashing b (pair d)) (lowest b (uncoloured (pair d))) further
+
+-- through at most n levels
+unfoldable pub eventsIn : ℕ → Book → Colouring → List Event
+eventsIn zero b c = []
+eventsIn (suc n) b c = afterClosing b (close b c) (λ d. eventsIn n b d)
+
+-- each level colours a rule, so one level more than there are rules is enough
+unfoldable pub events : Book → Colouring → List Event
+events b c = eventsIn (suc (count b)) b c
+
+-- the same for what comes after x: at a leaf nothing; at a fork, the rest of the side that x is on, and the other side if it comes later
+unfoldable pub beside : Bool → List Event → List Event → List Event → List Event
+beside true restOn restOff allOff = restOn ++ allOff
+beside false restOn restOff allOff = restOff
+
+unfoldable pub afterPast : Book → Colouring → Atoms → Bool → Pick → (Colouring → List Event) → List Event
+afterPast b d x true p further = []
+afterPast b d x false none further = []
+afterPast b d x false (one r) further =
+    beside (generating b x r) (further (colourOn r d)) (further (colourOff r d)) (events b (colourOff r d))
+
+unfoldable pub restIn : ℕ → Book → Colouring → Atoms → List Event
+restIn zero b c x = []
+restIn (suc n) b c x =
+    let d = close b c in afterPast b d x (clashing b (pair d)) (lowest b (uncoloured (pair d))) (λ e. restIn n b e x)
+
+unfoldable pub rest : Book → Colouring → Atoms → List Event
+rest b c x = restIn (suc (count b)) b c x

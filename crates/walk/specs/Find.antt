@@ -1,0 +1,66 @@
+-- What a call of find answers, and what its buffer holds afterwards. Document 01, "The walk and its tries" and "Numbers given back":
+-- "Finding: 15, 8, then the walk."
+--
+--   told             an answer's number and values, case by case
+--   findOf book k limit answer   the answer and the buffer, of the bytes of the book and of the buffer before
+use mathlib.Core.List.{List}
+use Prim.Native.Nat.{ℕ, _-_}
+use lib.ListN.{length}
+use Rattle.meaning.specs.Books.{Book}
+use Rattle.meaning.specs.Written.{nothing}
+use Rattle.meaning.specs.Choice.{ifLt, ifEq}
+use Rattle.book.specs.Numbers.{numberOf, placeOf}
+use Rattle.book.specs.Format.{Reading, good, bad, readOf}
+use Rattle.walk.specs.Events.{events}
+use Rattle.walk.specs.Run.{Wanted, State, run}
+use Rattle.walk.specs.declared.tally.Halt.{Halt}
+use Rattle.walk.specs.declared.tally.Halt.the-variants.{Going, Full, Limit, NotLeast}
+use Rattle.walk.specs.declared.find.Found.{Found}
+use Rattle.walk.specs.declared.find.Found.the-variants.{Set, Fewer, Stopped, Book as BadBook, NoRoom, NoNumber, NotLeast as Wrong}
+
+-- success tells the tries; 11 tells all tries and sets; 9 tells L; the others tell number and place, or the number only
+pub data Told : Type 0 where
+  set : ℕ → Told
+  fewer : ℕ → ℕ → Told
+  stopped : ℕ → Told
+  refusedAt : ℕ → ℕ → Told
+  refused : ℕ → Told
+
+abbrev pub told : Found → Told
+told (Set tries) = set tries
+told (Fewer tries sets) = fewer tries sets
+told (Stopped limit) = stopped limit
+told (BadBook f) = refusedAt (numberOf f) (placeOf f)
+told NoRoom = refused 8
+told Wrong = refused 10
+told NoNumber = refused 15
+
+pub record Answered : Type 0 where
+  pub told : Told
+  pub buffer : List ℕ
+
+abbrev pub startOf : List ℕ → State
+startOf answer = record { tally = record { tries = 0; sets = 0; halt = Going }; out = answer }
+
+unfoldable pub toldBy : Halt → State → ℕ → Told
+toldBy Going s limit = fewer (s .tally .tries) (s .tally .sets)
+toldBy Full s limit = set (s .tally .tries)
+toldBy Limit s limit = stopped limit
+toldBy NotLeast s limit = refused 10
+
+abbrev pub answeredBy : State → ℕ → Answered
+answeredBy s limit = record { told = toldBy (s .tally .halt) s limit; buffer = s .out }
+
+-- the k-th reading: pass over one less, then write one row
+unfoldable pub findIn : Book → ℕ → ℕ → List ℕ → Answered
+findIn b k limit answer =
+    ifEq k 0 (record { told = refused 15; buffer = answer })
+    (ifLt (length answer) (b .atoms) (record { told = refused 8; buffer = answer })
+    (answeredBy (run b (record { pass = k - 1; room = 1; limit = limit }) (startOf answer) (events b nothing)) limit))
+
+unfoldable pub findReading : Reading → ℕ → ℕ → List ℕ → Answered
+findReading (good n r index l) k limit answer = findIn (record { atoms = n; rules = l }) k limit answer
+findReading (bad i at) k limit answer = record { told = refusedAt i at; buffer = answer }
+
+unfoldable pub findOf : List ℕ → ℕ → ℕ → List ℕ → Answered
+findOf book k limit answer = findReading (readOf book) k limit answer

@@ -1,0 +1,9 @@
+// The walk: finds the readings of a book, in the order that the book fixes, and counts the tries.
+// Stands on closing, book and meaning.
+
+mod find;
+mod tally;
+
+pub use find::Found;
+pub use tally::Halt;
+pub use tally::Tally;
