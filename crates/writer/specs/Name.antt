@@ -1,0 +1,94 @@
+-- What a call of name answers, and what its buffer holds afterwards. Document 01, "Numbers given back": "Naming: 13; then answer set 1 with
+-- limit L (9, 10, 11); then the paper's walk with a fresh L (9, 12); then 14."
+--
+--   told             an answer's number and values, case by case
+--   nameOf book a limit paper    the answer and the buffer, of the bytes of the book and of the buffer before
+use mathlib.Core.List.{List, [], _++_}
+use Prim.Native.Nat.{ℕ, _+_}
+use lib.ListN.{length, replicate}
+use Rattle.meaning.specs.declared.AtomNo.{AtomNo}
+use Rattle.meaning.specs.Books.{Book}
+use Rattle.meaning.specs.Colours.{start}
+use Rattle.meaning.specs.Claim.{Claim, named, claimed}
+use Rattle.meaning.specs.Paper.{numbers, trailer}
+use Rattle.meaning.specs.Engine.{witnessOf}
+use Rattle.meaning.specs.Written.{nothing}
+use Rattle.meaning.specs.Choice.{ifLt}
+use Rattle.book.specs.Numbers.{numberOf, placeOf}
+use Rattle.book.specs.Format.{Reading, good, bad, readOf}
+use Rattle.walk.specs.Events.{events}
+use Rattle.walk.specs.Run.{State, run, writeAt}
+use Rattle.walk.specs.Find.{startOf}
+use Rattle.walk.specs.Page.{setIn}
+use Rattle.walk.specs.declared.tally.Halt.{Halt}
+use Rattle.walk.specs.declared.tally.Halt.the-variants.{Going, Full, Limit, NotLeast}
+use Rattle.writer.specs.Branches.{branches}
+use Rattle.writer.specs.Scan.{Course, writing, limited, refuted, Progress, scan}
+use Rattle.writer.specs.declared.name.Named.{Named}
+use Rattle.writer.specs.declared.name.Named.the-variants.{Paper, Fewer, Stopped, Book as BadBook, NotLeast as Wrong, NotCertain, NoAtom, TooLong}
+
+-- success tells the tries of the paper's walk and the paper's length; 11 tells all tries of the first walk, and no sets; 9 tells L
+pub data Told : Type 0 where
+  paper : ℕ → ℕ → Told
+  fewer : ℕ → ℕ → Told
+  stopped : ℕ → Told
+  refusedAt : ℕ → ℕ → Told
+  refused : ℕ → Told
+
+abbrev pub told : Named → Told
+told (Paper tries length) = paper tries length
+told (Fewer tries) = fewer tries 0
+told (Stopped limit) = stopped limit
+told (BadBook f) = refusedAt (numberOf f) (placeOf f)
+told Wrong = refused 10
+told NotCertain = refused 12
+told NoAtom = refused 13
+told TooLong = refused 14
+
+pub record Answered : Type 0 where
+  pub told : Told
+  pub buffer : List ℕ
+
+-- the walk to answer set 1
+unfoldable pub firstWalk : Book → ℕ → State
+firstWalk b limit = run b (record { pass = 0; room = 1; limit = limit }) (startOf (replicate 255 0)) (events b nothing)
+
+-- the paper's walk
+unfoldable pub paperWalk : Book → Claim → ℕ → Progress
+paperWalk b k limit = scan limit (record { tries = 0; bytes = []; course = writing }) (branches b k start)
+
+-- the whole paper: steps, witness, trailer
+unfoldable pub wholePaper : Book → Claim → List ℕ → List ℕ → List ℕ
+wholePaper b k steps row =
+    steps ++ (numbers (witnessOf b (setIn row)) ++ trailer k (length (witnessOf b (setIn row))) (length steps))
+
+-- "14: engine's paper longer than the buffer or 60,000"
+unfoldable pub handOver : ℕ → List ℕ → List ℕ → Answered
+handOver tries whole buffer =
+    ifLt (length buffer) (length whole) (record { told = refused 14; buffer = buffer })
+    (ifLt 60000 (length whole) (record { told = refused 14; buffer = buffer })
+    (record { told = paper tries (length whole); buffer = writeAt 0 whole buffer }))
+
+unfoldable pub afterPaperWalk : Course → Book → Claim → ℕ → Progress → List ℕ → List ℕ → Answered
+afterPaperWalk writing b k limit p row buffer = handOver (p .tries) (wholePaper b k (p .bytes) row) buffer
+afterPaperWalk limited b k limit p row buffer = record { told = stopped limit; buffer = buffer }
+afterPaperWalk refuted b k limit p row buffer = record { told = refused 12; buffer = buffer }
+
+unfoldable pub afterFirstWalk : Halt → Book → Claim → ℕ → State → List ℕ → Answered
+afterFirstWalk Going b k limit s buffer = record { told = fewer (s .tally .tries) 0; buffer = buffer }
+afterFirstWalk Full b k limit s buffer =
+    let p = paperWalk b k limit in afterPaperWalk (p .course) b k limit p (s .out) buffer
+afterFirstWalk Limit b k limit s buffer = record { told = stopped limit; buffer = buffer }
+afterFirstWalk NotLeast b k limit s buffer = record { told = refused 10; buffer = buffer }
+
+unfoldable pub nameIn : Book → Claim → ℕ → List ℕ → Answered
+nameIn b k limit buffer =
+    ifLt (claimed k .0) (b .atoms) (let s = firstWalk b limit in afterFirstWalk (s .tally .halt) b k limit s buffer)
+    (record { told = refused 13; buffer = buffer })
+
+unfoldable pub nameReading : Reading → AtomNo → ℕ → List ℕ → Answered
+nameReading (good n r index l) a limit buffer = nameIn (record { atoms = n; rules = l }) (named a) limit buffer
+nameReading (bad i at) a limit buffer = record { told = refusedAt i at; buffer = buffer }
+
+unfoldable pub nameOf : List ℕ → AtomNo → ℕ → List ℕ → Answered
+nameOf book a limit buffer = nameReading (readOf book) a limit buffer
