@@ -1,6 +1,7 @@
 -- The walk, and what a call for a reading tells. Read in this order.
 pub mod Events
 pub mod Readings
+pub mod Tries
 pub mod Run
 pub mod Find
 pub mod Page

@@ -1,0 +1,27 @@
+-- The tries that a call needs, told from the events of the fixed walk alone. Document 01: "Its walk ends at that answer set, or at the last
+-- try." Demand 2: "stops at the tries limit exactly when the fixed walk needs more tries".
+--
+--   Kth b k t x      the k-th reading of the walk is x, and is met at try t
+--   Needs b k n      a call for the k-th reading needs n tries: up to that reading, or the whole walk where there are fewer
+use mathlib.Core.Path.{_≡_}
+use mathlib.Core.List.{List, _∷_, _++_}
+use Prim.Native.Nat.{ℕ, _+_, _<_}
+use lib.ListN.{length}
+use Rattle.meaning.specs.declared.colouring.Colouring.{Colouring}
+use Rattle.meaning.specs.Books.{Atoms, Book}
+use Rattle.meaning.specs.Written.{nothing}
+use Rattle.walk.specs.Events.{Event, reading, events}
+use Rattle.walk.specs.Readings.{readingOf, readingsIn, readings}
+
+pub record Kth (b : Book) (k t : ℕ) (x : Atoms) : Type 0 where
+  pub earlier : List Event
+  pub found : Colouring
+  pub later : List Event
+  pub walk : events b nothing ≡ earlier ++ (reading found ∷ later)
+  pub try : t ≡ length earlier + 1
+  pub number : k ≡ length (readingsIn b earlier) + 1
+  pub set : x ≡ readingOf b found
+
+pub data Needs (b : Book) (k : ℕ) : ℕ → Type 0 where
+  to-reading : {t : ℕ} {x : Atoms} → Kth b k t x → Needs b k t
+  to-end : length (readings b) < k → Needs b k (length (events b nothing))
