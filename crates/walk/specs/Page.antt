@@ -1,28 +1,79 @@
 -- A page of readings: the next rows of a listing that has come as far as a given reading. Listing all readings page by page makes each
 -- counted try once; going down again to where a page ended costs one closing a level and no try.
 --
---   eventsFrom b sets last   all events, or, where readings were listed before, those after the last of them
---   pageOf b room limit tries sets last out   the state after a page
+--   told                  an answer's values, case by case
+--   setIn row             the set that a row stands for
+--   eventsFrom b tries x  all events at the start, when no try was made; later those after the reading x
+--   pageOf book limit tries last out   the answer and the buffer: of the bytes of the book, the limit, the tries made so far, the last row
+--                         of the page before, and the bytes of the buffer
 use mathlib.Core.Bool.{Bool}
 use mathlib.Core.List.{List}
-use Prim.Native.Nat.{ℕ, zero, suc}
+use Prim.Native.Nat.{ℕ, zero, suc, _/_}
 use lib.Dec.{eqb}
-use lib.ListN.{getD}
+use lib.ListN.{length, getD}
 use Rattle.meaning.specs.Books.{Atoms, Book}
 use Rattle.meaning.specs.Written.{nothing}
+use Rattle.meaning.specs.Choice.{ifLt, ifEq}
+use Rattle.book.specs.Numbers.{numberOf, placeOf}
+use Rattle.book.specs.Format.{Reading, good, bad, readOf}
 use Rattle.walk.specs.Events.{Event, events, rest}
 use Rattle.walk.specs.Run.{State, run}
-use Rattle.walk.specs.declared.tally.Halt.the-variants.{Going}
+use Rattle.walk.specs.declared.tally.Halt.{Halt}
+use Rattle.walk.specs.declared.tally.Halt.the-variants.{Going, Full, Limit, NotLeast}
+use Rattle.walk.specs.declared.page.Page.{Page}
+use Rattle.walk.specs.declared.page.Page.the-variants.{Whole, Last, Stopped, NotLeast as Wrong, Book as BadBook, NoRoom}
 
--- the set that a row stands for
+-- a full page: all tries so far; the last page: all tries, its rows; the limit was met, or a reading is no least model (10), behind so many
+-- rows; a refusal
+pub data Told : Type 0 where
+  whole : ℕ → Told
+  last : ℕ → ℕ → Told
+  stopped : ℕ → Told
+  wrong : ℕ → Told
+  refusedAt : ℕ → ℕ → Told
+  refused : ℕ → Told
+
+abbrev pub told : Page → Told
+told (Whole tries) = whole tries
+told (Last tries rows) = last tries rows
+told (Stopped rows) = stopped rows
+told (Wrong rows) = wrong rows
+told (BadBook f) = refusedAt (numberOf f) (placeOf f)
+told NoRoom = refused 8
+
+pub record Paged : Type 0 where
+  pub told : Told
+  pub buffer : List ℕ
+
 unfoldable pub setIn : List ℕ → Atoms
 setIn row a = eqb (getD row (a .0) 0) 1
 
 unfoldable pub eventsFrom : Book → ℕ → Atoms → List Event
-eventsFrom b zero last = events b nothing
-eventsFrom b (suc n) last = rest b nothing last
+eventsFrom b zero x = events b nothing
+eventsFrom b (suc n) x = rest b nothing x
 
-unfoldable pub pageOf : Book → ℕ → ℕ → ℕ → ℕ → List ℕ → List ℕ → State
-pageOf b room limit tries sets last out =
-    run b (record { pass = sets; room = room; limit = limit })
-    (record { tally = record { tries = tries; sets = sets; halt = Going }; out = out }) (eventsFrom b sets (setIn last))
+-- the rows that a buffer of n bytes has room for; a book without atoms has one reading at most, of no bytes
+unfoldable pub roomIn : Book → ℕ → ℕ
+roomIn b n = ifEq (b .atoms) 0 1 (n / b .atoms)
+
+unfoldable pub toldBy : Halt → State → Told
+toldBy Going s = last (s .tally .tries) (s .tally .sets)
+toldBy Full s = whole (s .tally .tries)
+toldBy Limit s = stopped (s .tally .sets)
+toldBy NotLeast s = wrong (s .tally .sets)
+
+abbrev pub pagedBy : State → Paged
+pagedBy s = record { told = toldBy (s .tally .halt) s; buffer = s .out }
+
+unfoldable pub pageIn : Book → ℕ → ℕ → List ℕ → List ℕ → Paged
+pageIn b limit tries row out =
+    ifLt (length out) (b .atoms) (record { told = refused 8; buffer = out })
+    (pagedBy (run b (record { pass = 0; room = roomIn b (length out); limit = limit })
+    (record { tally = record { tries = tries; sets = 0; halt = Going }; out = out }) (eventsFrom b tries (setIn row))))
+
+unfoldable pub pageReading : Reading → ℕ → ℕ → List ℕ → List ℕ → Paged
+pageReading (good n r index l) limit tries row out = pageIn (record { atoms = n; rules = l }) limit tries row out
+pageReading (bad i at) limit tries row out = record { told = refusedAt i at; buffer = out }
+
+unfoldable pub pageOf : List ℕ → ℕ → ℕ → List ℕ → List ℕ → Paged
+pageOf book limit tries row out = pageReading (readOf book) limit tries row out

@@ -63,8 +63,8 @@ tried b w s (reading d) = readingMet b w s (readingOf b d)
 -- one event: nothing more once the way has ended; the limit stops it before another try
 unfoldable pub met : Book → Wanted → Halt → State → Event → State
 met b w Going s e =
-    ifEq (s .tally .tries) (w .limit) (record { tally = record { tries = s .tally .tries; sets = s .tally .sets; halt = Limit }; out = s .out })
-    (tried b w s e)
+    ifLt (s .tally .tries) (w .limit) (tried b w s e)
+    (record { tally = record { tries = s .tally .tries; sets = s .tally .sets; halt = Limit }; out = s .out })
 met b w Full s e = s
 met b w Limit s e = s
 met b w NotLeast s e = s

@@ -2,8 +2,10 @@
 // Stands on closing, book and meaning.
 
 mod find;
+mod page;
 mod tally;
 
 pub use find::Found;
+pub use page::Page;
 pub use tally::Halt;
 pub use tally::Tally;

@@ -1,0 +1,17 @@
+// The next page of a listing of all readings.
+use book::Refusal;
+
+pub enum Page {
+    // The buffer is full of rows: all tries so far. More readings may follow.
+    Whole(u32),
+    // The walk has come to its end: all tries, and the rows of this last page.
+    Last(u32, u32),
+    // 9: one more try would pass the limit; so many rows stand in the buffer.
+    Stopped(u32),
+    // 10: a reading isn't the least model of its reduct; so many readings of this page were met.
+    NotLeast(u32),
+    // 1 to 7: the book is refused.
+    Book(Refusal),
+    // 8: the buffer has fewer bytes than the book has atoms.
+    NoRoom,
+}
