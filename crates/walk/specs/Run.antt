@@ -52,7 +52,7 @@ readingMet b w s x =
       tally = counted s (s .tally .sets + 1) (ifEq (s .tally .sets + 1) (w .pass + w .room) Full Going);
       out = writeAt ((s .tally .sets - w .pass) * b .atoms) (rowOf b x) (s .out);
     })
-    (record { tally = counted s (s .tally .sets + 1) NotLeast; out = s .out }))
+    (record { tally = counted s (s .tally .sets) NotLeast; out = s .out }))
 
 -- one try
 unfoldable pub tried : Book → Wanted → State → Event → State

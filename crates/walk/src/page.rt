@@ -8,7 +8,7 @@ pub enum Page {
     Last(u32, u32),
     // 9: one more try would pass the limit; so many rows stand in the buffer.
     Stopped(u32),
-    // 10: a reading isn't the least model of its reduct; so many readings of this page were met.
+    // 10: a reading isn't the least model of its reduct; so many rows stand in the buffer.
     NotLeast(u32),
     // 1 to 7: the book is refused.
     Book(Refusal),
