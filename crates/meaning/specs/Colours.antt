@@ -20,10 +20,9 @@ use mathlib.Core.Path.{_≡_}
 use mathlib.Core.Bool.{Bool, true, false, not, _&&_, _||_}
 use mathlib.Core.List.{List}
 use mathlib.Core.Logic.{_⊎_}
-use Rattle.meaning.specs.declared.AtomNo.{AtomNo}
 use Rattle.meaning.specs.declared.RuleNo.{RuleNo}
 use Rattle.meaning.specs.Sets.{_∈_, _∉_, every, some, Smallest}
-use Rattle.meaning.specs.Books.{Atoms, Rules, sameAtom, among, Rule, Book, rule, InBook, everyRule, someRule}
+use Rattle.meaning.specs.Books.{Atoms, Rules, sameAtom, among, Book, rule, InBook, everyRule, someRule}
 use Rattle.meaning.specs.AnswerSet.{generating}
 
 pub record Pair : Type 0 where

@@ -13,7 +13,6 @@ use mathlib.Core.Bool.{Bool, true, false, not, _&&_, _||_}
 use mathlib.Core.List.{List, [], _∷_, _++_, map}
 use Prim.Native.Nat.{ℕ, _<_, _%_, _/_}
 use lib.ListN.{length}
-use Rattle.meaning.specs.declared.AtomNo.{AtomNo}
 use Rattle.meaning.specs.declared.RuleNo.{RuleNo}
 use Rattle.meaning.specs.Sets.{_∈_, _∉_, every, some, ascending}
 use Rattle.meaning.specs.Books.{Atoms, Rules, among, Rule, Book, rule, InBook}

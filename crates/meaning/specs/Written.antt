@@ -5,7 +5,6 @@
 --   nothing          the empty colouring
 --   colourOn r c, colourOff r c   the colouring with rule r put in on, in off
 --   pair c           the pair of sets that a colouring stands for
---   supports c       the set that its marks stand for
 use mathlib.Core.Bool.{Bool, true, false, _||_}
 use mathlib.Core.List.{List, [], _∷_}
 use Prim.Native.Nat.{ℕ, zero, suc}

@@ -1,0 +1,26 @@
+-- The laws of the meaning that need no code. Read in this order.
+pub mod Choice
+pub mod Tests
+pub mod Sets
+pub mod Least
+pub mod Rules
+pub mod Lowest
+pub mod RulesIn
+pub mod Written
+pub mod Reduct
+pub mod Support
+pub mod Closing
+pub mod Additions
+pub mod Answers
+pub mod LeastModel
+pub mod Order
+pub mod Adequacy
+pub mod Claim
+pub mod Branches
+pub mod Witness
+pub mod Papers
+pub mod Engine
+pub mod Listing
+pub mod PaperCases
+pub mod Readings
+pub mod Cases

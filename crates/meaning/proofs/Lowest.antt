@@ -1,0 +1,68 @@
+-- Laws of the lowest rule of a kind (specs/Lowest): what is picked is in the set and no rule below it is, and none is picked only if the
+-- book has none. By one induction over the numbers that are tried.
+use mathlib.Core.Path.{_≡_, refl, _∙_, subst}
+use mathlib.Core.Logic.{⊎-elim}
+use mathlib.Core.Bool.{Bool, true, false}
+use Prim.Native.Nat.{ℕ, zero, suc, _+_, _≤_, _<_}
+use native.Mathlib.Nat.{eq-or-lt-of-le, le-antisymm}
+use native.Mathlib.Omega.{arith}
+use Rattle.meaning.specs.declared.RuleNo.{RuleNo}
+use Rattle.meaning.specs.Sets.{_∈_, _∉_}
+use Rattle.meaning.specs.Books.{Rules, ruleNo, Book, count, InBook}
+use Rattle.meaning.specs.Colours.{Pair, uncoloured, Total}
+use Rattle.meaning.specs.Lowest.{Pick, none, one, oneOr, lowestFrom, lowest}
+use Rattle.meaning.proofs.Tests.{clash, lt-or-le}
+use Rattle.meaning.proofs.Rules.{uncoloured-no}
+
+-- what is said of a set by the pick among i, i + 1, .. , n of them
+abbrev Picked : Rules → ℕ → ℕ → Pick → Type 0
+Picked s i n none = (r : RuleNo) → i ≤ r .0 → r .0 < i + n → r ∉ s
+Picked s i n (one r) = (i ≤ r .0) × (r .0 < i + n) × (r ∈ s) × ((q : RuleNo) → i ≤ q .0 → q .0 < r .0 → q ∉ s)
+
+-- one number more is tried first
+picked-more : (s : Rules) (i n : ℕ) (t : Bool) (p : Pick) → s (ruleNo i) ≡ t → Picked s (suc i) n p
+    → Picked s i (suc n) (oneOr t (ruleNo i) p)
+unfolding oneOr
+picked-more s i n true p e k = (omega arith, omega arith, e, λ q g h. absurd (omega arith))
+picked-more s i n false none e k = λ r g h. ⊎-elim (λ z. rw (← z) e) (λ z. k r z (omega arith)) (eq-or-lt-of-le g)
+picked-more s i n false (one r) e (g, h, m, k) =
+    (omega arith, omega arith, m, λ q f l. ⊎-elim (λ z. rw (← z) e) (λ z. k q z l) (eq-or-lt-of-le f))
+
+picked : (s : Rules) (i n : ℕ) → Picked s i n (lowestFrom i n s)
+unfolding lowestFrom
+picked s i zero = λ r g h. absurd (omega arith)
+picked s i (suc n) = picked-more s i n (s (ruleNo i)) _ refl (picked s (suc i) n)
+
+module _ (b : Book) (s : Rules) where
+  pub lowest-one : (r : RuleNo) → lowest b s ≡ one r → InBook b r × (r ∈ s) × ((q : RuleNo) → q .0 < r .0 → q ∉ s)
+  unfolding lowest
+  lowest-one r e =
+      let (g, h, m, f) = subst (Picked s 0 (count b)) e (picked s 0 (count b)) in (omega arith, m, λ q l. f q (omega arith) l)
+
+  pub lowest-none : lowest b s ≡ none → (r : RuleNo) → InBook b r → r ∉ s
+  unfolding lowest
+  lowest-none e r h = subst (Picked s 0 (count b)) e (picked s 0 (count b)) r (omega arith) (omega arith)
+
+  pub none-lowest : ((r : RuleNo) → InBook b r → r ∉ s) → lowest b s ≡ none
+  none-lowest f = go (lowest b s) refl
+    where
+      go : (p : Pick) → lowest b s ≡ p → lowest b s ≡ none
+      go none e = e
+      go (one r) e = let (h, m, k) = lowest-one r e in clash m (f r h)
+
+  pub one-lowest : (r : RuleNo) → InBook b r → r ∈ s → ((q : RuleNo) → q .0 < r .0 → q ∉ s) → lowest b s ≡ one r
+  one-lowest r h m f = go (lowest b s) refl
+    where
+      below : (q p : RuleNo) → q ∈ s → ((u : RuleNo) → u .0 < p .0 → u ∉ s) → p .0 ≤ q .0
+      below q p n k = ⊎-elim (λ g. clash n (k q g)) (λ g. g) (lt-or-le (q .0) (p .0))
+
+      go : (p : Pick) → lowest b s ≡ p → lowest b s ≡ one r
+      go none e = clash m (lowest-none e r h)
+      go (one q) e =
+          let (g, n, k) = lowest-one q e in
+          let z : q .0 ≡ r .0 = le-antisymm (below r q m k) (below q r n f) in
+          e ∙ (λ i. one (record { 0 = z i }))
+
+-- no lowest rule without a colour: every rule has one
+pub lowest-total : (b : Book) (c : Pair) → lowest b (uncoloured c) ≡ none → Total b c
+lowest-total b c e r h = uncoloured-no b c r (lowest-none b _ e r h)

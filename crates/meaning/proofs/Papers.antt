@@ -1,0 +1,39 @@
+-- A paper that keeps the printed rules is right, whoever wrote it (document 00, demand 3; blueprint, K4 and N3): its witness is an answer
+-- set and its claim holds of each, since every answer set stands above the empty pair.
+use mathlib.Core.Bool.{false≢true}
+use mathlib.Core.List.{List}
+use Prim.Native.Nat.{ℕ}
+use Rattle.meaning.specs.declared.AtomNo.{AtomNo}
+use Rattle.meaning.specs.Sets.{_∈_, _∉_}
+use Rattle.meaning.specs.Books.{Atoms, among, Book}
+use Rattle.meaning.specs.AnswerSet.{AnswerSet, Throughout, Certain}
+use Rattle.meaning.specs.Colours.{Pair, start, heads, Within}
+use Rattle.meaning.specs.Claim.{Claim, named, meant}
+use Rattle.meaning.specs.Paper.{Branch, Keeps}
+use Rattle.meaning.proofs.Tests.{clash}
+use Rattle.meaning.proofs.Rules.{within-both}
+use Rattle.meaning.proofs.Claim.{named-certain}
+use Rattle.meaning.proofs.Branches.{branch-sound}
+use Rattle.meaning.proofs.Witness.{witness-answer}
+
+module _ (b : Book) where
+  pub start-within : (c : Pair) → Within b start c
+  start-within c = within-both b (λ r h m. absurd (false≢true m)) (λ r h m. absurd (false≢true m))
+
+  module _ (k : Claim) where
+    -- the claim of a branch from the empty pair holds of every answer set
+    pub branch-each : {l : List ℕ} → Branch b k start l → (x : Atoms) → AnswerSet b x → x ∈ meant k
+    branch-each p x answer = branch-sound b k x answer p (start-within _)
+
+    -- where it fails of one, no bytes are such a branch
+    pub no-branch : ((x : Atoms) × AnswerSet b x × (x ∉ meant k)) → {l : List ℕ} → Branch b k start l → ⊥
+    no-branch (x, answer, n) p = clash (branch-each p x answer) n
+
+    pub keeps-throughout : {paper : List ℕ} → Keeps b k paper → Throughout b (meant k)
+    keeps-throughout p = record {
+      one = (heads b (among (p .witness)), witness-answer b (p .witness) (p .grounds));
+      each = branch-each (p .branch);
+    }
+
+  pub keeps-certain : (a : AtomNo) {paper : List ℕ} → Keeps b (named a) paper → Certain b a
+  keeps-certain a p = named-certain b a (keeps-throughout (named a) p)
