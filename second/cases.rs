@@ -1,0 +1,159 @@
+// The collection of cases for `desk`: lines with their answers from the plain engine, what they
+// cover, and the two files they are written to.
+
+use crate::desk::{answer, hex, BAD_LINE};
+use crate::random::Random;
+use crate::worked::worked_lines;
+use crate::{cases_books, cases_damage, cases_lines, cases_naming, cases_papers};
+use std::collections::{BTreeMap, BTreeSet};
+
+const SEED: u64 = 20_240_607;
+const FEWEST_CASES: usize = 4_000;
+const MOST_TRIES: u64 = 300_000;
+
+pub const COMMANDS: [&str; 4] = ["find", "readings", "check", "name"];
+
+struct Case {
+    line: Vec<u8>,
+    answer: String,
+}
+
+pub struct Cases {
+    list: Vec<Case>,
+    known: BTreeSet<Vec<u8>>,
+    tries: u64,
+    /// How often each number of document 01's table was given, 9 and 11 by their words.
+    numbers: BTreeMap<u8, usize>,
+    bad_kinds: BTreeMap<&'static str, usize>,
+}
+
+impl Cases {
+    fn add(&mut self, line: &[u8]) -> String {
+        let answer = answer(line);
+        if self.known.insert(line.to_vec()) {
+            self.tries += answer.tries;
+            if let Some(number) = number_of(&answer.text) {
+                *self.numbers.entry(number).or_insert(0) += 1;
+            }
+            self.list.push(Case { line: line.to_vec(), answer: answer.text.clone() });
+        }
+        answer.text
+    }
+
+    /// A line that `desk` takes. Gives its answer.
+    pub fn ask(&mut self, line: &str) -> String {
+        let text = self.add(line.as_bytes());
+        assert_ne!(text, BAD_LINE, "meant to be taken: {:.200}", line);
+        text
+    }
+
+    /// A line that `desk` does not take, and why.
+    pub fn bad(&mut self, kind: &'static str, line: &[u8]) {
+        let text = self.add(line);
+        let shown = String::from_utf8_lossy(line);
+        assert_eq!(text, BAD_LINE, "{}: {:.200}", kind, shown);
+        *self.bad_kinds.entry(kind).or_insert(0) += 1;
+    }
+
+    pub fn find(&mut self, k: u64, limit: u64, room: usize, book: &[u8]) -> String {
+        self.ask(&format!("find {} {} {} {}", k, limit, room, hex(book)))
+    }
+
+    pub fn name(&mut self, atom: u8, limit: u64, room: usize, book: &[u8]) -> String {
+        self.ask(&format!("name {} {} {} {}", atom, limit, room, hex(book)))
+    }
+
+    pub fn check(&mut self, book: &[u8], paper: &[u8]) -> String {
+        self.ask(&format!("check {} {}", hex(book), hex(paper)))
+    }
+
+    pub fn readings(&mut self, book: &[u8]) -> String {
+        self.ask(&format!("readings {}", hex(book)))
+    }
+}
+
+/// The number of the table that an answer gives.
+fn number_of(text: &str) -> Option<u8> {
+    let mut words = text.trim_end_matches('|').split(' ');
+    match words.next() {
+        Some("limit") => Some(9),
+        Some("fewer") => Some(11),
+        Some("refused") => words.next().and_then(|number| number.parse().ok()),
+        _ => None,
+    }
+}
+
+/// All cases of all commands, always the same.
+fn all_cases() -> Cases {
+    let mut cases = Cases {
+        list: Vec::new(),
+        known: BTreeSet::new(),
+        tries: 0,
+        numbers: BTreeMap::new(),
+        bad_kinds: BTreeMap::new(),
+    };
+    for (line, expected) in worked_lines() {
+        assert_eq!(cases.ask(&line), expected, "worked book: {:.200}", line);
+    }
+    let mut random = Random::new(SEED);
+    cases_books::add(&mut cases, &mut random);
+    cases_damage::add(&mut cases);
+    cases_naming::add(&mut cases, &mut random);
+    cases_papers::add(&mut cases, &mut random);
+    cases_lines::add(&mut cases);
+    cases
+}
+
+fn assert_covered(cases: &Cases) {
+    assert!(cases.list.len() >= FEWEST_CASES, "{} cases", cases.list.len());
+    assert!(cases.tries < MOST_TRIES, "{} tries", cases.tries);
+    for number in (1..=9).chain(11..=15).chain(20..=27) {
+        assert!(cases.numbers.contains_key(&number), "number {} does not occur", number);
+    }
+    for kind in cases_lines::KINDS {
+        assert!(cases.bad_kinds.contains_key(kind), "no bad line: {}", kind);
+    }
+}
+
+fn command_of(case: &Case) -> &[u8] {
+    case.line.split(|byte| *byte == b' ').next().unwrap_or(b"")
+}
+
+/// Writes `stdin` and `stdout` to the folder, with the cases of these commands and all bad lines.
+/// The last line of `stdin` has no line end, which is a case too.
+pub fn write(folder: &str, commands: &[&str]) -> Result<(), String> {
+    for command in commands {
+        if !COMMANDS.contains(command) {
+            return Err(format!("no command {} in desk", command));
+        }
+    }
+    let cases = all_cases();
+    assert_covered(&cases);
+    let wanted = |case: &&Case| {
+        case.answer == BAD_LINE || commands.iter().any(|c| c.as_bytes() == command_of(case))
+    };
+    let chosen: Vec<&Case> = cases.list.iter().filter(wanted).collect();
+    let lines: Vec<&[u8]> = chosen.iter().map(|case| case.line.as_slice()).collect();
+    let answers: String = chosen.iter().map(|case| format!("{}\n", case.answer)).collect();
+    let put = |name: &str, bytes: &[u8]| {
+        let path = format!("{}/{}", folder, name);
+        std::fs::write(&path, bytes).map_err(|trouble| format!("{}: {}", path, trouble))
+    };
+    put("stdin", &lines.join(&b'\n'))?;
+    put("stdout", answers.as_bytes())?;
+    report(&cases, chosen.len());
+    Ok(())
+}
+
+fn report(cases: &Cases, chosen: usize) {
+    println!("{} cases in all, {} written, {} tries in all", cases.list.len(), chosen, cases.tries);
+    for command in COMMANDS {
+        let of = |case: &&Case| command_of(case) == command.as_bytes() && case.answer != BAD_LINE;
+        println!("{}: {} cases", command, cases.list.iter().filter(of).count());
+    }
+    let bad: usize = cases.bad_kinds.values().sum();
+    println!("bad line: {} cases of {} kinds", bad, cases.bad_kinds.len());
+    let numbers: Vec<String> =
+        cases.numbers.iter().map(|(number, count)| format!("{} ({})", number, count)).collect();
+    println!("numbers, with how often: {}", numbers.join(", "));
+}

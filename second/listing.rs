@@ -1,0 +1,54 @@
+// What the program `readings` prints for a book.
+
+use crate::book::Book;
+use crate::closing::Support;
+use crate::meaning::is_answer_set;
+use crate::numbers::AtomSet;
+use crate::walk::{walk, Visit, WalkEnd};
+use std::io::{Result, Write};
+
+pub const LISTING_LIMIT: u64 = 1_000_000;
+
+/// Writes the listing and gives back the tries that it took.
+pub fn write_readings(bytes: &[u8], limit: u64, out: &mut dyn Write) -> Result<u64> {
+    let book = match Book::read(bytes) {
+        Ok(book) => book,
+        Err(refusal) => {
+            let place = refusal.place.expect("a book is refused with a place");
+            writeln!(out, "refused {} {}", refusal.number, place)?;
+            return Ok(0);
+        }
+    };
+    writeln!(out, "rules {} atoms {}", book.rules.len(), book.atoms)?;
+    let mut sets = 0u64;
+    let mut trouble = Ok(());
+    let mut least = true;
+    let (end, tries) = walk(&book, limit, Support::Kept, &mut |colouring, _| {
+        let set = book.heads(&colouring.on);
+        least = is_answer_set(&book, &set);
+        if least {
+            sets += 1;
+            trouble = write_set(sets, &set, out);
+        }
+        if least && trouble.is_ok() {
+            Visit::GoOn
+        } else {
+            Visit::Stop
+        }
+    });
+    trouble?;
+    match end {
+        WalkEnd::Whole => writeln!(out, "end {} tries {}", sets, tries)?,
+        WalkEnd::Limit => writeln!(out, "stopped {} tries {}", sets, limit)?,
+        WalkEnd::Stopped => writeln!(out, "refused 10 0")?,
+    }
+    Ok(tries)
+}
+
+fn write_set(number: u64, set: &AtomSet, out: &mut dyn Write) -> Result<()> {
+    write!(out, "{}:", number)?;
+    for atom in set.members() {
+        write!(out, " {}", atom.0)?;
+    }
+    writeln!(out)
+}

@@ -1,0 +1,120 @@
+// The second program: rule books, readings and papers, written from documents 00 and 01 alone so
+// that a misreading of them in the proved engine shows. README.md in this folder has the commands.
+
+mod altered;
+mod book;
+mod cases;
+mod cases_books;
+mod cases_damage;
+mod cases_lines;
+mod cases_naming;
+mod cases_papers;
+mod checker;
+mod closing;
+mod desk;
+mod forged;
+mod legal;
+mod listing;
+mod meaning;
+mod numbers;
+mod paper;
+mod random;
+mod selftest;
+mod selftest_papers;
+mod selftest_words;
+mod shapes;
+mod walk;
+mod words;
+mod worked;
+
+use std::fs;
+use std::io::{self, BufWriter, Read, Write};
+use std::process::exit;
+
+const USAGE: &str = "usage:
+  second desk                              commands on standard input, one line of answer each
+  second readings                          all readings of the book on standard input
+  second cases FOLDER COMMAND...           writes FOLDER/stdin and FOLDER/stdout for desk
+  second selftest                          the engine against the definition
+  second book WORDSFILE BOOKFILE NAMESFILE rules in words to a book (`-`: standard input)
+  second words BOOKFILE [NAMESFILE]        a book to rules in words
+  second random SEED                       a random book to standard output";
+
+fn main() {
+    let arguments: Vec<String> = std::env::args().skip(1).collect();
+    let words: Vec<&str> = arguments.iter().map(|word| word.as_str()).collect();
+    let outcome = match words.as_slice() {
+        ["desk"] => desk::run(&mut io::stdin().lock(), &mut io::stdout().lock()).map_err(told),
+        ["readings"] => run_readings(),
+        ["cases", folder, commands @ ..] if !commands.is_empty() => cases::write(folder, commands),
+        ["selftest"] => selftest::run(),
+        ["book", text, book, names] => run_book(text, book, names),
+        ["words", book] => run_words(book, None),
+        ["words", book, names] => run_words(book, Some(names)),
+        ["random", seed] => run_random(seed),
+        _ => Err(USAGE.to_string()),
+    };
+    if let Err(message) = outcome {
+        eprintln!("{}", message);
+        exit(2);
+    }
+}
+
+fn told(trouble: io::Error) -> String {
+    trouble.to_string()
+}
+
+/// The bytes of a file, or of standard input for `-`.
+fn read_file(path: &str) -> Result<Vec<u8>, String> {
+    let mut bytes = Vec::new();
+    if path == "-" {
+        io::stdin().lock().read_to_end(&mut bytes).map_err(told)?;
+        return Ok(bytes);
+    }
+    fs::read(path).map_err(|trouble| format!("{}: {}", path, trouble))
+}
+
+fn read_text(path: &str) -> Result<String, String> {
+    String::from_utf8(read_file(path)?).map_err(|_| format!("{} is no text in UTF-8", path))
+}
+
+fn write_file(path: &str, bytes: &[u8]) -> Result<(), String> {
+    fs::write(path, bytes).map_err(|trouble| format!("{}: {}", path, trouble))
+}
+
+fn run_readings() -> Result<(), String> {
+    let bytes = read_file("-")?;
+    let mut out = BufWriter::new(io::stdout());
+    listing::write_readings(&bytes, listing::LISTING_LIMIT, &mut out).map_err(told)?;
+    out.flush().map_err(told)
+}
+
+/// Nothing is written where the words have an error.
+fn run_book(text: &str, book: &str, names: &str) -> Result<(), String> {
+    let named = words::read_words(&read_text(text)?)?;
+    let list: String = named.names.iter().map(|name| format!("{}\n", name)).collect();
+    write_file(book, &named.book.write())?;
+    write_file(names, list.as_bytes())
+}
+
+fn run_words(book: &str, names: Option<&str>) -> Result<(), String> {
+    let book = book::Book::read(&read_file(book)?)
+        .map_err(|refusal| format!("refused {} {}", refusal.number, refusal.place.unwrap_or(0)))?;
+    let names: Option<Vec<String>> = match names {
+        Some(path) => Some(read_text(path)?.lines().map(String::from).collect()),
+        None => None,
+    };
+    print!("{}", words::write_words(&book, names.as_deref())?);
+    Ok(())
+}
+
+/// For comparisons with other programs: a book that depends on the seed only.
+fn run_random(seed: &str) -> Result<(), String> {
+    let seed = desk::decimal(seed.as_bytes(), desk::MOST_NUMBER).ok_or("SEED is no number")?;
+    let mut random = random::Random::new(seed);
+    let atoms = random.from_to(2, 14);
+    let rules = random.from_to(atoms, 3 * atoms);
+    let shape = *random.pick(&shapes::SHAPES);
+    let book = shapes::random_book(&mut random, atoms, rules, shape);
+    io::stdout().write_all(&book.write()).map_err(told)
+}

@@ -1,0 +1,134 @@
+// The walk over colourings, its tries, and finding the k-th answer set.
+
+use crate::book::{Book, Refusal};
+use crate::closing::{close, Colouring, Support};
+use crate::meaning::is_answer_set;
+use crate::numbers::{AtomSet, RuleSet};
+
+/// How a walk came to its end.
+#[derive(Clone, Copy, PartialEq, Eq, Debug)]
+pub enum WalkEnd {
+    /// Every branch was walked.
+    Whole,
+    /// The visitor had what it wanted.
+    Stopped,
+    /// One more try was needed than the limit allows.
+    Limit,
+}
+
+/// What a visitor says after an answer set.
+#[derive(Clone, Copy, PartialEq, Eq)]
+pub enum Visit {
+    GoOn,
+    Stop,
+}
+
+struct Walk<'a> {
+    book: &'a Book,
+    part: Support,
+    limit: u64,
+    tries: u64,
+    visitor: &'a mut dyn FnMut(&Colouring, u64) -> Visit,
+}
+
+impl Walk<'_> {
+    /// None: this branch was walked to its end. Some: the whole walk ends here.
+    fn branch(&mut self, start: &Colouring) -> Option<WalkEnd> {
+        if self.tries == self.limit {
+            return Some(WalkEnd::Limit);
+        }
+        self.tries += 1;
+        let closed = close(self.book, start, self.part);
+        if closed.contradicts() {
+            return None;
+        }
+        match closed.lowest_uncoloured(self.book) {
+            None => match (self.visitor)(&closed, self.tries) {
+                Visit::GoOn => None,
+                Visit::Stop => Some(WalkEnd::Stopped),
+            },
+            Some(r) => {
+                let end = self.branch(&closed.with_on(r));
+                end.or_else(|| self.branch(&closed.with_off(r)))
+            }
+        }
+    }
+}
+
+/// Walks from the empty colouring and hands each complete colouring to the visitor with the tries
+/// so far. Gives back how it ended and the tries used.
+pub fn walk(
+    book: &Book,
+    limit: u64,
+    part: Support,
+    visitor: &mut dyn FnMut(&Colouring, u64) -> Visit,
+) -> (WalkEnd, u64) {
+    let mut walk = Walk { book, part, limit, tries: 0, visitor };
+    let end = walk.branch(&Colouring::empty()).unwrap_or(WalkEnd::Whole);
+    (end, walk.tries)
+}
+
+#[derive(Clone, Copy, PartialEq, Eq, Debug)]
+pub struct Found {
+    pub set: AtomSet,
+    pub on: RuleSet,
+    pub tries: u64,
+}
+
+#[derive(Clone, Copy, PartialEq, Eq, Debug)]
+pub enum Finding {
+    Set(Found),
+    Fewer { tries: u64, sets: u64 },
+    Limit,
+    Refused(Refusal),
+}
+
+/// The walk for the k-th answer set; k is at least 1.
+pub fn find_set(book: &Book, k: u64, limit: u64) -> Finding {
+    let mut sets = 0;
+    let mut on = RuleSet::none();
+    let (end, tries) = walk(book, limit, Support::Kept, &mut |colouring, _| {
+        sets += 1;
+        on = colouring.on;
+        if sets == k {
+            Visit::Stop
+        } else {
+            Visit::GoOn
+        }
+    });
+    match end {
+        WalkEnd::Limit => Finding::Limit,
+        WalkEnd::Whole => Finding::Fewer { tries, sets },
+        WalkEnd::Stopped => {
+            let set = book.heads(&on);
+            if !is_answer_set(book, &set) {
+                return Finding::Refused(Refusal::placeless(10));
+            }
+            Finding::Set(Found { set, on, tries })
+        }
+    }
+}
+
+/// Finding as a caller sees it: 15 and 8 come before the walk.
+pub fn find(book: &Book, k: u64, limit: u64, room: usize) -> Finding {
+    if k == 0 {
+        return Finding::Refused(Refusal::placeless(15));
+    }
+    if room < book.atoms {
+        return Finding::Refused(Refusal::placeless(8));
+    }
+    find_set(book, k, limit)
+}
+
+/// All readings in the walk's order, with the tries after which each came, or None past the limit.
+pub fn all_readings(book: &Book, limit: u64, part: Support) -> Option<(Vec<(AtomSet, u64)>, u64)> {
+    let mut sets = Vec::new();
+    let (end, tries) = walk(book, limit, part, &mut |colouring, tries| {
+        sets.push((book.heads(&colouring.on), tries));
+        Visit::GoOn
+    });
+    match end {
+        WalkEnd::Limit => None,
+        _ => Some((sets, tries)),
+    }
+}
