@@ -4,8 +4,8 @@
 --   atomsIn l        the set that a table stands for
 use mathlib.Core.Bool.{Bool, false}
 use mathlib.Core.List.{List, [], _∷_}
-use Prim.Native.Nat.{ℕ, zero, suc}
-use lib.ListN.{getD}
+use Prim.Native.Nat.{ℕ, zero, suc, _<_}
+use lib.ListN.{length, getD}
 use Rattle.meaning.specs.Sets.{Set}
 use Rattle.meaning.specs.Books.{Atoms, atomNo}
 
@@ -19,3 +19,7 @@ atomTable x = tableFrom 0 255 (λ n. x (atomNo n))
 
 unfoldable pub atomsIn : List Bool → Atoms
 atomsIn l a = getD l (a .0) false
+
+-- every number of the list is below n
+pub record Below (n : ℕ) (l : List ℕ) : Type 0 where
+  pub at : (i : ℕ) → i < length l → getD l i 0 < n

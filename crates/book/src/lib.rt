@@ -1,12 +1,27 @@
 // The rule book: any bytes are read as a book or refused with a number and a place, and the rules
 // of a good book are handed out in place. Stands on meaning.
 
+mod conditions;
+mod number;
+mod part;
 mod reader;
+mod record;
 mod refusal;
+mod rules;
+mod tables;
 
+pub use conditions::goes_on;
+pub use conditions::is_blocked;
+pub use conditions::is_starved;
 pub use reader::Read;
 pub use reader::Shape;
+pub use reader::read_book;
 pub use refusal::Refusal;
+pub use rules::head;
+pub use rules::negatives;
+pub use rules::positives;
+pub use tables::heads_of;
+pub use tables::lost_in;
 
 // The last two bytes of every book: 52 42.
 pub const BOOK_MARK: [u8; 2] = [0x52, 0x42];

@@ -1,4 +1,7 @@
 // Why bytes are refused as a book: document 01's numbers 1 to 7, each but the first with its place.
+ghost use mathlib.Core.Path.{_≡_};
+ghost use Rattle.book.specs.Numbers.{numberOf, placeOf};
+
 pub enum Refusal {
     // 1: under 6 or over 9,441 bytes.
     Length,
@@ -14,4 +17,36 @@ pub enum Refusal {
     Atom(usize),
     // 7: a body part isn't ascending.
     Order(usize),
+}
+
+impl Refusal {
+    // Document 01's number.
+    pub fn number(self) -> u8
+        ensures { λ r. ⌜ r ≡ numberOf self ⌝ }
+    {
+        match self {
+            Refusal::Length => 1,
+            Refusal::Mark(_) => 2,
+            Refusal::Trailer(_) => 3,
+            Refusal::Entry(_) => 4,
+            Refusal::Record(_) => 5,
+            Refusal::Atom(_) => 6,
+            Refusal::Order(_) => 7,
+        }
+    }
+
+    // The place in the book; 0 where the length is wrong.
+    pub fn place(self) -> usize
+        ensures { λ r. ⌜ r ≡ placeOf self ⌝ }
+    {
+        match self {
+            Refusal::Length => 0,
+            Refusal::Mark(at) => at,
+            Refusal::Trailer(at) => at,
+            Refusal::Entry(at) => at,
+            Refusal::Record(at) => at,
+            Refusal::Atom(at) => at,
+            Refusal::Order(at) => at,
+        }
+    }
 }

@@ -156,6 +156,10 @@ module _ (b : Book) (s : Rules) where
   unfolding rulesIn
   rules-length = rules-from-length 0 (count b) s
 
+  pub rules-more : (t : Rules) → Under b t s → length (rulesIn b t) ≤ length (rulesIn b s)
+  unfolding rulesIn
+  rules-more t f = rules-from-more 0 (count b) t s (λ q g k. f q (omega arith))
+
   -- a set without one of the rules has fewer
   pub rules-fewer : (t : Rules) → Under b t s → (r : RuleNo) → InBook b r → r ∈ s → r ∉ t
       → length (rulesIn b t) < length (rulesIn b s)

@@ -1,0 +1,94 @@
+-- The nested search: outside, what is asked of the body is what is asked of the atoms that are left; inside, the rules so far that have
+-- the atom as head are off. The label is taken at a rule that is not off, and the atom has then not all its rules off.
+use mathlib.Core.Path.{_≡_, refl, sym, _∙_}
+use mathlib.Core.Logic.{⊎-elim}
+use mathlib.Core.Bool.{true}
+use mathlib.Core.List.{map}
+use Prim.Native.Nat.{_-_, _≤_}
+use native.Mathlib.Omega.{arith}
+use lib.ListN.{length, drop}
+use borrow.Author.Needs.{needs}
+use borrow.Author.Tests.{not-true, not-false}
+use Rattle.meaning.specs.Books.{atomNo}
+use Rattle.meaning.specs.Colours.{allIn}
+use Rattle.meaning.specs.Sets.{some}
+use Rattle.meaning.specs.Written.{of}
+use Rattle.meaning.proofs.Tests.{first}
+use Rattle.book.specs.Format.{bookIn}
+use Rattle.book.proofs.AtomSets.{of-place, allTo, all-at-none, all-at-skip, all-at-other, all-at-end}
+use Rattle.book.proofs.Bodies.{some-end, some-turn, some-part, not-all-in}
+use Rattle.book.proofs.Places.{shape-count}
+use Rattle.book.proofs.conditions.is_starved.Statement.{statement}
+use Rattle.book.proofs.conditions.is_starved.Tie as tie
+
+abbrev Inv-loop : tie.InvT-loop
+Inv-loop book shape off body i a q₀ q = (q ≤ shape .rules) × (allTo (bookIn book) (of off) q (atomNo a) ≡ true)
+
+abbrev μ-loop : tie.MeasureT-loop
+μ-loop book shape off body i a q₀ q = shape .rules - q
+
+abbrev Inv-atoms : tie.InvT-atoms
+Inv-atoms book shape off body i₀ i =
+    (i ≤ length body)
+    ×
+    (some (allIn (bookIn book) (of off)) (map atomNo body) ≡ some (allIn (bookIn book) (of off))
+    (map atomNo (drop i body)))
+
+abbrev μ-atoms : tie.MeasureT-atoms
+μ-atoms book shape off body i₀ i = length body - i
+
+atoms-holds : tie.Need-atoms-holds Inv-loop μ-loop Inv-atoms μ-atoms
+atoms-holds c = (search needs, refl)
+
+loop-holds : tie.Need-loop-holds Inv-loop μ-loop Inv-atoms μ-atoms
+loop-holds c = (search needs, all-at-none _ _ 0 _)
+
+atoms-again : tie.Need-atoms-again Inv-loop μ-loop Inv-atoms μ-atoms
+atoms-again c =
+    let k = c .before .before .before .before .before .before .before .before .before .before .before in
+    let s = k .before .before .before in
+    let n = shape-count _ (s .args .shape) (s .pre .0) in
+    let e = not-all-in (bookIn (s .args .book .now)) (of (s .args .off .now))
+    (c .before .before .before .before .before .before .before .before .loop .q) _ _ (omega arith)
+    (c .before .before .head .ensures) (c .if3 .taken)
+    (of-place _ _ _ _ (c .before .before .before .before .before .wide .ensures .0)
+    (not-true _ (c .before .before .before .if2 .taken))) in (
+      search needs,
+      k .atoms .inv .1 ∙ some-turn _ (k .before .positives .result .now) (k .atoms .i) (omega arith)
+          ∙ rw e,
+    )
+
+loop-again : tie.Need-loop-again Inv-loop μ-loop Inv-atoms μ-atoms
+loop-again c =
+    let l = c .before .before .before .before .before in (
+      search needs,
+      ⊎-elim (λ w. all-at-other _ _ (l .loop .q) _ _ (w .1 .ensures) (w .3 .left) (l .loop .inv .1))
+          (λ w. all-at-skip _ _ (l .loop .q) _
+          (of-place _ _ _ _ (c .before .before .wide .ensures .0) (not-false _ (w .left))) (l .loop .inv .1))
+          (c .if2 .came),
+    )
+
+returns : tie.Need-returns Inv-loop μ-loop Inv-atoms μ-atoms
+returns c =
+    let l = c .before .before in
+    let k = l .before .before .before in
+    let s = k .before .before .before in
+    let n = shape-count _ (s .args .shape) (s .pre .0) in
+    sym
+    (sym (some-part _ _ _ (k .before .positives .ensures)) ∙ k .atoms .inv .1
+    ∙ some-turn _ (k .before .positives .result .now) (k .atoms .i) (omega arith)
+    ∙ first _ (all-at-end _ _ (l .loop .q) _ (omega arith) (l .loop .inv .1)))
+
+returns-2 : tie.Need-returns-2 Inv-loop μ-loop Inv-atoms μ-atoms
+returns-2 c =
+    let k = c .before in
+    let s = k .before .before .before in
+    sym
+    (sym (some-part _ _ _ (k .before .positives .ensures)) ∙ k .atoms .inv .1
+    ∙ some-end _ (k .before .positives .result .now) (k .atoms .i) (omega arith))
+
+pub is-starved-spec : {M : Type 1} → statement M
+is-starved-spec =
+    tie.close (tie.spec Inv-loop μ-loop Inv-atoms μ-atoms (λ c κs. search needs) atoms-holds (λ c. search needs)
+    (λ c. search needs) loop-holds (λ c κs. search needs) (λ c. search needs) (λ c κs. search needs)
+    (λ c. search needs) atoms-again (λ c. search needs) (λ c. search needs) loop-again returns returns-2)

@@ -1,0 +1,63 @@
+-- Reading a book: each way out is one choice of the definition, in its order; the last two are what the records tell.
+use mathlib.Core.Path.{ap, _∙_}
+use native.Mathlib.Omega.{arith}
+use borrow.Author.Needs.{needs}
+use Rattle.meaning.proofs.Choice.{lt-yes, lt-no, eq-yes, eq-no}
+use Rattle.book.specs.Checks.{checked}
+use Rattle.book.specs.Format.{bodyOf, readOf}
+use Rattle.book.proofs.Turns.{told-bad, read-wrong, read-fine}
+use Rattle.book.proofs.reader.read_book.Statement.{statement}
+use Rattle.book.proofs.reader.read_book.Tie as tie
+
+returns : tie.Need-returns
+unfolding readOf
+returns c = told-bad _ _ _ (lt-yes _ _ _ _ (omega arith))
+
+returns-2 : tie.Need-returns-2
+unfolding readOf
+returns-2 c = told-bad _ _ _ (lt-no _ _ _ _ (omega arith) ∙ lt-yes _ _ _ _ (omega arith))
+
+returns-3 : tie.Need-returns-3
+unfolding readOf
+returns-3 c =
+    told-bad _ _ _ (lt-no _ _ _ _ (omega arith) ∙ lt-no _ _ _ _ (omega arith) ∙ eq-no _ _ _ _ (λ e. omega arith))
+
+returns-4 : tie.Need-returns-4
+unfolding readOf
+returns-4 c =
+    told-bad _ _ _
+    (lt-no _ _ _ _ (omega arith) ∙ lt-no _ _ _ _ (omega arith) ∙ eq-yes _ _ _ _ (omega arith)
+    ∙ eq-no _ _ _ _ (λ e. omega arith))
+
+returns-5 : tie.Need-returns-5
+unfolding readOf bodyOf
+returns-5 c =
+    told-bad _ _ _
+    (lt-no _ _ _ _ (omega arith) ∙ lt-no _ _ _ _ (omega arith) ∙ eq-yes _ _ _ _ (omega arith)
+    ∙ eq-yes _ _ _ _ (omega arith) ∙ eq-no _ _ _ _ (λ e. omega arith))
+
+returns-6 : tie.Need-returns-6
+returns-6 c =
+    let k = c .before .before .before in
+    read-wrong
+    (k .before .before .before .before .before .before .before .before .before .before .before .before .before .args .book .now)
+    _ _ (k .before .before .before .wide .ensures .0) (k .before .before .u16-at .ensures .0) (omega arith)
+    (omega arith) (omega arith) (omega arith) (omega arith) _ (k .check-records .ensures) _ _
+    (ap checked (c .before .why .given .1))
+
+returns-7 : tie.Need-returns-7
+returns-7 c =
+    let k = c .before .before in
+    read-fine
+    (k .before .before .before .before .before .before .before .before .before .before .before .before .before .args .book .now)
+    _ _ (k .before .before .before .wide .ensures .0) (k .before .before .u16-at .ensures .0) (omega arith)
+    (omega arith) (omega arith) (omega arith) (omega arith) _ (k .check-records .ensures)
+    (ap checked (c .enum-told .given .1))
+
+pub read-book-spec : {M : Type 1} → statement M
+read-book-spec =
+    tie.close (tie.spec returns returns-2 (λ c. search needs) (λ c. search needs) (λ c. search needs)
+    (λ c. search needs) returns-3 (λ c. search needs) (λ c. search needs) (λ c. search needs) (λ c. search needs)
+    returns-4 (λ c. search needs) (λ c. search needs) (λ c. search needs) (λ c κs. search needs) (λ c. search needs)
+    (λ c κs. search needs) (λ c. search needs) (λ c. search needs) (λ c. search needs) (λ c. search needs) returns-5
+    (λ c κs. search needs) (λ c. search needs) (λ c. search needs) returns-6 returns-7)

@@ -1,0 +1,19 @@
+-- A rule's negative atoms are the part of the book after its positive ones.
+use Prim.Native.Nat.{_+_}
+use borrow.Author.Needs.{needs}
+use Rattle.book.proofs.Places.{part-taken}
+use Rattle.book.proofs.rules.negatives.Statement.{statement}
+use Rattle.book.proofs.rules.negatives.Tie as tie
+
+returns : tie.Need-returns
+returns c =
+    let p = c .before .before .before .before .before .start-of in
+    let q = c .before .before .before .wide in
+    part-taken (c .before .before .before .before .before .before .before .args .book .now)
+    (p .result + 3 + q .result) _ _ _ (c .before .wide2 .ensures .0) (rw (← q .ensures .0) at (p .ensures .neg))
+
+pub negatives-spec : {M : Type 1} → statement M
+negatives-spec =
+    tie.close (tie.spec (λ c κs. search needs) (λ c. search needs) (λ c. search needs) (λ c κs. search needs)
+    (λ c. search needs) (λ c. search needs) (λ c κs. search needs) (λ c. search needs) (λ c. search needs)
+    (λ c. search needs) (λ c. search needs) (λ c. search needs) (λ c. search needs) returns)

@@ -1,0 +1,60 @@
+-- The table of lost atoms: after r rules it holds the atoms all of whose rules among them are in the set.
+use mathlib.Core.Path.{_≡_, _∙_}
+use mathlib.Core.Logic.{⊎-elim}
+use Prim.Native.Nat.{_-_, _≤_, _<_}
+use native.Mathlib.Omega.{arith}
+use borrow.Author.Needs.{needs}
+use borrow.Author.Tests.{not-true, not-false}
+use Rattle.meaning.specs.Books.{ruleNo}
+use Rattle.meaning.specs.Written.{of}
+use Rattle.book.specs.Format.{bookIn}
+use Rattle.book.specs.Tables.{atomTable}
+use Rattle.book.proofs.AtomSets.{of-place, allTo, all-none, all-skip, all-store, all-end}
+use Rattle.book.proofs.Places.{head-below, shape-count}
+use Rattle.book.proofs.tables.lost_in.Statement.{statement}
+use Rattle.book.proofs.tables.lost_in.Tie as tie
+
+abbrev Inv-loop : tie.InvT-loop
+Inv-loop book shape set out₀ r₀ out r = (r ≤ shape .rules) × (out ≡ atomTable (allTo (bookIn book) (of set) r))
+
+abbrev μ-loop : tie.MeasureT-loop
+μ-loop book shape set out₀ r₀ out r = shape .rules - r
+
+loop-holds : tie.Need-loop-holds Inv-loop μ-loop
+loop-holds c = (search needs, all-none _ _)
+
+element-write-out : tie.Need-element-write-out Inv-loop μ-loop
+element-write-out c =
+    let k = c .before .before .before .before .before .before .before in
+    let s = k .before .before .before in
+    let b : s .args .shape .atoms < 256 = search needs in
+    let f = head-below _ (s .args .shape) (s .pre) (ruleNo (k .loop .r)) (omega arith) _ (c .before .head .ensures) in
+    search needs
+
+loop-again : tie.Need-loop-again Inv-loop μ-loop
+loop-again c =
+    let k = c .before .before .before .before .before in
+    let s = k .before .before .before in
+    let b : s .args .shape .atoms < 256 = search needs in (
+      search needs,
+      ⊎-elim
+          (λ w. w .3
+          ∙ all-store _ _ _ _ (w .1 .ensures)
+          (omega (arith, head-below _ (s .args .shape) (s .pre) (ruleNo (k .loop .r)) (omega arith) _ (w .1 .ensures)))
+          (of-place _ _ _ _ (c .before .before .wide .ensures .0) (not-true _ (w .0 .taken))) _ _ (k .loop .inv .1)
+          (w .2 .ensures .0))
+          (λ w. w .1 ∙ k .loop .inv .1
+          ∙ all-skip _ _ _ (of-place _ _ _ _ (c .before .before .wide .ensures .0) (not-false _ (w .0 .left))))
+          (c .if2 .came),
+    )
+
+returns : tie.Need-returns Inv-loop μ-loop
+returns c =
+    let k = c .before .before in
+    let s = k .before .before .before in
+    k .loop .inv .1 ∙ all-end _ _ _ (omega (arith, shape-count _ (s .args .shape) (s .pre)))
+
+pub lost-in-spec : {M : Type 1} → statement M
+lost-in-spec =
+    tie.close (tie.spec Inv-loop μ-loop loop-holds (λ c κs. search needs) (λ c. search needs) (λ c κs. search needs)
+    (λ c κs. search needs) element-write-out (λ c. search needs) (λ c. search needs) loop-again returns)
