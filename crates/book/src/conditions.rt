@@ -84,6 +84,7 @@ pub fn is_starved(book: &[u8], shape: Shape, r: RuleNo, off: &[bool; 255]) -> bo
         (rule (bookIn (now (book .entry))) r .pos) ⌝ }
 {
     let body = positives(book, shape, r);
+    let mut starved = false;
     let mut i = 0;
     'atoms: while i < body.len() {
         let a = body[i];
@@ -97,7 +98,8 @@ pub fn is_starved(book: &[u8], shape: Shape, r: RuleNo, off: &[bool; 255]) -> bo
             }
             q += 1;
         }
-        return true;
+        starved = true;
+        break 'atoms;
     }
-    false
+    starved
 }

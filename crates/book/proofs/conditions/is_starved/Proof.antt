@@ -1,8 +1,8 @@
 -- The nested search: outside, what is asked of the body is what is asked of the atoms that are left; inside, the rules so far that have
--- the atom as head are off. The label is taken at a rule that is not off, and the atom has then not all its rules off.
+-- the atom as head are off. The search goes on by label at a rule that is not off, and is left by label at the first atom without one.
 use mathlib.Core.Path.{_≡_, refl, sym, _∙_}
 use mathlib.Core.Logic.{⊎-elim}
-use mathlib.Core.Bool.{true}
+use mathlib.Core.Bool.{true, false}
 use mathlib.Core.List.{map}
 use Prim.Native.Nat.{_-_, _≤_}
 use native.Mathlib.Omega.{arith}
@@ -22,23 +22,24 @@ use Rattle.book.proofs.conditions.is_starved.Statement.{statement}
 use Rattle.book.proofs.conditions.is_starved.Tie as tie
 
 abbrev Inv-loop : tie.InvT-loop
-Inv-loop book shape off body i a q₀ q = (q ≤ shape .rules) × (allTo (bookIn book) (of off) q (atomNo a) ≡ true)
+Inv-loop book shape off body starved i a q₀ q = (q ≤ shape .rules) × (allTo (bookIn book) (of off) q (atomNo a) ≡ true)
 
 abbrev μ-loop : tie.MeasureT-loop
-μ-loop book shape off body i a q₀ q = shape .rules - q
+μ-loop book shape off body starved i a q₀ q = shape .rules - q
 
 abbrev Inv-atoms : tie.InvT-atoms
-Inv-atoms book shape off body i₀ i =
+Inv-atoms book shape off body starved₀ i₀ starved i =
     (i ≤ length body)
     ×
     (some (allIn (bookIn book) (of off)) (map atomNo body) ≡ some (allIn (bookIn book) (of off))
     (map atomNo (drop i body)))
+    × (starved ≡ false)
 
 abbrev μ-atoms : tie.MeasureT-atoms
-μ-atoms book shape off body i₀ i = length body - i
+μ-atoms book shape off body starved₀ i₀ starved i = length body - i
 
 atoms-holds : tie.Need-atoms-holds Inv-loop μ-loop Inv-atoms μ-atoms
-atoms-holds c = (search needs, refl)
+atoms-holds c = (search needs, refl, refl)
 
 loop-holds : tie.Need-loop-holds Inv-loop μ-loop Inv-atoms μ-atoms
 loop-holds c = (search needs, all-at-none _ _ 0 _)
@@ -56,6 +57,7 @@ atoms-again c =
       search needs,
       k .atoms .inv .1 ∙ some-turn _ (k .before .positives .result .now) (k .atoms .i) (omega arith)
           ∙ rw e,
+      k .atoms .inv .2,
     )
 
 loop-again : tie.Need-loop-again Inv-loop μ-loop Inv-atoms μ-atoms
@@ -70,6 +72,15 @@ loop-again c =
 
 returns : tie.Need-returns Inv-loop μ-loop Inv-atoms μ-atoms
 returns c =
+    let k = c .before in
+    let s = k .before .before .before in
+    k .atoms .inv .2
+    ∙ sym
+    (sym (some-part _ _ _ (k .before .positives .ensures)) ∙ k .atoms .inv .1
+    ∙ some-end _ (k .before .positives .result .now) (k .atoms .i) (omega arith))
+
+returns-2 : tie.Need-returns-2 Inv-loop μ-loop Inv-atoms μ-atoms
+returns-2 c =
     let l = c .before .before in
     let k = l .before .before .before in
     let s = k .before .before .before in
@@ -78,14 +89,6 @@ returns c =
     (sym (some-part _ _ _ (k .before .positives .ensures)) ∙ k .atoms .inv .1
     ∙ some-turn _ (k .before .positives .result .now) (k .atoms .i) (omega arith)
     ∙ first _ (all-at-end _ _ (l .loop .q) _ (omega arith) (l .loop .inv .1)))
-
-returns-2 : tie.Need-returns-2 Inv-loop μ-loop Inv-atoms μ-atoms
-returns-2 c =
-    let k = c .before in
-    let s = k .before .before .before in
-    sym
-    (sym (some-part _ _ _ (k .before .positives .ensures)) ∙ k .atoms .inv .1
-    ∙ some-end _ (k .before .positives .result .now) (k .atoms .i) (omega arith))
 
 pub is-starved-spec : {M : Type 1} → statement M
 is-starved-spec =
