@@ -1,0 +1,142 @@
+-- A pass keeps to the closing, and two passes that add nothing have found a closed pair: the steps of `close` (document 01, "Closing
+-- repeats these until nothing is added"; blueprint C2). The tables and the marks are those of the pair at the start of a pass.
+use mathlib.Core.Path.{_≡_, refl, sym, _∙_, ap}
+use mathlib.Core.Logic.{⊎-elim}
+use mathlib.Core.Bool.{Bool, true, false, not, _&&_, _||_}
+use mathlib.Core.List.{List}
+use Prim.Native.Nat.{ℕ, _≤_, _<_, _+_, _-_}
+use lib.ListN.{length}
+use borrow.Author.Tests.{not-true}
+use Rattle.meaning.specs.declared.RuleNo.{RuleNo}
+use Rattle.meaning.specs.declared.colouring.Colouring.{Colouring}
+use Rattle.meaning.specs.Sets.{_∈_, _∉_, every, some}
+use Rattle.meaning.specs.Books.{Rules, Book, count, rule, InBook}
+use Rattle.meaning.specs.Colours.{Pair, heads, allIn, mayOn, blocked, starved, Under, Within, Closed}
+use Rattle.meaning.specs.Written.{of, pair}
+use Rattle.meaning.specs.Computed.{support, close}
+use Rattle.meaning.proofs.Tests.{both, left, right, either, first, other, absent}
+use Rattle.meaning.proofs.Rules.{within-on, within-off, within-both, mayOn-mono, blocked-mono, starved-mono}
+use Rattle.meaning.proofs.Written.{Sized, Untouched}
+use Rattle.meaning.proofs.Support.{support-is, outside, unsupported-any, length-support}
+use Rattle.meaning.proofs.Additions.{Reached, reached-start, reached-more, reached-closing, closed-without-starved}
+use Rattle.meaning.proofs.Closing.{closing-computed}
+use Rattle.book.specs.Tables.{atomTable, atomsIn}
+use Rattle.closing.specs.Growing.{Grown, Pass}
+use Rattle.closing.specs.Conditions.{onByTables, goingOn, offByTables, goingOff}
+use Rattle.closing.proofs.Good.{Asks}
+
+-- the pair that two lists stand for
+abbrev pub pairOf : List Bool → List Bool → Pair
+pairOf on off = record { on = of on; off = of off }
+
+-- the sets, the marks and the tables of a closing that started from two sets
+pub record Closes (b : Book) (on₀ off₀ on off marks headed lost : List Bool) : Type 0 where
+  pub reached : Reached b (pairOf on₀ off₀) (pairOf on off)
+  pub on-long : length on ≡ 255
+  pub off-long : length off ≡ 255
+  pub on-outside : (r : RuleNo) → count b ≤ r .0 → of on r ≡ of on₀ r
+  pub off-outside : (r : RuleNo) → count b ≤ r .0 → of off r ≡ of off₀ r
+  pub heads-table : headed ≡ atomTable (heads b (of on))
+  pub lost-table : lost ≡ atomTable (allIn b (of off))
+  pub supported : marks ≡ support b (of off)
+
+module _ (b : Book) (asks : Asks b) {on₀ off₀ : List Bool} where
+  pub closes-start : length on₀ ≡ 255 → length off₀ ≡ 255 → {marks headed lost : List Bool} → headed ≡ atomTable (heads b (of on₀))
+      → lost ≡ atomTable (allIn b (of off₀)) → marks ≡ support b (of off₀) → Closes b on₀ off₀ on₀ off₀ marks headed lost
+  closes-start u v e f g = record {
+    reached = reached-start b (pairOf on₀ off₀);
+    on-long = u;
+    off-long = v;
+    on-outside = λ r h. refl;
+    off-outside = λ r h. refl;
+    heads-table = e;
+    lost-table = f;
+    supported = g;
+  }
+
+  module _ {on off marks headed lost : List Bool} (s : Closes b on₀ off₀ on off marks headed lost) where
+    -- ---- what the tables and the marks say of the pair
+
+    by-on : (r : RuleNo) → InBook b r → onByTables b headed lost r ≡ mayOn b (pairOf on off) r
+    by-on r h = asks .on r h (pairOf on off) headed (s .heads-table) lost (s .lost-table)
+
+    by-blocked : (r : RuleNo) → InBook b r → some (atomsIn headed) (rule b r .neg) ≡ blocked b (pairOf on off) r
+    by-blocked r h = asks .blocked r h (pairOf on off) headed (s .heads-table)
+
+    -- a rule without a mark is off in every closed pair above
+    unmarked-off : (d : Pair) → Within b (pairOf on off) d → Closed b d → (r : RuleNo) → InBook b r → r ∉ of marks → r ∈ d .off
+    unmarked-off d w k r h n = outside b k (of marks)
+        (λ q g m p. rw (s .supported) (support-is b (of off) (asks .few) .good q g (absent (within-off b w q g) m) (rw (s .supported) at p))) r h n
+
+    -- ---- a pass keeps to the closing
+
+    pub closes-on : {m headed' : List Bool} {more : Bool} → Pass b (goingOn b headed lost) (count b) on m more
+        → headed' ≡ atomTable (heads b (of m)) → Closes b on₀ off₀ m off marks headed' lost
+    unfolding goingOn
+    closes-on p e = record {
+      reached = reached-more b (s .reached) (within-both b (λ r h. p .grown .above r) (λ r h k. k)) (λ d w k. within-both b
+          (p .grown .forced (d .on) (λ r h a. k .goes-on r h (mayOn-mono b w r (sym (by-on r h) ∙ a))) (within-on b w)) (within-off b w));
+      on-long = p .grown .long ∙ s .on-long;
+      off-long = s .off-long;
+      on-outside = λ r h. p .grown .outside r h ∙ s .on-outside r h;
+      off-outside = s .off-outside;
+      heads-table = e;
+      lost-table = s .lost-table;
+      supported = s .supported;
+    }
+
+    off-goes : (d : Pair) → Within b (pairOf on off) d → Closed b d → Under b (goingOff b headed marks .goes (d .off)) (d .off)
+    unfolding goingOff offByTables starved
+    off-goes d w k r h a = ⊎-elim
+        (λ a. ⊎-elim (λ n. unmarked-off d w k r h (not-true _ n))
+        (λ m. k .goes-off-blocked r h (blocked-mono b w r (sym (by-blocked r h) ∙ m))) (either (not (of marks r)) _ a))
+        (k .goes-off-starved r h) (either (offByTables b headed marks r) _ a)
+
+    pub closes-off : {m lost' marks' : List Bool} {more : Bool} → Pass b (goingOff b headed marks) (count b) off m more
+        → lost' ≡ atomTable (allIn b (of m)) → marks' ≡ support b (of m) → Closes b on₀ off₀ on m marks' headed lost'
+    closes-off p e g = record {
+      reached = reached-more b (s .reached) (within-both b (λ r h k. k) (λ r h. p .grown .above r)) (λ d w k. within-both b
+          (within-on b w) (p .grown .forced (d .off) (off-goes d w k) (within-off b w)));
+      on-long = s .on-long;
+      off-long = p .grown .long ∙ s .off-long;
+      on-outside = s .on-outside;
+      off-outside = λ r h. p .grown .outside r h ∙ s .off-outside r h;
+      heads-table = s .heads-table;
+      lost-table = e;
+      supported = g;
+    }
+
+    -- ---- a pass that adds nothing
+
+    rests-on : {m : List Bool} → Pass b (goingOn b headed lost) (count b) on m false → Under b (mayOn b (pairOf on off)) (of on)
+    unfolding goingOn
+    rests-on p r h m = p .none-rests refl r h (by-on r h ∙ m)
+
+    rests-blocked : {m : List Bool} → Pass b (goingOff b headed marks) (count b) off m false → Under b (blocked b (pairOf on off)) (of off)
+    unfolding goingOff offByTables
+    rests-blocked p r h m = p .none-rests refl r h (other (not (of marks r)) (by-blocked r h ∙ m))
+
+    rests-unmarked : {m : List Bool} → Pass b (goingOff b headed marks) (count b) off m false
+        → (r : RuleNo) → InBook b r → r ∉ of (support b (of off)) → r ∈ of off
+    unfolding goingOff offByTables
+    rests-unmarked p r h n = let z : of marks r ≡ false = rw (s .supported) n in p .none-rests refl r h (first _ (ap not z))
+
+-- ---- the end of the closing
+
+pub closes-end : (b : Book) → Asks b → (c : Colouring) → Sized c → {on off marks headed lost : List Bool}
+    → Closes b (c .on) (c .off) on off marks headed lost
+    → {on' headed' : List Bool} → Pass b (goingOn b headed lost) (count b) on on' false → headed' ≡ atomTable (heads b (of on'))
+    → {off' lost' marks' : List Bool} → Pass b (goingOff b headed' marks) (count b) off off' false
+    → lost' ≡ atomTable (allIn b (of off')) → marks' ≡ support b (of off')
+    → record { on = on'; off = off'; marks = marks' } ≡ close b c
+closes-end b asks c sized {on} {off} s {on'} p e {off'} q f g =
+    let u = closes-on b asks s p e in let t = closes-off b asks u q f g in
+    let x = p .none-same refl in let y = q .none-same refl in
+    let closed : Closed b (pairOf on' off) = closed-without-starved b (record {
+      goes-on = rw x at (rests-on b asks s p);
+      goes-off-blocked = rests-blocked b asks u q;
+      goes-off-unsupported = unsupported-any b (support-is b (of off) (asks .few)) (rests-unmarked b asks u q);
+    }) in
+    closing-computed b (asks .few) c _ sized
+    (record { on = t .on-long; off = t .off-long; marks = rw g (length-support b (of off') (asks .few)) })
+    (reached-closing b (t .reached) (rw y at closed)) g (record { on = t .on-outside; off = t .off-outside })

@@ -1,0 +1,66 @@
+-- A good book whose numbers are bytes, as every function of this crate is handed one, and what it says of the book's rules.
+use mathlib.Core.Path.{_≡_, refl, ap}
+use mathlib.Core.Bool.{Bool}
+use mathlib.Core.List.{List, [], _∷_}
+use Prim.Native.Nat.{ℕ, suc, _≤_, _<_}
+use native.Mathlib.Omega.{arith}
+use lib.ListN.{length}
+use Rattle.meaning.specs.declared.AtomNo.{AtomNo}
+use Rattle.meaning.specs.declared.RuleNo.{RuleNo}
+use Rattle.meaning.specs.Sets.{some}
+use Rattle.meaning.specs.Books.{Book, count, rule, InBook}
+use Rattle.meaning.specs.Colours.{Pair, heads, allIn, mayOn, blocked}
+use Rattle.book.specs.declared.reader.Shape.{Shape}
+use Rattle.book.specs.Format.{bookIn, ReadAs}
+use Rattle.book.specs.Tables.{atomTable, atomsIn, Below}
+use Rattle.book.specs.Writing.{atomBytes}
+use Rattle.book.proofs.Places.{shape-count, shape-in, in-shape, rule-keeps, head-below, pos-below}
+use Rattle.book.proofs.Asked.{goes-on-mayOn, is-blocked-blocked}
+use Rattle.closing.specs.Conditions.{onByTables}
+
+pub record Good (s : List ℕ) (h : Shape) : Type 0 where
+  pub read : ReadAs s h
+  pub atoms : h .atoms < 256
+  pub rules : h .rules < 256
+
+-- bytes of atoms are as many as the atoms
+pub bytes-length : (l : List AtomNo) → length (atomBytes l) ≡ length l
+bytes-length [] = refl
+bytes-length (a ∷ l) = ap suc (bytes-length l)
+
+module _ {s : List ℕ} {h : Shape} (g : Good s h) where
+  pub good-count : count (bookIn s) ≡ h .rules
+  good-count = shape-count s h (g .read)
+
+  pub good-few : count (bookIn s) ≤ 255
+  good-few = omega (arith, good-count, g .rules)
+
+  pub good-in : (r : RuleNo) → r .0 < h .rules → InBook (bookIn s) r
+  good-in r l = shape-in s h (g .read) r l
+
+  module _ (r : RuleNo) (l : InBook (bookIn s) r) where
+    pub head-low : (a : AtomNo) → a ≡ rule (bookIn s) r .head → a .0 < 255
+    head-low a e = omega (arith, g .atoms, head-below s h (g .read) r (in-shape s h (g .read) r l) a e)
+
+    pub pos-low : (part : List ℕ) → part ≡ atomBytes (rule (bookIn s) r .pos) → Below 255 part
+    pos-low part e = pos-below s h (g .read) r (in-shape s h (g .read) r l) (g .atoms) part e
+
+    -- the positive atoms are at most 16
+    pub pos-few : (part : List ℕ) → part ≡ atomBytes (rule (bookIn s) r .pos) → length part ≤ 16
+    pos-few part e = rw (e, bytes-length) (rule-keeps s h (g .read) r (in-shape s h (g .read) r l) .pos .short)
+
+-- what the tables of a pair answer, asked of a rule of the book
+pub record Asks (b : Book) : Type 0 where
+  pub few : count b ≤ 255
+  pub on : (r : RuleNo) → InBook b r → (c : Pair) (headed : List Bool) → headed ≡ atomTable (heads b (c .on))
+      → (lost : List Bool) → lost ≡ atomTable (allIn b (c .off)) → onByTables b headed lost r ≡ mayOn b c r
+  pub blocked : (r : RuleNo) → InBook b r → (c : Pair) (headed : List Bool) → headed ≡ atomTable (heads b (c .on))
+      → some (atomsIn headed) (rule b r .neg) ≡ blocked b c r
+
+pub good-asks : {s : List ℕ} {h : Shape} → Good s h → Asks (bookIn s)
+unfolding onByTables
+good-asks {s} {h} g = record {
+  few = good-few g;
+  on = λ r l c headed e lost f. goes-on-mayOn s h (g .read) (g .atoms) r (in-shape s h (g .read) r l) c headed e lost f;
+  blocked = λ r l c headed e. is-blocked-blocked s h (g .read) (g .atoms) r (in-shape s h (g .read) r l) c headed e;
+}

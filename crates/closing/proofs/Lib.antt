@@ -1,0 +1,9 @@
+-- The laws of closing. Read in this order.
+pub mod Good
+pub mod Growing
+pub mod Turns
+pub mod Counters
+pub mod Supporting
+pub mod Closed
+pub mod Left
+pub mod Laws

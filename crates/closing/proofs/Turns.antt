@@ -1,0 +1,101 @@
+-- Laws of the three conditions (specs/Conditions): each way through a turn leaves what the condition says, and each condition only grows
+-- with the set (blueprint C1). The facts are those that the code has at its returns.
+use mathlib.Core.Path.{_≡_, sym, _∙_, ap}
+use mathlib.Core.Logic.{⊎-elim}
+use mathlib.Core.Bool.{Bool, true, false, not, _&&_, _||_}
+use mathlib.Core.List.{List}
+use Prim.Native.Nat.{_<_}
+use lib.ListN.{getD, set}
+use Rattle.meaning.specs.declared.RuleNo.{RuleNo}
+use Rattle.meaning.specs.Sets.{_∈_, _∉_, every, some}
+use Rattle.meaning.specs.Books.{Rules, Book, rule, InBook}
+use Rattle.meaning.specs.Colours.{heads, allIn, Under}
+use Rattle.meaning.specs.Written.{of}
+use Rattle.meaning.specs.Computed.{upheld}
+use Rattle.meaning.proofs.Tests.{both, left, right, not-first, not-second, either, first, other, neither, clash}
+use Rattle.meaning.proofs.Sets.{every-mono, some-mono}
+use Rattle.meaning.proofs.Rules.{heads-mono, allIn-mono}
+use Rattle.book.specs.Tables.{atomsIn}
+use Rattle.closing.specs.Growing.{Condition, Turn, stays, added}
+use Rattle.closing.specs.Conditions.{marking, onByTables, goingOn, offByTables, goingOff}
+use Rattle.closing.proofs.Growing.{Monotone}
+
+module _ (r : RuleNo) (l : List Bool) (more : Bool) where
+  -- the rule is in the set already
+  pub turn-in : (k : Condition) → getD l (r .0) false ≡ true → Turn k r l more l more
+  unfolding of
+  turn-in k e = stays (λ n. clash e n)
+
+  module _ (b : Book) where
+    -- ---- marking
+
+    module _ (off : List Bool) where
+      pub mark-off : getD off (r .0) false ≡ true → Turn (marking b (of off)) r l more l more
+      unfolding marking upheld of
+      mark-off e = stays (λ n. not-first _ (ap not e))
+
+      pub mark-waits : every (heads b (of l)) (rule b r .pos) ≡ false → Turn (marking b (of off)) r l more l more
+      unfolding marking upheld
+      mark-waits e = stays (λ n. not-second (not (of off r)) e)
+
+      pub mark-added : getD l (r .0) false ≡ false → getD off (r .0) false ≡ false → every (heads b (of l)) (rule b r .pos) ≡ true
+          → Turn (marking b (of off)) r l more (set l (r .0) true) true
+      unfolding marking upheld of
+      mark-added n o e = added n (both (ap not o) e)
+
+    -- ---- going on
+
+    module _ (headed lost : List Bool) where
+      pub on-stays : onByTables b headed lost r ≡ false → Turn (goingOn b headed lost) r l more l more
+      unfolding goingOn
+      on-stays e = stays (λ n. e)
+
+      pub on-added : getD l (r .0) false ≡ false → onByTables b headed lost r ≡ true
+          → Turn (goingOn b headed lost) r l more (set l (r .0) true) true
+      unfolding goingOn of
+      on-added n e = added n e
+
+    -- ---- going off
+
+    module _ (headed marks : List Bool) where
+      pub off-stays : getD marks (r .0) false ≡ true → some (atomsIn headed) (rule b r .neg) ≡ false
+          → Turn (goingOff b headed marks) r l more l more
+      unfolding goingOff offByTables of
+      off-stays m e = stays (λ n. neither (ap not m) e)
+
+      off-added : getD l (r .0) false ≡ false → r ∈ goingOff b headed marks .goes (of l)
+          → Turn (goingOff b headed marks) r l more (set l (r .0) true) true
+      unfolding of
+      off-added n e = added n e
+
+      pub off-unmarked : getD l (r .0) false ≡ false → getD marks (r .0) false ≡ false
+          → Turn (goingOff b headed marks) r l more (set l (r .0) true) true
+      unfolding goingOff offByTables of
+      off-unmarked n e = off-added n (first _ (first _ (ap not e)))
+
+      pub off-blocked : getD l (r .0) false ≡ false → some (atomsIn headed) (rule b r .neg) ≡ true
+          → Turn (goingOff b headed marks) r l more (set l (r .0) true) true
+      unfolding goingOff offByTables
+      off-blocked n e = off-added n (first _ (other (not (of marks r)) e))
+
+      pub off-starved : getD l (r .0) false ≡ false → some (allIn b (of l)) (rule b r .pos) ≡ true
+          → Turn (goingOff b headed marks) r l more (set l (r .0) true) true
+      unfolding goingOff
+      off-starved n e = off-added n (other (offByTables b headed marks r) e)
+
+-- ---- the conditions only grow
+
+module _ (b : Book) where
+  pub marking-mono : (off : Rules) → Monotone b (marking b off)
+  unfolding marking upheld
+  marking-mono off s t f r h m = both (left (not (off r)) _ m) (every-mono (heads-mono b f) _ (right (not (off r)) _ m))
+
+  pub going-on-mono : (headed lost : List Bool) → Monotone b (goingOn b headed lost)
+  unfolding goingOn
+  going-on-mono headed lost s t f r h m = m
+
+  pub going-off-mono : (headed marks : List Bool) → Monotone b (goingOff b headed marks)
+  unfolding goingOff
+  going-off-mono headed marks s t f r h m =
+      ⊎-elim (λ p. first _ p) (λ p. other (offByTables b headed marks r) (some-mono (allIn-mono b f) _ p))
+      (either (offByTables b headed marks r) _ m)

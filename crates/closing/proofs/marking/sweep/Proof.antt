@@ -1,0 +1,57 @@
+use native.Mathlib.Omega.{arith}
+use Prim.Native.Nat.{_≤_, _-_}
+use Rattle.meaning.specs.Written.{of}
+use Rattle.book.specs.Format.{bookIn}
+use Rattle.book.proofs.Places.{shape-count}
+use Rattle.closing.specs.Growing.{Pass}
+use Rattle.closing.specs.Conditions.{marking}
+use Rattle.closing.specs.Counters.{Counted}
+use Rattle.closing.proofs.Growing.{pass-start, pass-turn, pass-end}
+use Rattle.closing.proofs.Turns.{marking-mono}
+use borrow.Author.Needs.{needs}
+use Rattle.closing.proofs.marking.sweep.Statement.{statement}
+use Rattle.closing.proofs.marking.sweep.Tie as tie
+use Rattle.closing.proofs.marking.sweep.Reads as reads
+use Rattle.closing.proofs.marking.sweep.Lts as lts
+use Rattle.closing.proofs.marking.try_rule.Reads as try-rule-reads
+
+abbrev Inv-loop : tie.InvT-loop
+Inv-loop book shape off marks₀ missing₀ supported₀ more₀ r₀ marks missing supported more r =
+    (r ≤ shape .rules) × Pass (bookIn book) (marking (bookIn book) (of off)) r marks₀ marks more
+    × Counted (bookIn book) (of marks) missing supported
+
+abbrev μ-loop : tie.MeasureT-loop
+μ-loop book shape off marks₀ missing₀ supported₀ more₀ r₀ marks missing supported more r = shape .rules - r
+
+loop-holds : tie.Need-loop-holds Inv-loop μ-loop
+loop-holds c = (search needs, pass-start _, c .before .pre .2)
+
+try-rule-requires : tie.Need-try-rule-requires Inv-loop μ-loop
+try-rule-requires c κs = search needs
+
+add-r : tie.Need-add-r Inv-loop μ-loop
+add-r c = search needs
+
+loop-less : tie.Need-loop-less Inv-loop μ-loop
+loop-less c = search needs
+
+loop-again : tie.Need-loop-again Inv-loop μ-loop
+loop-again c =
+    let k = c .before .before .before .before .before .before in
+    let e = shape-count _ (k .before .before .args .shape) (k .before .before .pre .0) in
+    let f = k .loop .inv .1 .grown .long in (
+      search needs,
+      pass-turn (marking-mono _ _) (k .loop .r) (omega arith) (omega arith) (k .loop .inv .1) (c .try-rule .ensures .0),
+      c .try-rule .ensures .1,
+    )
+
+returns : tie.Need-returns Inv-loop μ-loop
+returns c =
+    let k = c .before .before in
+    let e = shape-count _ (k .before .before .args .shape) (k .before .before .pre .0) in
+    (pass-end (k .loop .r) (omega arith) (omega arith) (k .loop .inv .1), k .loop .inv .2)
+
+pub sweep-spec : {M : Type 1} → statement M
+sweep-spec =
+    tie.close
+    (tie.spec Inv-loop μ-loop loop-holds try-rule-requires add-r loop-less loop-again returns)

@@ -1,0 +1,44 @@
+// Closing: what follows from a colouring. Stands on book and meaning.
+//
+// It promises the least closed pair above any pair of a good book, as an equation with the
+// computed definition of meaning, and goes on to the end after a contradiction. Laws for the
+// layers above are in proofs/Laws.antt.
+ghost use mathlib.Core.Path.{_≡_};
+ghost use Rattle.meaning.specs.Computed.{close};
+ghost use Rattle.book.specs.Format.{bookIn, ReadAs};
+use book::Shape;
+use book::heads_of;
+use book::lost_in;
+use meaning::Colouring;
+use passes::grow_off;
+use passes::grow_on;
+
+mod marking;
+mod passes;
+
+pub use marking::support;
+
+// The least closed colouring above c, also where a rule comes to be in both sets. Its marks are
+// the support set of its off rules.
+pub fn close(book: &[u8], shape: Shape, c: Colouring) -> Colouring
+    requires { ⌜ ReadAs (now book) shape ⌝ }
+    ensures { λ d. ⌜ d ≡ close (bookIn (now (book .entry))) c ⌝ }
+{
+    let mut on = c.on;
+    let mut off = c.off;
+    let mut marks = [false; 255];
+    support(book, shape, &off, &mut marks);
+    let mut headed = [false; 255];
+    heads_of(book, shape, &on, &mut headed);
+    let mut lost = [false; 255];
+    lost_in(book, shape, &off, &mut lost);
+    loop {
+        let more_on = grow_on(book, shape, &lost, &mut on, &mut headed);
+        let more_off = grow_off(book, shape, &headed, &mut off, &mut lost, &mut marks);
+        if !more_on {
+            if !more_off {
+                return Colouring { on, off, marks };
+            }
+        }
+    }
+}

@@ -1,0 +1,172 @@
+// Passes over the rules, by which a colouring grows: rules go on, rules go off.
+ghost use mathlib.Core.Path.{_≡_};
+ghost use Prim.Native.Nat.{_<_};
+ghost use lib.ListN.{length};
+ghost use Rattle.meaning.specs.Books.{count};
+ghost use Rattle.meaning.specs.Colours.{heads, allIn};
+ghost use Rattle.meaning.specs.Computed.{support};
+ghost use Rattle.meaning.specs.Written.{of};
+ghost use Rattle.book.specs.Format.{bookIn, ReadAs};
+ghost use Rattle.book.specs.Tables.{atomTable, atomsIn};
+ghost use Rattle.closing.specs.Growing.{Turn, Pass};
+ghost use Rattle.closing.specs.Conditions.{goingOn, goingOff};
+use crate::marking::support;
+use book::Shape;
+use book::goes_on;
+use book::heads_of;
+use book::is_blocked;
+use book::is_starved;
+use book::lost_in;
+use meaning::RuleNo;
+
+// One rule's turn to go on.
+fn try_on<'a>(
+    book: &[u8],
+    shape: Shape,
+    r: RuleNo,
+    headed: &'a [bool; 255],
+    lost: &'a [bool; 255],
+    on: &mut [bool; 255],
+    more: bool,
+) -> bool
+    requires { ⌜ ReadAs (now book) shape × (r .0 < shape .rules) ⌝ }
+    ensures { λ after. ⌜ Turn
+        (goingOn (bookIn (now (book .entry))) (now (headed .entry)) (now (lost .entry))) r
+        (now (on .entry)) more (now (on .exit)) after ⌝ }
+{
+    let at = r.0 as usize;
+    if on[at] {
+        return more;
+    }
+    if !goes_on(book, shape, r, headed, lost) {
+        return more;
+    }
+    on[at] = true;
+    true
+}
+
+// Every rule's turn to go on, by the tables; whether one did.
+fn pass_on<'a>(
+    book: &[u8],
+    shape: Shape,
+    headed: &'a [bool; 255],
+    lost: &'a [bool; 255],
+    on: &mut [bool; 255],
+) -> bool
+    requires { ⌜ ReadAs (now book) shape × (length (now on) ≡ 255) ⌝ }
+    ensures { λ more. ⌜ Pass (bookIn (now (book .entry)))
+        (goingOn (bookIn (now (book .entry))) (now (headed .entry)) (now (lost .entry)))
+        (count (bookIn (now (book .entry)))) (now (on .entry)) (now (on .exit)) more ⌝ }
+{
+    let mut more = false;
+    let mut r: u8 = 0;
+    while r < shape.rules {
+        more = try_on(book, shape, RuleNo(r), headed, lost, on, more);
+        r += 1;
+    }
+    more
+}
+
+// One rule's turn to go off: it is not marked, or blocked, or starved. As long as no rule has gone
+// off since the marks were made every starved rule lacks its mark, and the search is left out.
+fn try_off(
+    book: &[u8],
+    shape: Shape,
+    r: RuleNo,
+    headed: &[bool; 255],
+    marks: &[bool; 255],
+    off: &mut [bool; 255],
+    more: bool,
+) -> bool
+    requires { ⌜ ReadAs (now book) shape × (r .0 < shape .rules) ⌝ }
+    ensures { λ after. ⌜ Turn
+        (goingOff (bookIn (now (book .entry))) (now (headed .entry)) (now (marks .entry))) r
+        (now (off .entry)) more (now (off .exit)) after ⌝ }
+{
+    let at = r.0 as usize;
+    if off[at] {
+        return more;
+    }
+    if marks[at] {
+        if !is_blocked(book, shape, r, headed) {
+            if !more {
+                return more;
+            }
+            if !is_starved(book, shape, r, off) {
+                return more;
+            }
+        }
+    }
+    off[at] = true;
+    true
+}
+
+// Every rule's turn to go off; whether one did.
+fn pass_off(
+    book: &[u8],
+    shape: Shape,
+    headed: &[bool; 255],
+    marks: &[bool; 255],
+    off: &mut [bool; 255],
+) -> bool
+    requires { ⌜ ReadAs (now book) shape × (length (now off) ≡ 255) ⌝ }
+    ensures { λ more. ⌜ Pass (bookIn (now (book .entry)))
+        (goingOff (bookIn (now (book .entry))) (now (headed .entry)) (now (marks .entry)))
+        (count (bookIn (now (book .entry)))) (now (off .entry)) (now (off .exit)) more ⌝ }
+{
+    let mut more = false;
+    let mut r: u8 = 0;
+    while r < shape.rules {
+        more = try_off(book, shape, RuleNo(r), headed, marks, off, more);
+        r += 1;
+    }
+    more
+}
+
+// Rules go on, and the table of their heads is made again if one did.
+pub fn grow_on(
+    book: &[u8],
+    shape: Shape,
+    lost: &[bool; 255],
+    on: &mut [bool; 255],
+    headed: &mut [bool; 255],
+) -> bool
+    requires { ⌜ ReadAs (now book) shape × (length (now on) ≡ 255)
+        × (now headed ≡ atomTable (heads (bookIn (now book)) (of (now on)))) ⌝ }
+    ensures { λ more. ⌜ Pass (bookIn (now (book .entry)))
+        (goingOn (bookIn (now (book .entry))) (now (headed .entry)) (now (lost .entry)))
+        (count (bookIn (now (book .entry)))) (now (on .entry)) (now (on .exit)) more
+        × (now (headed .exit) ≡ atomTable (heads (bookIn (now (book .entry))) (of (now (on .exit))))) ⌝ }
+{
+    if !pass_on(book, shape, headed, lost, on) {
+        return false;
+    }
+    heads_of(book, shape, on, headed);
+    true
+}
+
+// Rules go off, and the table of lost atoms and the marks are made again if one did.
+pub fn grow_off(
+    book: &[u8],
+    shape: Shape,
+    headed: &[bool; 255],
+    off: &mut [bool; 255],
+    lost: &mut [bool; 255],
+    marks: &mut [bool; 255],
+) -> bool
+    requires { ⌜ ReadAs (now book) shape × (length (now off) ≡ 255)
+        × (now lost ≡ atomTable (allIn (bookIn (now book)) (of (now off))))
+        × (now marks ≡ support (bookIn (now book)) (of (now off))) ⌝ }
+    ensures { λ more. ⌜ Pass (bookIn (now (book .entry)))
+        (goingOff (bookIn (now (book .entry))) (now (headed .entry)) (now (marks .entry)))
+        (count (bookIn (now (book .entry)))) (now (off .entry)) (now (off .exit)) more
+        × (now (lost .exit) ≡ atomTable (allIn (bookIn (now (book .entry))) (of (now (off .exit)))))
+        × (now (marks .exit) ≡ support (bookIn (now (book .entry))) (of (now (off .exit)))) ⌝ }
+{
+    if !pass_off(book, shape, headed, marks, off) {
+        return false;
+    }
+    lost_in(book, shape, off, lost);
+    support(book, shape, off, marks);
+    true
+}
