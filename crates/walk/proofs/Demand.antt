@@ -1,0 +1,152 @@
+-- Demand 2's "exactly"s, for the answer of find: each is read off its outcome, and the outcomes exclude each other because the tries that
+-- the fixed walk needs are determined.
+use mathlib.Core.Path.{_≡_, refl, sym, _∙_, ap}
+use mathlib.Core.Logic.{_↔_}
+use mathlib.Core.List.{List, _++_}
+use Prim.Native.Nat.{ℕ, _≤_, _<_}
+use native.Mathlib.Omega.{arith}
+use lib.ListN.{length, drop}
+use Rattle.meaning.specs.Books.{Atoms, Rule, Book, count}
+use Rattle.meaning.specs.Written.{nothing}
+use Rattle.meaning.proofs.Rules.{rule-member}
+use Rattle.meaning.proofs.LeastModel.{Proper}
+use Rattle.book.specs.Format.{Reading, good, bad, readOf, bookOf, bookIn}
+use Rattle.book.specs.Rows.{Bytes}
+use Rattle.book.proofs.Shape.{good-fits}
+use Rattle.walk.specs.Events.{events}
+use Rattle.walk.specs.Readings.{readings}
+use Rattle.walk.specs.Tries.{Kth, Needs, to-reading, to-end}
+use Rattle.walk.specs.Run.{rowOf}
+use Rattle.walk.specs.Find.{set, fewer, stopped, refusedAt, refused, Answered, findIn, findReading, findOf}
+use Rattle.walk.proofs.Run.{apart}
+use Rattle.walk.proofs.Needs.{kth-count, kth-one, needs-one}
+use Rattle.walk.proofs.Finding.{Outcome, found, too-few, too-long, no-number, no-room, find-outcome}
+
+module _ {b : Book} {k limit : ℕ} {answer : List ℕ} where
+  -- ---- what an answer says of the walk
+
+  set-says : {A : Answered} → Outcome b k limit answer A → (t : ℕ) → A .told ≡ set t
+      → (x : Atoms) × Kth b k t x × (t ≤ limit) × (A .buffer ≡ rowOf b x ++ drop (b .atoms) answer)
+  set-says (found {t = u} {x = x} c h) t e = let z : u ≡ t = cc in (x, rw z at c, rw z at h, refl)
+  set-says (too-few h l) t e = apart (cc)
+  set-says (too-long n h) t e = apart (cc)
+  set-says (no-number h) t e = apart (cc)
+  set-says (no-room h l) t e = apart (cc)
+
+  stopped-says : {A : Answered} → Outcome b k limit answer A → A .told ≡ stopped limit → (n : ℕ) × Needs b k n × (limit < n)
+  stopped-says (found c h) e = apart (cc)
+  stopped-says (too-few h l) e = apart (cc)
+  stopped-says (too-long {n = n} m h) e = (n, m, h)
+  stopped-says (no-number h) e = apart (cc)
+  stopped-says (no-room h l) e = apart (cc)
+
+  fewer-says : {A : Answered} → Outcome b k limit answer A → (t n : ℕ) → A .told ≡ fewer t n
+      → (length (readings b) < k) × (t ≡ length (events b nothing)) × (n ≡ length (readings b)) × (t ≤ limit)
+  fewer-says (found c h) t n e = apart (cc)
+  fewer-says (too-few h l) t n e =
+      let u : length (events b nothing) ≡ t = cc in let v : length (readings b) ≡ n = cc in (h, sym u, sym v, omega arith)
+  fewer-says (too-long m h) t n e = apart (cc)
+  fewer-says (no-number h) t n e = apart (cc)
+  fewer-says (no-room h l) t n e = apart (cc)
+
+  -- ---- and what the walk says of the answer
+
+  module _ (some : 1 ≤ k) (room : b .atoms ≤ length answer) where
+    set-if : {A : Answered} → Outcome b k limit answer A → {t : ℕ} {x : Atoms} → Kth b k t x → t ≤ limit → A .told ≡ set t
+    set-if (found c h) d l = ap set (kth-one b c d .0)
+    set-if (too-few h g) d l = absurd (omega (arith, kth-count b d))
+    set-if (too-long n h) d l = absurd (omega (arith, needs-one b n (to-reading d)))
+    set-if (no-number h) d l = absurd (omega arith)
+    set-if (no-room h g) d l = absurd (omega arith)
+
+    stopped-if : {A : Answered} → Outcome b k limit answer A → {n : ℕ} → Needs b k n → limit < n → A .told ≡ stopped limit
+    stopped-if (found c h) m l = absurd (omega (arith, needs-one b m (to-reading c)))
+    stopped-if (too-few h g) m l = absurd (omega (arith, needs-one b m (to-end h)))
+    stopped-if (too-long n h) m l = refl
+    stopped-if (no-number h) m l = absurd (omega arith)
+    stopped-if (no-room h g) m l = absurd (omega arith)
+
+    fewer-if : {A : Answered} → Outcome b k limit answer A → length (readings b) < k → length (events b nothing) ≤ limit
+        → A .told ≡ fewer (length (events b nothing)) (length (readings b))
+    fewer-if (found c h) m l = absurd (omega (arith, kth-count b c))
+    fewer-if (too-few h g) m l = refl
+    fewer-if (too-long n h) m l = absurd (omega (arith, needs-one b n (to-end m)))
+    fewer-if (no-number h) m l = absurd (omega arith)
+    fewer-if (no-room h g) m l = absurd (omega arith)
+
+-- ---- demand 2
+
+module _ (b : Book) (fits : count b ≤ 255) (k limit : ℕ) (answer : List ℕ) where
+  outcome : Outcome b k limit answer (findIn b k limit answer)
+  outcome = find-outcome b k limit answer fits
+
+  module _ (some : 1 ≤ k) (room : b .atoms ≤ length answer) where
+    -- the k-th answer set is given exactly if its try is within the limit, with the tries of the fixed walk
+    pub find-set : (t : ℕ) → (findIn b k limit answer .told ≡ set t) ↔ ((x : Atoms) × Kth b k t x × (t ≤ limit))
+    find-set t = (λ e. let (x, c, h, l) = set-says outcome t e in (x, c, h), λ (x, c, h). set-if some room outcome c h)
+
+    -- number 9, exactly if the fixed walk needs more tries
+    pub find-stopped : (findIn b k limit answer .told ≡ stopped limit) ↔ ((n : ℕ) × Needs b k n × (limit < n))
+    find-stopped = (stopped-says outcome, λ (n, m, h). stopped-if some room outcome m h)
+
+    -- number 11, exactly if the whole walk is within the limit and has fewer than k: all tries and all sets
+    pub find-fewer : (t n : ℕ) → (findIn b k limit answer .told ≡ fewer t n)
+        ↔ ((length (readings b) < k) × (t ≡ length (events b nothing)) × (n ≡ length (readings b)) × (t ≤ limit))
+    find-fewer t n = (fewer-says outcome t n, λ (h, p, q, l). fewer-if some room outcome h (omega arith) ∙ (λ i. fewer (sym p i) (sym q i)))
+
+  -- the set that is given stands in the buffer, and the later bytes are kept
+  pub find-row : (t : ℕ) (x : Atoms) → findIn b k limit answer .told ≡ set t → Kth b k t x
+      → findIn b k limit answer .buffer ≡ rowOf b x ++ drop (b .atoms) answer
+  find-row t x e c =
+      let (y, d, h, l) = set-says outcome t e in l ∙ ap (λ (z : Atoms). rowOf b z ++ drop (b .atoms) answer) (kth-one b d c .1)
+
+  -- nothing is written on any other answer
+  pub find-keeps : ((t : ℕ) → findIn b k limit answer .told ≡ set t → ⊥) → findIn b k limit answer .buffer ≡ answer
+  find-keeps = keeps outcome
+    where
+      keeps : {A : Answered} → Outcome b k limit answer A → ((t : ℕ) → A .told ≡ set t → ⊥) → A .buffer ≡ answer
+      keeps (found {t = t} c h) f = absurd (f t refl)
+      keeps (too-few h l) f = refl
+      keeps (too-long n h) f = refl
+      keeps (no-number h) f = refl
+      keeps (no-room h l) f = refl
+
+  -- number 10 never comes
+  pub find-never-10 : findIn b k limit answer .told ≡ refused 10 → ⊥
+  find-never-10 = never outcome
+    where
+      never : {A : Answered} → Outcome b k limit answer A → A .told ≡ refused 10 → ⊥
+      never (found c h) e = apart (cc)
+      never (too-few h l) e = apart (cc)
+      never (too-long n h) e = apart (cc)
+      never (no-number h) e = let z : _≡_ {A = ℕ} 15 10 = cc in absurd (omega arith)
+      never (no-room h l) e = let z : _≡_ {A = ℕ} 8 10 = cc in absurd (omega arith)
+
+-- ---- of the bytes of a book
+
+pub read-fits : (s : List ℕ) (n r index : ℕ) (l : List Rule) → Bytes s → readOf s ≡ good n r index l
+    → (count (bookIn s) ≤ 255) × Proper (bookIn s)
+unfolding bookIn
+read-fits s n r index l bytes e =
+    let f = good-fits s n r index l bytes e in (f .rules, λ q h. f .each _ (rule-member (bookOf (readOf s)) q h) .head)
+
+module _ (s : List ℕ) (k limit : ℕ) (answer : List ℕ) where
+  -- a book's refusal comes first, and nothing is written
+  pub find-bad-book : (number at : ℕ) → readOf s ≡ bad number at
+      → findOf s k limit answer ≡ record { told = refusedAt number at; buffer = answer }
+  unfolding findOf findReading
+  find-bad-book number at e = rw e
+
+  -- all that is said above of a book holds of the book that good bytes hold
+  pub find-good-book : (n r index : ℕ) (l : List Rule) → readOf s ≡ good n r index l
+      → findOf s k limit answer ≡ findIn (bookIn s) k limit answer
+  unfolding findOf findReading bookIn bookOf
+  find-good-book n r index l e = rw e
+
+  pub find-of-never-10 : Bytes s → findOf s k limit answer .told ≡ refused 10 → ⊥
+  find-of-never-10 bytes = go (readOf s) refl
+    where
+      go : (x : Reading) → readOf s ≡ x → findOf s k limit answer .told ≡ refused 10 → ⊥
+      go (good n r index l) e t =
+          find-never-10 (bookIn s) (read-fits s n r index l bytes e .0) k limit answer (rw (find-good-book n r index l e) at t)
+      go (bad number at) e t = let z = rw (find-bad-book number at e) at t in apart (cc)

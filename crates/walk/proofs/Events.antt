@@ -1,0 +1,179 @@
+-- The events of a walk, level by level (blueprint, section 3): a choice leaves fewer rules without a colour and a closing no more, so the
+-- number of levels that specs/Events allows never ends a walk, and the events are those after the first closing. The same for what comes
+-- after a reading. A walk's events are built up as Walk says: proofs about them go by induction over it.
+use mathlib.Core.Path.{_≡_, refl}
+use mathlib.Core.Bool.{Bool, true, false}
+use mathlib.Core.List.{List, [], _∷_, _++_}
+use Prim.Native.Nat.{ℕ, zero, suc, _≤_, _<_}
+use native.Mathlib.Omega.{arith}
+use Rattle.meaning.specs.declared.RuleNo.{RuleNo}
+use Rattle.meaning.specs.declared.colouring.Colouring.{Colouring}
+use Rattle.meaning.specs.Books.{Atoms, Book, count}
+use Rattle.meaning.specs.AnswerSet.{generating}
+use Rattle.meaning.specs.Colours.{Side, onSide, offSide, clashing, uncoloured}
+use Rattle.meaning.specs.Written.{colourOn, colourOff, pair}
+use Rattle.meaning.specs.Computed.{close}
+use Rattle.meaning.specs.Lowest.{Pick, none, one, lowest}
+use Rattle.meaning.proofs.Written.{Sized}
+use Rattle.meaning.proofs.Closing.{close-sized}
+use Rattle.meaning.proofs.Lowest.{lowest-one}
+use Rattle.closing.specs.Left.{left, chosen}
+use Rattle.walk.specs.Events.{Event, clash, fork, reading, after, afterClosing, eventsIn, events, beside, afterPast, restIn, rest}
+use Rattle.closing.proofs.Left.{sized-chosen, left-count, left-chosen, left-close}
+
+-- what comes after a closing needs the walk below only where it goes on
+after-same : (d : Colouring) (t : Bool) (p : Pick) (f g : Colouring → List Event)
+    → ((x : Side) (r : RuleNo) → p ≡ one r → f (chosen x r d) ≡ g (chosen x r d)) → after d t p f ≡ after d t p g
+unfolding after
+after-same d true p f g h = refl
+after-same d false none f g h = refl
+after-same d false (one r) f g h = let k = h onSide r refl in let l = h offSide r refl in rw (k, l)
+
+past-same : (b : Book) (d : Colouring) (x : Atoms) (t : Bool) (p : Pick) (f g : Colouring → List Event)
+    → ((y : Side) (r : RuleNo) → p ≡ one r → f (chosen y r d) ≡ g (chosen y r d)) → afterPast b d x t p f ≡ afterPast b d x t p g
+unfolding afterPast
+past-same b d x true p f g h = refl
+past-same b d x false none f g h = refl
+past-same b d x false (one r) f g h = let k = h onSide r refl in let l = h offSide r refl in rw (k, l)
+
+module _ (b : Book) (fits : count b ≤ 255) where
+  -- one level down
+  module _ (c : Colouring) (s : Sized c) (x : Side) (r : RuleNo) (e : lowest b (uncoloured (pair (close b c))) ≡ one r) where
+    below-sized : Sized (chosen x r (close b c))
+    below-sized = sized-chosen x r (close-sized b fits c s)
+
+    below-fewer : left b (chosen x r (close b c)) < left b (close b c)
+    below-fewer = let (h, m, f) = lowest-one b _ r e in left-chosen b fits (close b c) (close-sized b fits c s) x r h m
+
+    below-left : left b (chosen x r (close b c)) < left b c
+    below-left = omega (arith, below-fewer, left-close b fits c s)
+
+  -- ---- enough levels are as good as more
+
+  events-fuel : (m n : ℕ) (c : Colouring) → Sized c → left b c < m → left b c < n → eventsIn m b c ≡ eventsIn n b c
+  unfolding eventsIn
+  events-fuel zero n c s h k = absurd (omega arith)
+  events-fuel (suc m) zero c s h k = absurd (omega arith)
+  events-fuel (suc m) (suc n) c s h k = after-same _ _ _ _ _ (λ x r e.
+      let g = below-left c s x r e in events-fuel m n _ (below-sized c s x r e) (omega arith) (omega arith))
+
+  pub events-enough : (n : ℕ) (c : Colouring) → Sized c → left b c < n → eventsIn n b c ≡ events b c
+  unfolding events
+  events-enough n c s h = events-fuel n (suc (count b)) c s h (omega (arith, left-count b c))
+
+  rest-fuel : (m n : ℕ) (c : Colouring) (x : Atoms) → Sized c → left b c < m → left b c < n → restIn m b c x ≡ restIn n b c x
+  unfolding restIn
+  rest-fuel zero n c x s h k = absurd (omega arith)
+  rest-fuel (suc m) zero c x s h k = absurd (omega arith)
+  rest-fuel (suc m) (suc n) c x s h k = past-same _ _ _ _ _ _ _ (λ y r e.
+      let g = below-left c s y r e in rest-fuel m n _ x (below-sized c s y r e) (omega arith) (omega arith))
+
+  pub rest-enough : (n : ℕ) (c : Colouring) (x : Atoms) → Sized c → left b c < n → restIn n b c x ≡ rest b c x
+  unfolding rest
+  rest-enough n c x s h = rest-fuel n (suc (count b)) c x s h (omega (arith, left-count b c))
+
+  -- ---- the first closing, and then the rest
+
+  module _ (c : Colouring) (s : Sized c) where
+    pub events-unfold : events b c ≡ afterClosing b (close b c) (events b)
+    unfolding events eventsIn
+    events-unfold = after-same _ _ _ _ _ (λ x r e.
+        events-enough (count b) _ (below-sized c s x r e) (omega (arith, below-left c s x r e, left-count b c)))
+
+    pub rest-unfold : (x : Atoms) → rest b c x
+        ≡ afterPast b (close b c) x (clashing b (pair (close b c))) (lowest b (uncoloured (pair (close b c)))) (λ d. rest b d x)
+    unfolding rest restIn
+    rest-unfold x = past-same _ _ _ _ _ _ _ (λ y r e.
+        rest-enough (count b) _ x (below-sized c s y r e) (omega (arith, below-left c s y r e, left-count b c)))
+
+    -- the three ways after a closing that gave d
+    module _ (d : Colouring) (closed : d ≡ close b c) where
+      events-of : events b c ≡ afterClosing b d (events b)
+      events-of = rw closed events-unfold
+
+      rest-of : (x : Atoms) → rest b c x ≡ afterPast b d x (clashing b (pair d)) (lowest b (uncoloured (pair d))) (λ e. rest b e x)
+      rest-of x = rw closed (rest-unfold x)
+
+      pub events-clash : clashing b (pair d) ≡ true → events b c ≡ clash ∷ []
+      unfolding after
+      events-clash t = rw t at events-of
+
+      pub rest-clash : (x : Atoms) → clashing b (pair d) ≡ true → rest b c x ≡ []
+      unfolding afterPast
+      rest-clash x t = rw t at (rest-of x)
+
+      -- each side of a fork has fewer rules without a colour
+      module _ (x : Side) (r : RuleNo) (p : lowest b (uncoloured (pair d)) ≡ one r) where
+        pub fork-sized : Sized (chosen x r d)
+        fork-sized = rw closed (below-sized c s x r (rw closed at p))
+
+        pub fork-falls : left b (chosen x r d) < left b c
+        fork-falls = rw closed (below-left c s x r (rw closed at p))
+
+        pub fork-fewer : left b (close b (chosen x r d)) < left b (close b c)
+        fork-fewer = let e = rw closed at p in
+            rw closed (omega (arith, below-fewer c s x r e, left-close b fits _ (below-sized c s x r e)))
+
+      module _ (t : clashing b (pair d) ≡ false) where
+        pub events-reading : lowest b (uncoloured (pair d)) ≡ none → events b c ≡ reading d ∷ []
+        unfolding after
+        events-reading p = rw (t, p) at events-of
+
+        pub rest-reading : (x : Atoms) → lowest b (uncoloured (pair d)) ≡ none → rest b c x ≡ []
+        unfolding afterPast
+        rest-reading x p = rw (t, p) at (rest-of x)
+
+        module _ (r : RuleNo) (p : lowest b (uncoloured (pair d)) ≡ one r) where
+          pub events-fork : events b c ≡ fork r ∷ (events b (colourOn r d) ++ events b (colourOff r d))
+          unfolding after
+          events-fork = rw (t, p) at events-of
+
+          rest-fork : (x : Atoms) → rest b c x
+              ≡ beside (generating b x r) (rest b (colourOn r d) x) (rest b (colourOff r d) x) (events b (colourOff r d))
+          unfolding afterPast
+          rest-fork x = rw (t, p) at (rest-of x)
+
+          pub rest-fork-on : (x : Atoms) → generating b x r ≡ true → rest b c x ≡ rest b (colourOn r d) x ++ events b (colourOff r d)
+          unfolding beside
+          rest-fork-on x g = rw g at (rest-fork x)
+
+          pub rest-fork-off : (x : Atoms) → generating b x r ≡ false → rest b c x ≡ rest b (colourOff r d) x
+          unfolding beside
+          rest-fork-off x g = rw g at (rest-fork x)
+
+-- ---- how a walk's events are built up
+
+-- at a closing that gave d
+pub record Closes (b : Book) (c d : Colouring) : Type 0 where
+  pub sized : Sized c
+  pub closed : d ≡ close b c
+
+pub data Walk (b : Book) : Colouring → List Event → Type 0 where
+  at-clash : {c d : Colouring} → Closes b c d → clashing b (pair d) ≡ true → Walk b c (clash ∷ [])
+  at-reading : {c d : Colouring} → Closes b c d → clashing b (pair d) ≡ false → lowest b (uncoloured (pair d)) ≡ none
+      → Walk b c (reading d ∷ [])
+  at-fork : {c d : Colouring} {r : RuleNo} → Closes b c d → clashing b (pair d) ≡ false → lowest b (uncoloured (pair d)) ≡ one r
+      → Walk b (colourOn r d) (events b (colourOn r d)) → Walk b (colourOff r d) (events b (colourOff r d))
+      → Walk b c (fork r ∷ (events b (colourOn r d) ++ events b (colourOff r d)))
+
+module _ (b : Book) (fits : count b ≤ 255) where
+  pub walks : (c : Colouring) → Sized c → Walk b c (events b c)
+  walks c s = down (suc (left b c)) c s (omega arith)
+    where
+      down : (n : ℕ) (c : Colouring) → Sized c → left b c < n → Walk b c (events b c)
+      down zero c s h = absurd (omega arith)
+      down (suc n) c s h = ways (clashing b (pair d)) refl (lowest b (uncoloured (pair d))) refl
+          (λ x r e. down n _ (below-sized b fits c s x r e) (omega (arith, below-left b fits c s x r e)))
+        where
+          d : Colouring
+          d = close b c
+
+          here : Closes b c d
+          here = record { sized = s; closed = refl }
+
+          ways : (t : Bool) → clashing b (pair d) ≡ t → (p : Pick) → lowest b (uncoloured (pair d)) ≡ p
+              → ((x : Side) (r : RuleNo) → lowest b (uncoloured (pair d)) ≡ one r → Walk b (chosen x r d) (events b (chosen x r d)))
+              → Walk b c (events b c)
+          ways true t p q f = rw (events-clash b fits c s d refl t) (at-clash here t)
+          ways false t none q f = rw (events-reading b fits c s d refl t q) (at-reading here t q)
+          ways false t (one r) q f = rw (events-fork b fits c s d refl t r q) (at-fork here t q (f onSide r q) (f offSide r q))

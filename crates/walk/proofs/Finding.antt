@@ -1,0 +1,90 @@
+-- What find answers (demand 2; blueprint W6): the k-th reading exactly if its try is within the limit, 9 exactly if the fixed walk needs
+-- more tries, otherwise 11 exactly if there are fewer than k readings, with the counts of the whole walk; 10 never comes.
+use mathlib.Core.Path.{_≡_, refl, sym, _∙_, ap, subst}
+use mathlib.Core.Logic.{⊎-elim}
+use mathlib.Core.List.{List, _∷_, _++_}
+use Prim.Native.Nat.{ℕ, _+_, _-_, _≤_, _<_}
+use native.Mathlib.Nat.{zero-add, zero-mul}
+use native.Mathlib.Omega.{arith}
+use lib.ListN.{length, drop, length-append}
+use Rattle.meaning.specs.declared.colouring.Colouring.{Colouring}
+use Rattle.meaning.specs.Books.{Atoms, Book, count}
+use Rattle.meaning.specs.Written.{nothing}
+use Rattle.meaning.proofs.Tests.{lt-or-le}
+use Rattle.meaning.proofs.Choice.{lt-no, lt-either, eq-either}
+use Rattle.meaning.proofs.LeastModel.{answer→test}
+use Rattle.walk.specs.Events.{Event, reading, events}
+use Rattle.walk.specs.Readings.{readingOf, readings}
+use Rattle.walk.specs.Tries.{Kth, Needs, to-reading, to-end}
+use Rattle.walk.specs.Run.{rowOf, Wanted, State}
+use Rattle.walk.specs.Find.{set, fewer, stopped, refused, Answered, startOf, toldBy, answeredBy, findIn}
+use Rattle.walk.proofs.Rows.{row-length, write-front}
+use Rattle.walk.proofs.Readings.{readings-all}
+use Rattle.walk.proofs.Way.{Tested, step, gone, gone-tries, gone-sets, gone-passes, Way, to-full, to-limit, way}
+use Rattle.walk.proofs.Way.{to-end as all-met}
+use Rattle.walk.proofs.Needs.{amount, parted-more, kth-or-fewer}
+
+-- every reading passes the test of number 10
+pub readings-tested : (b : Book) → count b ≤ 255 → Tested b (events b nothing)
+unfolding readings
+readings-tested b fits x m = answer→test b fits x (readings-all b fits .sound x m)
+
+module _ (b : Book) (k limit : ℕ) (answer : List ℕ) where
+  -- how a call may end, with what it answers
+  pub data Outcome : Answered → Type 0 where
+    found : {t : ℕ} {x : Atoms} → Kth b k t x → t ≤ limit
+        → Outcome (record { told = set t; buffer = rowOf b x ++ drop (b .atoms) answer })
+    too-few : length (readings b) < k → length (events b nothing) ≤ limit
+        → Outcome (record { told = fewer (length (events b nothing)) (length (readings b)); buffer = answer })
+    too-long : {n : ℕ} → Needs b k n → limit < n → Outcome (record { told = stopped limit; buffer = answer })
+    no-number : k ≡ 0 → Outcome (record { told = refused 15; buffer = answer })
+    no-room : 1 ≤ k → length answer < b .atoms → Outcome (record { told = refused 8; buffer = answer })
+
+  abbrev wanted : Wanted
+  wanted = record { pass = k - 1; room = 1; limit = limit }
+
+  module _ (some : 1 ≤ k) where
+    -- the limit was met before another try
+    limit-met : (more : List Event) (e : Event) (later : List Event) → events b nothing ≡ more ++ (e ∷ later) → limit ≡ length more
+        → amount b more < k → Outcome (record { told = stopped limit; buffer = answer })
+    limit-met more e later q h l = ⊎-elim
+        (λ (t, x, c). too-long (to-reading c) (⊎-elim
+        (λ g. absurd (omega (arith, c .number, parted-more b (c .earlier) (c .found) (c .later) more (e ∷ later) (sym (c .walk) ∙ q) g)))
+        (λ g. omega (arith, c .try)) (lt-or-le (length (c .earlier)) (length more))))
+        (λ f. too-long (to-end f) (omega (arith, ap length q, length-append more (e ∷ later))))
+        (kth-or-fewer b k some)
+
+    -- the k-th reading was met: its row stands in front
+    row-written : (s : State) (d : Colouring) → s .tally .sets + 1 ≡ k → s .out ≡ answer
+        → step b wanted s (reading d) .out ≡ rowOf b (readingOf b d) ++ drop (b .atoms) answer
+    unfolding step
+    row-written s d e o =
+        let z : s .tally .sets - (k - 1) ≡ 0 = omega arith in
+        lt-no _ _ _ _ (omega arith) ∙ rw (z, zero-mul, o, write-front, row-length)
+
+    outcome-of : (es : List Event) (t : State) → events b nothing ≡ es → Way b wanted (startOf answer) es t → Outcome (answeredBy t limit)
+    unfolding toldBy step readings
+    outcome-of es t q (all-met h o) =
+        let s = startOf answer in let u = gone-tries b wanted s es in let v = gone-sets b wanted s es in
+        let a : gone b wanted s es .tally .tries ≡ length (events b nothing) = u ∙ zero-add _ ∙ ap length (sym q) in
+        let c : gone b wanted s es .tally .sets ≡ amount b (events b nothing) = v ∙ zero-add _ ∙ ap (amount b) (sym q) in
+        let f = gone-passes b wanted s es (omega arith) in
+        subst Outcome (λ i. record { told = fewer (sym a i) (sym c i); buffer = sym f i }) (too-few (omega arith) (omega arith))
+    outcome-of es t q (to-full more d later h e) =
+        let s = startOf answer in let u = gone-tries b wanted s more in let v = gone-sets b wanted s more in
+        let n = gone b wanted s more .tally .tries + 1 in
+        let c : Kth b k n (readingOf b d) =
+        record { earlier = more; found = d; later = later; walk = q; try = omega arith; number = omega arith; set = refl } in
+        let f = row-written (gone b wanted s more) d (omega arith) (gone-passes b wanted s more (omega arith)) in
+        subst (λ (o : List ℕ). Outcome (record { told = set n; buffer = o })) (sym f) (found c (omega arith))
+    outcome-of es t q (to-limit more e later h o) =
+        let s = startOf answer in let u = gone-tries b wanted s more in let v = gone-sets b wanted s more in
+        subst (λ (l : List ℕ). Outcome (record { told = stopped limit; buffer = l })) (sym (gone-passes b wanted s more (omega arith)))
+        (limit-met more e later q (omega arith) (omega arith))
+
+  pub find-outcome : count b ≤ 255 → Outcome (findIn b k limit answer)
+  unfolding findIn
+  find-outcome fits = eq-either Outcome _ _ _ _ no-number (λ n.
+      let some : 1 ≤ k = omega arith in
+      lt-either Outcome _ _ _ _ (no-room some) (λ h.
+      outcome-of some _ _ refl (way b wanted (omega arith) (startOf answer) _ refl (omega arith) (omega arith) (readings-tested b fits))))

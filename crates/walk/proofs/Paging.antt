@@ -1,0 +1,124 @@
+-- A page of a listing (specs/Page): the rows of the next readings, until the room is full, the walk is at its end or the limit is met. A
+-- listing goes on where the page before ended, so that its pages together are the readings of one walk, with the tries of one walk.
+use mathlib.Core.Path.{_≡_, refl, sym, _∙_, ap, subst}
+use mathlib.Core.Logic.{⊎-elim}
+use mathlib.Core.List.{List, [], _∷_, _++_}
+use Prim.Native.Nat.{ℕ, zero, suc, _+_, _*_, _-_, _≤_, _<_}
+use native.Mathlib.Nat.{zero-add, zero-mul, one-mul, div-mul-le-self, le-div-iff-mul-le, mul-le-mul-right}
+use native.Mathlib.Omega.{arith}
+use lib.ListN.{length, drop}
+use Rattle.meaning.specs.declared.colouring.Colouring.{Colouring}
+use Rattle.meaning.specs.Books.{Atoms, Book, count}
+use Rattle.meaning.specs.Written.{nothing}
+use Rattle.meaning.proofs.Tests.{lt-or-le}
+use Rattle.meaning.proofs.Choice.{lt-either, eq-either}
+use Rattle.meaning.proofs.Written.{sized-nothing}
+use Rattle.meaning.proofs.LeastModel.{answer→test}
+use Rattle.walk.specs.Events.{Event, reading}
+use Rattle.walk.specs.Readings.{readingsIn}
+use Rattle.walk.specs.Run.{writeAt, Wanted, State, run}
+use Rattle.walk.specs.declared.tally.Halt.the-variants.{Going}
+use Rattle.walk.specs.Page.{whole, last, stopped, wrong, refused, Paged, setIn, eventsFrom, roomIn, toldBy, pagedBy, pageIn}
+use Rattle.walk.proofs.Events.{walks}
+use Rattle.walk.proofs.Rows.{rowsOf, rows-length, write-front}
+use Rattle.walk.proofs.Run.{apart, run-stops}
+use Rattle.walk.proofs.Way.{Tested, step, gone, gone-append, gone-tries, gone-sets, gone-writes, Way, to-end, to-full, to-limit, way}
+use Rattle.walk.proofs.Needs.{amount, amount-last}
+use Rattle.walk.proofs.Finding.{readings-tested}
+use Rattle.walk.proofs.Rest.{rest-sound}
+
+-- ---- the room of a page
+
+room-some : (b : Book) (n : ℕ) → b .atoms ≤ n → 1 ≤ roomIn b n
+unfolding roomIn
+room-some b n h = eq-either (λ (m : ℕ). 1 ≤ m) _ _ _ _ (λ e. omega arith)
+    (λ e. le-div-iff-mul-le {k = b .atoms} {x = 1} {y = n} (omega arith) .1 (rw one-mul h))
+
+rooms-fit : (b : Book) (n : ℕ) → roomIn b n * b .atoms ≤ n
+unfolding roomIn
+rooms-fit b n = eq-either (λ (m : ℕ). m * b .atoms ≤ n) _ _ _ _ (λ e. rw (e, one-mul) (omega arith)) (λ e. div-mul-le-self n (b .atoms))
+
+-- every reading of a page passes the test of number 10
+page-tested : (b : Book) → count b ≤ 255 → (n : ℕ) (x : Atoms) → Tested b (eventsFrom b n x)
+unfolding eventsFrom
+page-tested b fits zero x y m = readings-tested b fits y m
+page-tested b fits (suc n) x y m = answer→test b fits y (rest-sound b fits (walks b fits nothing sized-nothing) x y m .answer)
+
+-- the buffer with the rows of some sets in front
+abbrev pub filled : Book → List ℕ → List Atoms → List ℕ
+filled b out l = rowsOf b l ++ drop (length (rowsOf b l)) out
+
+module _ (b : Book) (limit n : ℕ) (row out : List ℕ) where
+  -- how a call may end, with what it answers, by the events that are to come
+  pub data Outcome (todo : List Event) : Paged → Type 0 where
+    all-rows : n + length todo ≤ limit → amount b todo < roomIn b (length out)
+        → Outcome todo (record { told = last (n + length todo) (amount b todo); buffer = filled b out (readingsIn b todo) })
+    full-page : (more : List Event) (d : Colouring) (later : List Event) → todo ≡ more ++ (reading d ∷ later)
+        → n + length more < limit → amount b more + 1 ≡ roomIn b (length out)
+        → Outcome todo (record { told = whole (n + length more + 1); buffer = filled b out (readingsIn b (more ++ (reading d ∷ []))) })
+    limit-met : (more : List Event) (e : Event) (later : List Event) → todo ≡ more ++ (e ∷ later)
+        → limit ≡ n + length more → amount b more < roomIn b (length out)
+        → Outcome todo (record { told = stopped (amount b more); buffer = filled b out (readingsIn b more) })
+    no-room : length out < b .atoms → Outcome todo (record { told = refused 8; buffer = out })
+
+  abbrev wanted : Wanted
+  wanted = record { pass = 0; room = roomIn b (length out); limit = limit }
+
+  abbrev start : State
+  start = record { tally = record { tries = n; sets = 0; halt = Going }; out = out }
+
+  -- some events on, the rows of their readings stand in front
+  gone-filled : (es : List Event) → amount b es ≤ roomIn b (length out) → gone b wanted start es .out ≡ filled b out (readingsIn b es)
+  gone-filled es h =
+      let l = rowsOf b (readingsIn b es) in
+      let z = rows-length b (readingsIn b es) in let k = mul-le-mul-right (b .atoms) h in let f = rooms-fit b (length out) in
+      let p : (0 - 0) * b .atoms ≡ 0 = zero-mul (b .atoms) in
+      gone-writes b wanted start es (omega arith) (omega arith) ∙ ap (λ (i : ℕ). writeAt i l out) p ∙ write-front l out
+
+  full-filled : (more : List Event) (d : Colouring) → amount b (more ++ (reading d ∷ [])) ≤ roomIn b (length out)
+      → step b wanted (gone b wanted start more) (reading d) .out ≡ filled b out (readingsIn b (more ++ (reading d ∷ [])))
+  unfolding gone
+  full-filled more d h = ap (λ (s : State). s .out) (sym (gone-append b wanted start more (reading d ∷ []))) ∙ gone-filled _ h
+
+  outcome-of : (es : List Event) (t : State) → Way b wanted start es t → Outcome es (pagedBy t)
+  unfolding toldBy step
+  outcome-of es t (to-end h o) =
+      let u = gone-tries b wanted start es in let v = gone-sets b wanted start es ∙ zero-add _ in
+      let f = gone-filled es (omega arith) in
+      subst (Outcome es) (λ i. record { told = last (sym u i) (sym v i); buffer = sym f i }) (all-rows (omega arith) (omega arith))
+  outcome-of es t (to-full more d later h e) =
+      let u = gone-tries b wanted start more in let v = gone-sets b wanted start more ∙ zero-add _ in
+      let f = full-filled more d (omega (arith, amount-last b more d)) in
+      subst (Outcome (more ++ (reading d ∷ later))) (λ i. record { told = whole (sym u i + 1); buffer = sym f i })
+      (full-page more d later refl (omega arith) (omega arith))
+  outcome-of es t (to-limit more e later h o) =
+      let u = gone-tries b wanted start more in let v = gone-sets b wanted start more ∙ zero-add _ in
+      let f = gone-filled more (omega arith) in
+      subst (Outcome (more ++ (e ∷ later))) (λ i. record { told = stopped (sym v i); buffer = sym f i })
+      (limit-met more e later refl (omega arith) (omega arith))
+
+  pub page-outcome : count b ≤ 255 → n ≤ limit → Outcome (eventsFrom b n (setIn row)) (pageIn b limit n row out)
+  unfolding pageIn
+  page-outcome fits h = lt-either (Outcome (eventsFrom b n (setIn row))) _ _ _ _ no-room (λ l.
+      let some = room-some b (length out) l in
+      outcome-of _ _ (way b wanted some start _ refl h (omega arith) (page-tested b fits n (setIn row))))
+
+  -- ---- number 10 never comes
+
+  never-10 : {A : Paged} {todo : List Event} → Outcome todo A → (m : ℕ) → A .told ≡ wrong m → ⊥
+  never-10 (all-rows h k) m e = apart (cc)
+  never-10 (full-page more d later q h k) m e = apart (cc)
+  never-10 (limit-met more f later q h k) m e = apart (cc)
+  never-10 (no-room h) m e = apart (cc)
+
+  -- also where more tries were made than the limit allows
+  over-limit : limit ≤ n → (es : List Event) (m : ℕ) → pagedBy (run b wanted start es) .told ≡ wrong m → ⊥
+  unfolding run toldBy
+  over-limit h [] m e = apart (cc)
+  over-limit h (f ∷ es) m e = let z = rw (run-stops b wanted start refl f es h) at e in apart (cc)
+
+  pub page-never-10 : count b ≤ 255 → (m : ℕ) → pageIn b limit n row out .told ≡ wrong m → ⊥
+  unfolding pageIn
+  page-never-10 fits = ⊎-elim (λ h. never-10 (page-outcome fits (omega arith)))
+      (λ h. lt-either (λ (a : Paged). (m : ℕ) → a .told ≡ wrong m → ⊥) _ _ _ _ (λ k m e. apart (cc)) (λ k. over-limit h _))
+      (lt-or-le n limit)

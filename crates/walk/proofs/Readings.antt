@@ -1,0 +1,77 @@
+-- The readings of a book (demand 2; blueprint W1 to W3): the walk meets exactly the answer sets, each once, in the order that speaks of no
+-- walk. By induction over the walk: at a fork the sets that have the rule come first, and all sets there have the same rules below it.
+use mathlib.Core.Path.{_≡_, refl, ap}
+use mathlib.Core.Logic.{⊎-elim}
+use mathlib.Core.Bool.{not}
+use mathlib.Core.List.{List, [], _∷_, _++_, List·Memᴰ, List·Memᴰ·head, List·Memᴰ·not-nil, List·Memᴰ·eq-of-singleton}
+use mathlib.Core.List.{Memᴰ·append-left, Memᴰ·append-right, List·Memᴰ·append-cases}
+use Prim.Native.Nat.{ℕ, _≤_, _<_}
+use lib.ListN.{length, getD}
+use Rattle.meaning.specs.declared.colouring.Colouring.{Colouring}
+use Rattle.meaning.specs.Books.{Atoms, Book, count}
+use Rattle.meaning.specs.AnswerSet.{generating}
+use Rattle.meaning.specs.Colours.{onSide, offSide, side}
+use Rattle.meaning.specs.Written.{nothing, colourOn}
+use Rattle.meaning.proofs.Tests.{decided}
+use Rattle.meaning.proofs.Written.{sized-nothing}
+use Rattle.walk.specs.Events.{Event, clash, fork, reading, events}
+use Rattle.walk.specs.Readings.{readingOf, readingsIn, readings, Agree, Ordered, no-more, comes-first, AllReadings}
+use Rattle.walk.proofs.Events.{Walk, at-clash, at-reading, at-fork, walks}
+use Rattle.walk.proofs.Order.{ordered-append, ordered-once}
+use Rattle.walk.proofs.Forks.{Stands, stands-nothing, stands-clash, stands-reading, reading-only}
+use Rattle.walk.proofs.Forks.{side-stands, stands-side, fork-before}
+
+-- ---- the readings of two lists of events
+
+pub readings-append : (b : Book) (es fs : List Event) → readingsIn b (es ++ fs) ≡ readingsIn b es ++ readingsIn b fs
+unfolding readingsIn
+readings-append b [] fs = refl
+readings-append b (clash ∷ es) fs = readings-append b es fs
+readings-append b (fork r ∷ es) fs = readings-append b es fs
+readings-append b (reading d ∷ es) fs = ap (λ (l : List Atoms). readingOf b d ∷ l) (readings-append b es fs)
+
+module _ (b : Book) (fits : count b ≤ 255) where
+  -- ---- the readings of a walk
+
+  pub walk-sound : {c : Colouring} {es : List Event} → Walk b c es → (x : Atoms) → List·Memᴰ x (readingsIn b es) → Stands b c x
+  unfolding readingsIn
+  walk-sound (at-clash k t) x m = absurd (List·Memᴰ·not-nil m)
+  walk-sound (at-reading k t p) x m = rw (List·Memᴰ·eq-of-singleton m) (stands-reading b fits k t p)
+  walk-sound (at-fork {r = r} k t p v w) x m = ⊎-elim
+      (λ e. side-stands b fits k r p onSide x (walk-sound v x e)) (λ e. side-stands b fits k r p offSide x (walk-sound w x e))
+      (List·Memᴰ·append-cases _ (rw readings-append at m))
+
+  pub walk-complete : {c : Colouring} {es : List Event} → Walk b c es → (x : Atoms) → Stands b c x
+      → (y : Atoms) × List·Memᴰ y (readingsIn b es) × Agree x y
+  unfolding readingsIn side
+  walk-complete (at-clash k t) x s = absurd (stands-clash b fits k t x s)
+  walk-complete (at-reading {d = d} k t p) x s = (readingOf b d, List·Memᴰ·head refl, reading-only b fits k t p x s)
+  walk-complete (at-fork {c} {d} {r} k t p v w) x s = rw readings-append (⊎-elim
+      (λ g. let (y, m, e) = walk-complete v x (stands-side b fits k r p onSide x s g) in (y, Memᴰ·append-left _ m, e))
+      (λ g.
+      let (y, m, e) = walk-complete w x (stands-side b fits k r p offSide x s (ap not g)) in
+      (y, Memᴰ·append-right (readingsIn b (events b (colourOn r d))) m, e))
+      (decided (generating b x r)))
+
+  pub walk-ordered : {c : Colouring} {es : List Event} → Walk b c es → Ordered b (readingsIn b es)
+  unfolding readingsIn
+  walk-ordered (at-clash k t) = no-more
+  walk-ordered (at-reading k t p) = comes-first (λ y m. absurd (List·Memᴰ·not-nil m)) no-more
+  walk-ordered (at-fork {r = r} k t p v w) = rw readings-append (ordered-append b (walk-ordered v) (walk-ordered w)
+      (λ x m y n. fork-before b fits k r p x y (walk-sound v x m) (walk-sound w y n)))
+
+  -- ---- the readings of the book
+
+  pub readings-all : AllReadings b (readings b)
+  unfolding readings
+  readings-all = record {
+    sound = λ x m. walk-sound walk x m .answer;
+    complete = λ x p. walk-complete walk x (stands-nothing b x p);
+    ordered = walk-ordered walk;
+  }
+    where
+      walk : Walk b nothing (events b nothing)
+      walk = walks b fits nothing sized-nothing
+
+  pub each-once : (i j : ℕ) (z : Atoms) → i < j → j < length (readings b) → Agree (getD (readings b) i z) (getD (readings b) j z) → ⊥
+  each-once i j z h k = ordered-once b (readings b) (readings-all .ordered) i j z h k

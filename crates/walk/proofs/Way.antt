@@ -1,0 +1,186 @@
+-- Where a call's way along the events ends (specs/Run; blueprint W6): behind all of them, at the reading that fills the room, or before the
+-- try that would pass the limit. All readings are answer sets here, so that number 10 never comes.
+use mathlib.Core.Path.{_≡_, refl, sym, _∙_, ap, subst}
+use mathlib.Core.Logic.{⊎-elim}
+use mathlib.Core.Bool.{true}
+use mathlib.Core.List.{List, [], _∷_, _++_, List·Memᴰ, List·Memᴰ·head, List·Memᴰ·tail}
+use Prim.Native.Nat.{ℕ, suc, _+_, _*_, _-_, _≤_, _<_}
+use native.Mathlib.Nat.{le-antisymm, eq-or-lt-of-le, suc-mul}
+use native.Mathlib.Numerals.{add-one}
+use native.Mathlib.Omega.{arith}
+use lib.ListN.{length, length-append}
+use Rattle.meaning.specs.declared.colouring.Colouring.{Colouring}
+use Rattle.meaning.specs.Books.{Atoms, Book}
+use Rattle.meaning.specs.Computed.{isAnswerSet}
+use Rattle.meaning.specs.Choice.{ifLt, ifEq}
+use Rattle.meaning.proofs.Tests.{lt-or-le}
+use Rattle.meaning.proofs.Choice.{b-yes, lt-yes, lt-no, eq-yes, eq-no}
+use Rattle.walk.specs.Events.{Event, clash, fork, reading}
+use Rattle.walk.specs.Readings.{readingOf, readingsIn}
+use Rattle.walk.specs.Run.{rowOf, writeAt, Wanted, State, counted, readingMet, tried, run}
+use Rattle.walk.specs.declared.tally.Halt.{Halt}
+use Rattle.walk.specs.declared.tally.Halt.the-variants.{Going, Full, Limit}
+use Rattle.walk.proofs.Rows.{row-length, rowsOf, write-length, write-none, write-next}
+use Rattle.walk.proofs.Run.{apart, run-ended, run-try, run-stops}
+
+-- every reading among the events passes the test
+abbrev pub Tested : Book → List Event → Type 0
+Tested b es = (x : Atoms) → List·Memᴰ x (readingsIn b es) → isAnswerSet b x ≡ true
+
+module _ (b : Book) (w : Wanted) where
+  -- the state after one more event, and after some, where neither the limit nor the end of the room stops the way
+  unfoldable pub step : State → Event → State
+  step s clash = record { tally = counted s (s .tally .sets) Going; out = s .out }
+  step s (fork r) = record { tally = counted s (s .tally .sets) Going; out = s .out }
+  step s (reading d) = record {
+    tally = counted s (s .tally .sets + 1) Going;
+    out = ifLt (s .tally .sets) (w .pass) (s .out) (writeAt ((s .tally .sets - w .pass) * b .atoms) (rowOf b (readingOf b d)) (s .out));
+  }
+
+  unfoldable pub gone : State → List Event → State
+  gone s [] = s
+  gone s (e ∷ es) = gone (step s e) es
+
+  abbrev pub ended : Halt → State → State
+  ended h s = record { tally = record { tries = s .tally .tries; sets = s .tally .sets; halt = h }; out = s .out }
+
+  -- room for one row more
+  abbrev pub Open : State → Type 0
+  Open s = s .tally .sets < w .pass + w .room
+
+  -- from s along some events to a state: behind all of them; at the reading that fills the room; before the try that passes the limit
+  pub data Way (s : State) : List Event → State → Type 0 where
+    to-end : {es : List Event} → gone s es .tally .tries ≤ w .limit → Open (gone s es) → Way s es (ended Going (gone s es))
+    to-full : (more : List Event) (d : Colouring) (later : List Event) → gone s more .tally .tries < w .limit
+        → gone s more .tally .sets + 1 ≡ w .pass + w .room
+        → Way s (more ++ (reading d ∷ later)) (ended Full (step (gone s more) (reading d)))
+    to-limit : (more : List Event) (e : Event) (later : List Event) → w .limit ≡ gone s more .tally .tries → Open (gone s more)
+        → Way s (more ++ (e ∷ later)) (ended Limit (gone s more))
+
+  further : (s : State) (e : Event) {es : List Event} {t : State} → Way (step s e) es t → Way s (e ∷ es) t
+  unfolding gone
+  further s e (to-end h k) = to-end h k
+  further s e (to-full more d later h k) = to-full (e ∷ more) d later h k
+  further s e (to-limit more f later h k) = to-limit (e ∷ more) f later h k
+
+  pub gone-append : (s : State) (es fs : List Event) → gone s (es ++ fs) ≡ gone (gone s es) fs
+  unfolding gone
+  gone-append s [] fs = refl
+  gone-append s (e ∷ es) fs = gone-append (step s e) es fs
+
+  -- ---- what the events add to a state
+
+  pub gone-tries : (s : State) (es : List Event) → gone s es .tally .tries ≡ s .tally .tries + length es
+  unfolding gone step
+  gone-tries s [] = omega arith
+  gone-tries s (clash ∷ es) = omega (arith, gone-tries (step s clash) es)
+  gone-tries s (fork r ∷ es) = omega (arith, gone-tries (step s (fork r)) es)
+  gone-tries s (reading d ∷ es) = omega (arith, gone-tries (step s (reading d)) es)
+
+  pub gone-sets : (s : State) (es : List Event) → gone s es .tally .sets ≡ s .tally .sets + length (readingsIn b es)
+  unfolding gone step readingsIn
+  gone-sets s [] = omega arith
+  gone-sets s (clash ∷ es) = gone-sets (step s clash) es
+  gone-sets s (fork r ∷ es) = gone-sets (step s (fork r)) es
+  gone-sets s (reading d ∷ es) = omega (arith, gone-sets (step s (reading d)) es)
+
+  -- readings that are passed over leave the buffer
+  pub gone-passes : (s : State) (es : List Event) → s .tally .sets + length (readingsIn b es) ≤ w .pass → gone s es .out ≡ s .out
+  unfolding gone step readingsIn
+  gone-passes s [] h = refl
+  gone-passes s (clash ∷ es) h = gone-passes (step s clash) es h
+  gone-passes s (fork r ∷ es) h = gone-passes (step s (fork r)) es h
+  gone-passes s (reading d ∷ es) h = gone-passes (step s (reading d)) es (omega arith) ∙ lt-yes _ _ _ _ (omega arith)
+
+  -- the place of the next row
+  abbrev pub place : State → ℕ
+  place s = (s .tally .sets - w .pass) * b .atoms
+
+  -- the others are written row by row
+  pub gone-writes : (s : State) (es : List Event) → w .pass ≤ s .tally .sets
+      → place s + length (rowsOf b (readingsIn b es)) ≤ length (s .out)
+      → gone s es .out ≡ writeAt (place s) (rowsOf b (readingsIn b es)) (s .out)
+  unfolding gone step readingsIn rowsOf
+  gone-writes s [] p h = sym (write-none (place s) (s .out))
+  gone-writes s (clash ∷ es) p h = gone-writes (step s clash) es p h
+  gone-writes s (fork r ∷ es) p h = gone-writes (step s (fork r)) es p h
+  gone-writes s (reading d ∷ es) p h =
+      let t = step s (reading d) in let row = rowOf b (readingOf b d) in let rows = rowsOf b (readingsIn b es) in
+      let o : t .out ≡ writeAt (place s) row (s .out) = lt-no _ _ _ _ p in
+      let z : s .tally .sets + 1 - w .pass ≡ suc (s .tally .sets - w .pass) = omega arith in
+      let q : place t ≡ place s + length row = rw (z, suc-mul, row-length b (readingOf b d)) in
+      let l : length (t .out) ≡ length (s .out) =
+      ap length o ∙ write-length (place s) row (s .out) (omega (arith, length-append row rows)) in
+      gone-writes t es (omega arith) (omega (arith, length-append row rows))
+      ∙ rw (o, q) (write-next (place s) row rows (s .out) (omega (arith, length-append row rows)))
+
+  -- ---- one try
+
+  module _ (some-room : 1 ≤ w .room) where
+    module _ (s : State) (d : Colouring) (t : isAnswerSet b (readingOf b d) ≡ true) where
+      same-state : {h k : Halt} {l m : List ℕ} → h ≡ k → l ≡ m
+          → _≡_ {A = State} (record { tally = counted s (s .tally .sets + 1) h; out = l })
+          (record { tally = counted s (s .tally .sets + 1) k; out = m })
+      same-state p q = λ i. record { tally = counted s (s .tally .sets + 1) (p i); out = q i }
+
+      try-reading : tried b w s (reading d) ≡ record {
+        tally = counted s (s .tally .sets + 1) (ifEq (s .tally .sets + 1) (w .pass + w .room) Full Going);
+        out = step s (reading d) .out;
+      }
+      unfolding tried readingMet step
+      try-reading = ⊎-elim
+          (λ h. lt-yes _ _ _ _ h ∙ same-state (sym (eq-no _ _ _ _ (λ e. omega arith))) (sym (lt-yes _ _ _ _ h)))
+          (λ h. lt-no _ _ _ _ h ∙ b-yes _ _ _ t ∙ same-state refl (sym (lt-no _ _ _ _ h)))
+          (lt-or-le (s .tally .sets) (w .pass))
+
+      try-full : s .tally .sets + 1 ≡ w .pass + w .room → tried b w s (reading d) ≡ ended Full (step s (reading d))
+      unfolding step
+      try-full e = try-reading ∙ same-state (eq-yes _ _ _ _ e) refl
+
+      try-open : (s .tally .sets + 1 ≡ w .pass + w .room → ⊥) → tried b w s (reading d) ≡ step s (reading d)
+      unfolding step
+      try-open n = try-reading ∙ same-state (eq-no _ _ _ _ n) refl
+
+    -- ---- the whole way
+
+    module _ (s : State) (going : s .tally .halt ≡ Going) where
+      stops : (e : Event) (es : List Event) → s .tally .tries ≤ w .limit → Open s → w .limit ≤ s .tally .tries
+          → Way s (e ∷ es) (run b w s (e ∷ es))
+      unfolding gone
+      stops e es h o l = subst (Way s (e ∷ es)) (sym (run-stops b w s going e es l)) (to-limit [] e es (le-antisymm l h) o)
+
+      fills : (d : Colouring) (es : List Event) → s .tally .tries < w .limit → s .tally .sets + 1 ≡ w .pass + w .room
+          → isAnswerSet b (readingOf b d) ≡ true → Way s (reading d ∷ es) (run b w s (reading d ∷ es))
+      unfolding gone
+      fills d es h e t = subst (Way s (reading d ∷ es))
+          (sym (run-try b w s going (reading d) es h ∙ ap (λ (u : State). run b w u es) (try-full s d t e)
+          ∙ run-ended b w _ es (λ q. apart (cc))))
+          (to-full [] d es h e)
+
+      goes-on : (e : Event) (es : List Event) → s .tally .tries < w .limit → tried b w s e ≡ step s e
+          → Way (step s e) es (run b w (step s e) es) → Way s (e ∷ es) (run b w s (e ∷ es))
+      goes-on e es h q k = subst (Way s (e ∷ es)) (sym (run-try b w s going e es h ∙ ap (λ (u : State). run b w u es) q)) (further s e k)
+
+    pub way : (s : State) (es : List Event) → s .tally .halt ≡ Going → s .tally .tries ≤ w .limit → Open s → Tested b es
+        → Way s es (run b w s es)
+    unfolding run gone step tried readingsIn
+    way s [] g h o t =
+        let e : ended Going s ≡ s =
+        (λ i. record { tally = record { tries = s .tally .tries; sets = s .tally .sets; halt = sym g i }; out = s .out }) in
+        subst (Way s []) e (to-end h o)
+    way s (clash ∷ es) g h o t = ⊎-elim
+        (λ l. goes-on s g clash es l refl (way (step s clash) es refl (omega arith) o t)) (stops s g clash es h o)
+        (lt-or-le (s .tally .tries) (w .limit))
+    way s (fork r ∷ es) g h o t = ⊎-elim
+        (λ l. goes-on s g (fork r) es l refl (way (step s (fork r)) es refl (omega arith) o t)) (stops s g (fork r) es h o)
+        (lt-or-le (s .tally .tries) (w .limit))
+    way s (reading d ∷ es) g h o t = ⊎-elim
+        (λ l. ⊎-elim
+        (λ e. fills s g d es l (add-one _ ∙ e) here)
+        (λ k. goes-on s g (reading d) es l (try-open s d here (λ e. omega arith))
+        (way (step s (reading d)) es refl (omega arith) (omega arith) (λ x m. t x (List·Memᴰ·tail m))))
+        (eq-or-lt-of-le o))
+        (stops s g (reading d) es h o) (lt-or-le (s .tally .tries) (w .limit))
+      where
+        here : isAnswerSet b (readingOf b d) ≡ true
+        here = t _ (List·Memᴰ·head refl)
