@@ -4,3 +4,5 @@ pub mod Steps
 pub mod Branches
 pub mod Witness
 pub mod Check
+pub mod Rows
+pub mod Places

@@ -1,0 +1,224 @@
+-- A paper is accepted exactly if it keeps the printed rules and has at most 60,000 bytes; and what is accepted is certain, whoever wrote
+-- it. The accepted paper is cut at the trailer's places into steps, witness and trailer; a paper that keeps the rules is read back piece
+-- by piece. Document 00, demand 3; blueprint, K4 and K5.
+use mathlib.Core.Path.{_≡_, refl, sym, _∙_, ap}
+use mathlib.Core.Logic.{_↔_}
+use mathlib.Core.List.{List, [], _∷_, _++_, map}
+use Prim.Native.Nat.{ℕ, suc, _+_, _-_, _≤_, _%_, _/_}
+use native.Mathlib.Nat.{sub-zero, zero-add}
+use native.Mathlib.Omega.{arith}
+use lib.ListN.{length, getD, take, drop, length-append, length-map, length-take, length-drop}
+use lib.Seq.{take-length, take-at}
+use Rattle.meaning.specs.declared.AtomNo.{AtomNo}
+use Rattle.meaning.specs.Books.{atomNo, ruleNo, Book}
+use Rattle.meaning.specs.AnswerSet.{Certain}
+use Rattle.meaning.specs.Colours.{start}
+use Rattle.meaning.specs.Claim.{named, claimed, mark}
+use Rattle.meaning.specs.Paper.{numbers, Branch, Witness, trailer, Keeps}
+use Rattle.meaning.proofs.Papers.{keeps-certain}
+use Rattle.book.specs.Format.{u16At, partFrom, bookIn}
+use Rattle.book.specs.Rows.{Bytes}
+use Rattle.book.proofs.Slices.{part-length}
+use Rattle.checker.specs.Numbers.{certain}
+use Rattle.checker.specs.Branches.{done, branchOf}
+use Rattle.checker.specs.Witness.{fine, witnessOf}
+use Rattle.checker.specs.Check.{paperOf, checkOf}
+use Rattle.checker.specs.Rows.{GoodBytes, atomOf, countOf, startOf, claimOf, witnessBytes, Framed}
+use Rattle.checker.proofs.Bytes.{rules-back, numbers-back, part-none, part-two, part-split, read-two, read-past}
+use Rattle.checker.proofs.Branches.{done-branch, branch-done}
+use Rattle.checker.proofs.Witnesses.{fine-witness, witness-fine}
+use Rattle.checker.proofs.Rows.{PaperRow, nowhere, row-of, row-told, CheckRow, at-paper, row-checked, checked-row}
+
+-- ---- the pieces of an accepted paper
+
+record Accepted (b : Book) (s : List ℕ) : Type 0 where
+  framed : Framed b s
+  branch : Branch b (claimOf s) start (partFrom s (startOf s) 0)
+  witness : Witness b (map ruleNo (witnessBytes s))
+
+module _ (b : Book) (s : List ℕ) where
+  accepted-pieces : {a : ℕ} → paperOf b s ≡ certain a → (atomOf s ≡ a) × Accepted b s
+  accepted-pieces e = pieces (row-of b s e)
+    where
+      pieces : {a : ℕ} → PaperRow b s (certain a) → (atomOf s ≡ a) × Accepted b s
+      pieces (nowhere f p w) = (
+        refl,
+        record {
+          framed = f;
+          branch = let t = f .trailer in done-branch b (claimOf s) s (startOf s) (omega arith) _ 0 start _ p;
+          witness = fine-witness b s (startOf s) (countOf s) w;
+        },
+      )
+
+  -- the last six bytes
+  six : (i : ℕ) → i + 6 ≡ length s → partFrom s (length s) i
+      ≡ getD s i 0 ∷ (getD s (i + 1) 0 ∷ (getD s (i + 2) 0 ∷ (getD s (i + 2 + 1) 0 ∷ (getD s (i + 4) 0 ∷ (getD s (i + 4 + 1) 0 ∷ [])))))
+  six i e =
+      let n = length s in
+      let p : i + 2 + 2 ≡ i + 4 = omega arith in
+      let q : i + 4 + 2 ≡ n = omega arith in
+      part-two s n i (omega arith) (omega arith)
+      ∙ rw (part-two s n (i + 2) (omega arith) (omega arith), p, part-two s n (i + 4) (omega arith) (omega arith), q, part-none s n)
+
+  start-low : Bytes s → startOf s % 256 ≡ getD s (length s - 4) 0
+  unfolding u16At
+  start-low bytes = omega (arith, bytes (length s - 4))
+
+  start-high : Bytes s → startOf s / 256 ≡ getD s (length s - 4 + 1) 0
+  unfolding u16At
+  start-high bytes = omega (arith, bytes (length s - 4))
+
+  trailer-is : Bytes s → Framed b s → (i : ℕ) → i + 6 ≡ length s
+      → trailer (claimOf s) (countOf s) (startOf s) ≡ partFrom s (length s) i
+  unfolding trailer claimed mark
+  trailer-is bytes f i e =
+      let p₀ : length s - 6 ≡ i = omega arith in
+      let p₁ : length s - 5 ≡ i + 1 = omega arith in
+      let p₂ : length s - 4 ≡ i + 2 = omega arith in
+      let p₄ : length s - 2 ≡ i + 4 = omega arith in
+      let p₅ : length s - 1 ≡ i + 4 + 1 = omega arith in
+      rw (six i e, rw p₄ at (f .mark .first), rw p₅ at (f .mark .second), start-low bytes, start-high bytes, p₀, p₁, p₂)
+
+  -- a paper whose trailer is right is its three pieces
+  pieces-joined : Bytes s → Framed b s
+      → s ≡ partFrom s (startOf s) 0 ++ (witnessBytes s ++ trailer (claimOf s) (countOf s) (startOf s))
+  pieces-joined bytes f =
+      let from = startOf s in
+      let w = countOf s in
+      let n = length s in
+      let e : from + w + 6 ≡ n = f .trailer in
+      let q : from + w - from ≡ w = omega arith in
+      let whole : partFrom s n 0 ≡ s = rw (sub-zero, take-length) in
+      let rest : partFrom s n from ≡ witnessBytes s ++ partFrom s n (from + w) =
+      rw q at (part-split s n from (from + w) (omega arith) (omega arith)) in
+      sym whole ∙ part-split s n 0 from (omega arith) (omega arith) ∙ rw (rest, trailer-is bytes f (from + w) e)
+
+  keeps-pieces : Bytes s → Accepted b s → Keeps b (claimOf s) s
+  unfolding claimed
+  keeps-pieces bytes q =
+      let from = startOf s in
+      let f = q .framed in
+      let t : from + countOf s + 6 ≡ length s = f .trailer in
+      let n : length (partFrom s from 0) ≡ from = part-length s from 0 (omega arith) (omega arith) ∙ sub-zero from in
+      let w : length (map ruleNo (witnessBytes s)) ≡ countOf s = simp (length-map, length-take, length-drop) (omega arith) in
+      record {
+        steps = partFrom s from 0;
+        witness = map ruleNo (witnessBytes s);
+        bytes = rw (n, w, numbers-back (witnessBytes s)) (pieces-joined bytes f);
+        atom-in-book = f .atom;
+        branch = q .branch;
+        grounds = q .witness;
+      }
+
+  pub accepted-keeps : Bytes s → {a : ℕ} → paperOf b s ≡ certain a → Keeps b (named (atomNo a)) s × (length s ≤ 60000)
+  accepted-keeps bytes e = let (p, q) = accepted-pieces e in (rw p at (keeps-pieces bytes q), q .framed .size .at-most)
+
+  -- ---- a paper that keeps the printed rules
+
+  module _ (a : AtomNo) (g : Keeps b (named a) s) where
+    abbrev from : ℕ
+    from = length (g .steps)
+
+    abbrev w : ℕ
+    w = length (g .witness)
+
+    -- what the trailer says, where it stands
+    record Reads : Type 0 where
+      size : from + w + 6 ≡ length s
+      after-steps : drop from s ≡ numbers (g .witness) ++ trailer (named a) w from
+      atom : atomOf s ≡ a .0
+      count : countOf s ≡ w
+      begins : startOf s ≡ from
+      first : getD s (length s - 2) 0 ≡ 0x50
+      second : getD s (length s - 1) 0 ≡ 0x46
+
+    reads : Reads
+    unfolding trailer claimed mark u16At
+    reads =
+        let m = numbers (g .witness) in
+        let n : length m ≡ w = length-map (g .witness) (λ r. r .0) in
+        let e = ap length (g .bytes) ∙ length-append (g .steps) _ in
+        let z = length-append m (trailer (named a) w from) in
+        let size : from + w + 6 ≡ length s = omega arith in
+        let d₀ = rw zero-add at (read-past s 0 (g .steps) (g .bytes)) in
+        let d₁ = rw n at (read-past s from m d₀) in
+        let (x₀, x₁, d₂) = read-two s (from + w) d₁ in
+        let (x₂, x₃, d₄) = read-two s (from + w + 2) d₂ in
+        let (x₄, x₅, d₆) = read-two s (from + w + 2 + 2) d₄ in
+        let p₀ : length s - 6 ≡ from + w = omega arith in
+        let p₁ : length s - 5 ≡ from + w + 1 = omega arith in
+        let p₂ : length s - 4 ≡ from + w + 2 = omega arith in
+        let p₄ : length s - 2 ≡ from + w + 2 + 2 = omega arith in
+        let p₅ : length s - 1 ≡ from + w + 2 + 2 + 1 = omega arith in
+        record {
+          size = size;
+          after-steps = d₀;
+          atom = rw p₀ x₀;
+          count = rw p₁ x₁;
+          begins = rw (p₂, x₂, x₃) (omega arith);
+          first = rw p₄ x₄;
+          second = rw p₅ x₅;
+        }
+
+    pub keeps-accepted : length s ≤ 60000 → paperOf b s ≡ certain (a .0)
+    unfolding claimed
+    keeps-accepted h =
+        let r = reads in
+        let k : claimOf s ≡ named a = let p = r .atom in λ i. named (record { 0 = p i }) in
+        let z : 0 + from ≡ from = omega arith in
+        let n : length (numbers (g .witness)) ≡ w = length-map (g .witness) (λ r. r .0) in
+        let l : take w (drop from s) ≡ numbers (g .witness) = rw (r .after-steps) (take-at (numbers (g .witness)) _ w n) in
+        let f : Framed b s = record {
+          size = record { at-least = omega (arith, r .size); at-most = h };
+          mark = record { first = r .first; second = r .second };
+          trailer = rw (r .begins, r .count) (r .size);
+          atom = rw (r .atom) (g .atom-in-book);
+        } in
+        let walked : branchOf (suc from) b (named a) s from 0 start ≡ done from =
+        branch-done b (named a) s from (g .branch) 0 _ (g .bytes) (omega arith) (suc from) (omega arith) ∙ ap done z in
+        let grounds : witnessOf b s from w ≡ fine = witness-fine b s from w (rw (l, rules-back (g .witness)) (g .grounds)) in
+        row-told b s (nowhere f (rw (r .begins, k) walked) (rw (r .begins, r .count) grounds)) ∙ ap certain (r .atom)
+
+  pub check-keeps : Bytes s → (a : ℕ) → (paperOf b s ≡ certain a) ↔ (Keeps b (named (atomNo a)) s × (length s ≤ 60000))
+  check-keeps bytes a = (accepted-keeps bytes, λ (g, h). keeps-accepted (atomNo a) g h)
+
+  -- ---- what is accepted is certain
+
+  -- the pieces keep the printed rules, written with the bytes that the trailer should have
+  pub accepted-certain : {a : ℕ} → paperOf b s ≡ certain a → Certain b (atomNo a)
+  unfolding claimed
+  accepted-certain e =
+      let (p, q) = accepted-pieces e in
+      let kept : Keeps b (claimOf s) _ = record {
+        steps = partFrom s (startOf s) 0;
+        witness = map ruleNo (witnessBytes s);
+        bytes = refl;
+        atom-in-book = q .framed .atom;
+        branch = q .branch;
+        grounds = q .witness;
+      } in
+      rw p at (keeps-certain b (atomNo (atomOf s)) kept)
+
+-- ---- over the bytes of the book
+
+module _ (book paper : List ℕ) where
+  -- accepted means that the book has an answer set and the atom is in all of them, whoever wrote the paper
+  pub check-sound : {a : ℕ} → checkOf book paper ≡ certain a → Certain (bookIn book) (atomNo a)
+  check-sound e = by-row (checked-row book paper e)
+    where
+      by-row : {a : ℕ} → CheckRow book paper (certain a) → Certain (bookIn book) (atomNo a)
+      by-row (at-paper g r) = accepted-certain (bookIn book) paper (row-told (bookIn book) paper r)
+
+  -- a paper that keeps the printed rules of a good book is accepted, and tells the claimed atom
+  pub check-complete : GoodBytes book → (a : AtomNo) → Keeps (bookIn book) (named a) paper → length paper ≤ 60000
+      → checkOf book paper ≡ certain (a .0)
+  check-complete read a g h = row-checked book paper (at-paper read (row-of (bookIn book) paper (keeps-accepted (bookIn book) paper a g h)))
+
+  pub check-exact : Bytes paper → (a : ℕ)
+      → (checkOf book paper ≡ certain a) ↔ (GoodBytes book × Keeps (bookIn book) (named (atomNo a)) paper × (length paper ≤ 60000))
+  check-exact bytes a = (λ e. there (checked-row book paper e), λ (read, g, h). check-complete read (atomNo a) g h)
+    where
+      there : {a : ℕ} → CheckRow book paper (certain a)
+          → GoodBytes book × Keeps (bookIn book) (named (atomNo a)) paper × (length paper ≤ 60000)
+      there (at-paper read r) =
+          let (g, h) = accepted-keeps (bookIn book) paper bytes (row-told (bookIn book) paper r) in (read, g, h)

@@ -1,0 +1,127 @@
+-- What checking a paper answers, row by row: each answer with what the tests before it found, both ways. A chain of the laws of choice for
+-- each row, and the rows leave no case out. Document 01, "Numbers given back", 20 to 27.
+use mathlib.Core.Path.{_≡_, refl, sym, _∙_, subst}
+use mathlib.Core.Logic.{⊎-elim}
+use mathlib.Core.List.{List}
+use Prim.Native.Nat.{ℕ, suc, _-_}
+use native.Mathlib.Omega.{arith}
+use lib.ListN.{length}
+use Rattle.meaning.specs.Books.{Rule, Book}
+use Rattle.meaning.specs.Colours.{start}
+use Rattle.meaning.proofs.Choice.{lt-yes, lt-no, lt-either, eq-yes, eq-no, eq-either}
+use Rattle.book.specs.Format.{Reading, good, bad, readOf, bookOf, bookIn}
+use Rattle.checker.specs.Numbers.{Told, certain, refused}
+use Rattle.checker.specs.Branches.{Walked, done, stopped, branchOf}
+use Rattle.checker.specs.Witness.{Check, fine, wrong, witnessOf}
+use Rattle.checker.specs.Check.{witnessTold, branchTold, stepsTold, trailerTold, paperOf, checkReading, checkOf}
+use Rattle.checker.specs.Rows.{GoodBytes, atomOf, countOf, startOf, claimOf, LengthGood, MarkGood, TrailerGood, AtomGood, Framed}
+use Rattle.checker.proofs.Branches.{stopped-between}
+
+-- the branch from byte 0
+abbrev pub walkOf : Book → List ℕ → Walked
+walkOf b s = branchOf (suc (startOf s)) b (claimOf s) s (startOf s) 0 start
+
+pub data PaperRow (b : Book) (s : List ℕ) : Told → Type 0 where
+  at-length : ¬ LengthGood s → PaperRow b s (refused 20 0)
+  at-mark : LengthGood s → ¬ MarkGood s → PaperRow b s (refused 21 (length s - 2))
+  at-trailer : LengthGood s → MarkGood s → ¬ TrailerGood s → PaperRow b s (refused 22 (length s - 4))
+  at-atom : LengthGood s → MarkGood s → TrailerGood s → ¬ AtomGood b s → PaperRow b s (refused 23 (length s - 6))
+  at-form : {at : ℕ} → Framed b s → walkOf b s ≡ stopped 24 at → PaperRow b s (refused 24 at)
+  at-step : {at : ℕ} → Framed b s → walkOf b s ≡ stopped 25 at → PaperRow b s (refused 25 at)
+  at-gap : {at : ℕ} → Framed b s → walkOf b s ≡ done at → ¬ (at ≡ startOf s) → PaperRow b s (refused 26 at)
+  at-witness : {at : ℕ} → Framed b s → walkOf b s ≡ done (startOf s) → witnessOf b s (startOf s) (countOf s) ≡ wrong at
+      → PaperRow b s (refused 27 at)
+  nowhere : Framed b s → walkOf b s ≡ done (startOf s) → witnessOf b s (startOf s) (countOf s) ≡ fine → PaperRow b s (certain (atomOf s))
+
+module _ (b : Book) (s : List ℕ) where
+  -- ---- every answer has its row
+
+  witness-row : Framed b s → walkOf b s ≡ done (startOf s) → (c : Check) → witnessOf b s (startOf s) (countOf s) ≡ c
+      → PaperRow b s (witnessTold (atomOf s) c)
+  unfolding witnessTold
+  witness-row f e fine w = nowhere f e w
+  witness-row f e (wrong at) w = at-witness f e w
+
+  walk-row : Framed b s → (w : Walked) → walkOf b s ≡ w → PaperRow b s (branchTold b s (atomOf s) (countOf s) (startOf s) w)
+  unfolding branchTold
+  walk-row f (done at) e =
+      eq-either (PaperRow b s) _ _ _ _ (λ p. witness-row f (rw p at e) _ refl) (λ n. at-gap f e n)
+  walk-row f (stopped i at) e =
+      ⊎-elim (λ (p : i ≡ 24). rw p (at-form f (rw p at e))) (λ (p : i ≡ 25). rw p (at-step f (rw p at e)))
+      (stopped-between b (claimOf s) s (startOf s) _ 0 start (omega arith) e .number)
+
+  pub paper-row : PaperRow b s (paperOf b s)
+  unfolding paperOf trailerTold stepsTold
+  paper-row =
+      lt-either P _ _ _ _ (λ h. at-length (λ l. omega (arith, l .at-least)))
+      λ h. lt-either P _ _ _ _ (λ k. at-length (λ l. omega (arith, l .at-most)))
+      λ k. let size : LengthGood s = record { at-least = h; at-most = k } in
+      eq-either P _ _ _ _
+      (λ e. eq-either P _ _ _ _ (λ f. marked size (record { first = e; second = f })) (λ f. at-mark size (λ m. f (m .second))))
+      (λ e. at-mark size (λ m. e (m .first)))
+    where
+      P : Told → Type 0
+      P = PaperRow b s
+
+      marked : LengthGood s → MarkGood s → P (trailerTold b s (atomOf s) (countOf s) (startOf s))
+      marked size mark =
+          eq-either P _ _ _ _
+          (λ t. lt-either P _ _ _ _ (λ a. walk-row (record { size = size; mark = mark; trailer = t; atom = a }) _ refl)
+          (λ a. at-atom size mark t (λ h. omega arith)))
+          (at-trailer size mark)
+
+  -- ---- and a row's own tests give its answer
+
+  marked-told : LengthGood s → MarkGood s → paperOf b s ≡ trailerTold b s (atomOf s) (countOf s) (startOf s)
+  unfolding paperOf
+  marked-told l m = lt-no _ _ _ _ (l .at-least) ∙ lt-no _ _ _ _ (l .at-most) ∙ eq-yes _ _ _ _ (m .first) ∙ eq-yes _ _ _ _ (m .second)
+
+  framed-told : Framed b s → {w : Walked} → walkOf b s ≡ w → paperOf b s ≡ branchTold b s (atomOf s) (countOf s) (startOf s) w
+  unfolding trailerTold stepsTold
+  framed-told f e = marked-told (f .size) (f .mark) ∙ eq-yes _ _ _ _ (f .trailer) ∙ lt-yes _ _ _ _ (f .atom) ∙ rw e
+
+  pub row-told : {x : Told} → PaperRow b s x → paperOf b s ≡ x
+  unfolding paperOf trailerTold branchTold witnessTold
+  row-told (at-length m) =
+      lt-either (λ x. x ≡ refused 20 0) _ _ _ _ (λ _. refl) λ h. lt-either (λ x. x ≡ refused 20 0) _ _ _ _ (λ _. refl)
+      λ k. absurd (m (record { at-least = h; at-most = k }))
+  row-told (at-mark l m) =
+      let P : Told → Type 0 = λ x. x ≡ refused 21 (length s - 2) in
+      lt-no _ _ _ _ (l .at-least)
+      ∙ lt-no _ _ _ _ (l .at-most)
+      ∙ eq-either P _ _ _ _ (λ e. eq-either P _ _ _ _ (λ f. absurd (m (record { first = e; second = f }))) (λ _. refl)) (λ _. refl)
+  row-told (at-trailer l m t) = marked-told l m ∙ eq-no _ _ _ _ t
+  row-told (at-atom l m t a) =
+      marked-told l m ∙ eq-yes _ _ _ _ t ∙ lt-either (λ x. x ≡ refused 23 (length s - 6)) _ _ _ _ (λ h. absurd (a h)) (λ _. refl)
+  row-told (at-form f e) = framed-told f e
+  row-told (at-step f e) = framed-told f e
+  row-told (at-gap f e n) = framed-told f e ∙ eq-no _ _ _ _ n
+  row-told (at-witness f e w) = framed-told f e ∙ eq-yes _ _ _ _ refl ∙ rw w
+  row-told (nowhere f e w) = framed-told f e ∙ eq-yes _ _ _ _ refl ∙ rw w
+
+  pub row-of : {x : Told} → paperOf b s ≡ x → PaperRow b s x
+  row-of e = subst (PaperRow b s) e paper-row
+
+-- ---- the book is refused, or the paper is checked
+
+pub data CheckRow (book paper : List ℕ) : Told → Type 0 where
+  at-book : {i at : ℕ} → readOf book ≡ bad i at → CheckRow book paper (refused i at)
+  at-paper : {x : Told} → GoodBytes book → PaperRow (bookIn book) paper x → CheckRow book paper x
+
+module _ (book paper : List ℕ) where
+  reading-good : {n k index : ℕ} {l : List Rule} → readOf book ≡ good n k index l → checkOf book paper ≡ paperOf (bookIn book) paper
+  unfolding checkOf bookIn checkReading bookOf
+  reading-good e = rw e
+
+  pub row-checked : {x : Told} → CheckRow book paper x → checkOf book paper ≡ x
+  unfolding checkOf checkReading
+  row-checked (at-book e) = rw e
+  row-checked (at-paper g r) = reading-good (g .read) ∙ row-told (bookIn book) paper r
+
+  pub checked-row : {x : Told} → checkOf book paper ≡ x → CheckRow book paper x
+  checked-row e = subst (CheckRow book paper) e (by-reading (readOf book) refl)
+    where
+      by-reading : (x : Reading) → readOf book ≡ x → CheckRow book paper (checkOf book paper)
+      by-reading (good n k index l) r =
+          at-paper (record { atoms = n; rules = k; index = index; each = l; read = r }) (row-of (bookIn book) paper (sym (reading-good r)))
+      by-reading (bad i at) r = let c : CheckRow book paper (refused i at) = at-book r in rw (row-checked c) c
