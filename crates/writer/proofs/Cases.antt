@@ -1,0 +1,74 @@
+-- Worked books of document 01, named through their bytes, by computation: the two papers printed there byte for byte, the limit, an atom
+-- that is in one reading only, a book without a reading, an atom that the book does not have, and a buffer that is too short.
+use mathlib.Core.Path.{_≡_, refl}
+use mathlib.Core.List.{List, [], _∷_, _++_}
+use Prim.Native.Nat.{ℕ}
+use lib.ListN.{replicate}
+use Rattle.meaning.specs.Sets.{every, some, everyBelow, someBelow}
+use Rattle.meaning.specs.Books.{atomNo, sameAtom, sameRule, count, rule, everyRule, someRule}
+use Rattle.meaning.specs.AnswerSet.{generates, generating}
+use Rattle.meaning.specs.Colours.{put, heads, allIn, mayOn, blocked, starved, clashing, uncoloured}
+use Rattle.meaning.specs.Claim.{claimed, mark, shown, ended}
+use Rattle.meaning.specs.Paper.{trailer}
+use Rattle.meaning.specs.Written.{of, addFrom, added}
+use Rattle.meaning.specs.Computed.{iterate, upheld, supportMore, support, goesOff, closeMore, marked, close, barred, leastModel, agree}
+use Rattle.meaning.specs.Computed.{isAnswerSet}
+use Rattle.meaning.specs.Lowest.{onPick, oneOr, lowestFrom, lowest, listedIf, rulesFrom, rulesIn}
+use Rattle.meaning.specs.Engine.{firstOf, unsupported, next, listable, listing, witnessOf}
+use Rattle.meaning.specs.Choice.{ifb, ifLt, ifEq}
+use Rattle.book.specs.Format.{u16At, partOf, andThen, bytesOf, recordOf, lengthOf, ruleOf, recordsOf, rulesOf, readingOf, bodyOf, readOf}
+use Rattle.walk.specs.Events.{after, eventsIn, events}
+use Rattle.walk.specs.Run.{rowFrom, rowOf, writeAt, readingMet, tried, met as eventMet, run}
+use Rattle.walk.specs.Page.{setIn}
+use Rattle.writer.specs.Branches.{behind, branchBy, branchIn, branch, below, branchesIn, branches}
+use Rattle.writer.specs.Scan.{courseAt, met, scan}
+use Rattle.writer.specs.Name.{paper, fewer, stopped, refused, firstWalk, paperWalk, wholePaper, handOver, afterPaperWalk}
+use Rattle.writer.specs.Name.{afterFirstWalk, nameIn, nameReading, nameOf}
+
+-- "Fact 0: 00 00 00 | 00 00 | 01 01 03 00 52 42"
+abbrev fact : List ℕ
+fact = 0 ∷ 0 ∷ 0 ∷ 0 ∷ 0 ∷ 1 ∷ 1 ∷ 3 ∷ 0 ∷ 0x52 ∷ 0x42 ∷ []
+
+-- "0 if not 0"
+abbrev contrary : List ℕ
+contrary = 0 ∷ 0 ∷ 1 ∷ 0 ∷ 0 ∷ 0 ∷ 1 ∷ 1 ∷ 4 ∷ 0 ∷ 0x52 ∷ 0x42 ∷ []
+
+-- "0 if not 1; 1 if not 0"
+abbrev choice : List ℕ
+choice = 0 ∷ 0 ∷ 1 ∷ 1 ∷ 1 ∷ 0 ∷ 1 ∷ 0 ∷ 0 ∷ 0 ∷ 4 ∷ 0 ∷ 2 ∷ 2 ∷ 8 ∷ 0 ∷ 0x52 ∷ 0x42 ∷ []
+
+-- "2 if 0; 2 if 1; 0 if not 1; 1 if not 0"
+abbrev either-way : List ℕ
+either-way =
+    2 ∷ 1 ∷ 0 ∷ 0 ∷ 2 ∷ 1 ∷ 0 ∷ 1 ∷ 0 ∷ 0 ∷ 1 ∷ 1 ∷ 1 ∷ 0 ∷ 1 ∷ 0 ∷ 0 ∷ 0 ∷ 4 ∷ 0 ∷ 8 ∷ 0 ∷ 12 ∷ 0 ∷ 3 ∷ 4 ∷ 16 ∷ 0 ∷ 0x52 ∷ 0x42 ∷ []
+
+-- "41 00 45 | 00 | 00 01 03 00 50 46"
+abbrev fact-paper : List ℕ
+fact-paper = 0x41 ∷ 0 ∷ 0x45 ∷ 0 ∷ 0 ∷ 1 ∷ 3 ∷ 0 ∷ 0x50 ∷ 0x46 ∷ []
+
+-- "53 00 45 53 01 45 53 02 41 00 45 41 03 41 01 45 | 02 00 | 02 02 10 00 50 46"
+abbrev either-way-paper : List ℕ
+either-way-paper =
+    0x53 ∷ 0 ∷ 0x45 ∷ 0x53 ∷ 1 ∷ 0x45 ∷ 0x53 ∷ 2 ∷ 0x41 ∷ 0 ∷ 0x45 ∷ 0x41 ∷ 3 ∷ 0x41 ∷ 1 ∷ 0x45
+    ∷ 2 ∷ 0 ∷ 2 ∷ 2 ∷ 0x10 ∷ 0 ∷ 0x50 ∷ 0x46 ∷ []
+
+-- a buffer of n bytes, each 7
+abbrev sevens : ℕ → List ℕ
+sevens n = replicate n 7
+
+pub worked :
+    (nameOf fact (atomNo 0) 1000 (sevens 12) ≡ record { told = paper 1 10; buffer = fact-paper ++ sevens 2 })
+    × (nameOf fact (atomNo 0) 0 (sevens 12) ≡ record { told = stopped 0; buffer = sevens 12 })
+    × (nameOf fact (atomNo 0) 1000 (sevens 9) ≡ record { told = refused 14; buffer = sevens 9 })
+    × (nameOf fact (atomNo 1) 1000 (sevens 12) ≡ record { told = refused 13; buffer = sevens 12 })
+    × (nameOf contrary (atomNo 0) 1000 (sevens 12) ≡ record { told = fewer 3 0; buffer = sevens 12 })
+    × (nameOf choice (atomNo 0) 1000 (sevens 12) ≡ record { told = refused 12; buffer = sevens 12 })
+    × (nameOf either-way (atomNo 2) 1000 (sevens 24) ≡ record { told = paper 7 24; buffer = either-way-paper })
+unfolding every some everyBelow someBelow sameAtom sameRule count rule everyRule someRule generates generating put heads allIn
+    mayOn blocked starved clashing uncoloured claimed mark shown ended trailer of addFrom added iterate upheld supportMore support
+    goesOff closeMore marked close barred leastModel agree isAnswerSet onPick oneOr lowestFrom lowest listedIf rulesFrom rulesIn
+    firstOf unsupported next listable listing witnessOf ifb ifLt ifEq u16At partOf andThen bytesOf recordOf lengthOf ruleOf
+    recordsOf rulesOf readingOf bodyOf readOf after eventsIn events rowFrom rowOf writeAt readingMet tried eventMet run setIn
+    behind branchBy branchIn branch below branchesIn branches courseAt met scan firstWalk paperWalk wholePaper handOver
+    afterPaperWalk afterFirstWalk nameIn nameReading nameOf
+worked = (refl, refl, refl, refl, refl, refl, refl)

@@ -1,0 +1,196 @@
+-- What a naming answers (demand 3; blueprint, N2, N3, N5 and N7), for a good book and an atom of it: in document 01's order 9, 11, 9, 12
+-- and 14, each exactly under its condition, else the paper, which keeps the printed rules; where the claim holds throughout it is never
+-- 11 or 12; where it fails of an answer set it is 12 or 9. All of it is read off the ways that a call can go (proofs/Ways).
+use mathlib.Core.Path.{_≡_, refl, ap, subst}
+use mathlib.Core.Logic.{_⊎_, inl, inr, ⊎-elim, _↔_}
+use mathlib.Core.Bool.{true}
+use mathlib.Core.List.{List, _++_}
+use Prim.Native.Nat.{ℕ, _≤_, _<_}
+use native.Mathlib.Omega.{arith}
+use lib.ListN.{length, drop}
+use Rattle.meaning.specs.Sets.{_∉_, every}
+use Rattle.meaning.specs.Books.{Atoms, Book}
+use Rattle.meaning.specs.AnswerSet.{AnswerSet, Throughout}
+use Rattle.meaning.specs.Colours.{start}
+use Rattle.meaning.specs.Claim.{Claim, meant}
+use Rattle.meaning.specs.Paper.{Keeps}
+use Rattle.meaning.proofs.Tests.{clash}
+use Rattle.walk.specs.Readings.{readings}
+use Rattle.walk.specs.Tries.{Kth, to-reading, to-end}
+use Rattle.walk.specs.Tries.{Needs as NeedsTries}
+use Rattle.walk.proofs.Needs.{kth-one}
+use Rattle.walk.proofs.Needs.{needs-one as tries-one}
+use Rattle.writer.specs.Branches.{branches}
+use Rattle.writer.specs.Needs.{settled, Stuck, Needs, to-stuck, paperFor}
+use Rattle.writer.specs.Needs.{to-end as to-last}
+use Rattle.writer.specs.Name.{Told, paper, fewer, stopped, refusedAt, refused, Answered, nameIn}
+use Rattle.writer.proofs.Needs.{stuck-unsettled, needs-one}
+use Rattle.writer.proofs.Papers.{settled-each, unsettled-one, certain-settled, paper-keeps}
+use Rattle.writer.proofs.First.{kth-answer, fewer-none}
+use Rattle.writer.proofs.Ways.{Nameable, written, Found, Settled, TooLong, Outcome, first-stopped, no-reading, paper-stopped}
+use Rattle.writer.proofs.Ways.{got-stuck, too-long, handed-over, way-first-stopped, way-no-reading, way-paper-stopped, way-stuck}
+use Rattle.writer.proofs.Ways.{way-too-long, way-paper, name-outcome}
+
+module _ (b : Book) (k : Claim) (limit : ℕ) (buffer : List ℕ) where
+  -- what is told, and the buffer afterwards, say which way the call went
+  Says : Told → List ℕ → Type 0
+  Says (paper t n) after = (x : Atoms) × Found b limit x × Settled b k limit × (t ≡ length (branches b k start))
+      × (n ≡ length (paperFor b k x)) × (n ≤ length buffer) × (n ≤ 60000) × (after ≡ paperFor b k x ++ drop n buffer)
+  Says (fewer t n) after = length (readings b) < 1
+  Says (stopped l) after =
+      ((n : ℕ) × NeedsTries b 1 n × (limit < n)) ⊎ ((n : ℕ) × Needs b k n × (limit < n) × (x : Atoms) × Found b limit x)
+  Says (refusedAt i at) after = ⊥
+  Says (refused i) after = ((n : ℕ) × Stuck b k n × (i ≡ 12)) ⊎ ((x : Atoms) × Found b limit x × TooLong b k buffer x × (i ≡ 14))
+
+  outcome-says : {a : Answered} → Outcome b k limit buffer a → Says (a .told) (a .buffer)
+  unfolding Says
+  outcome-says (first-stopped {n} p h) = inl (n, p, h)
+  outcome-says (no-reading h l) = h
+  outcome-says (paper-stopped {x} {n} f p h) = inr (n, p, h, x, f)
+  outcome-says (got-stuck {n = n} f u h) = inl (n, u, refl)
+  outcome-says (too-long {x} f s l) = inr (x, f, l, refl)
+  outcome-says (handed-over {x} f s h l) = (x, f, s, refl, refl, h, l, refl)
+
+  module _ (good : Nameable b k) where
+    says : {t : Told} → nameIn b k limit buffer .told ≡ t → Says t (nameIn b k limit buffer .buffer)
+    says e = subst (λ (t : Told). Says t (nameIn b k limit buffer .buffer)) e (outcome-says (name-outcome b k limit buffer good))
+
+    told-by : {a : Answered} → nameIn b k limit buffer ≡ a → nameIn b k limit buffer .told ≡ a .told
+    told-by e = ap (λ (a : Answered). a .told) e
+
+    -- ---- in document 01's order
+
+    -- "9 exactly if the first walk needs more than L tries to come to answer set 1 or to its end"; for the converse see name-stopped
+    pub name-first-stopped : {n : ℕ} → NeedsTries b 1 n → limit < n
+        → nameIn b k limit buffer ≡ record { told = stopped limit; buffer = buffer }
+    name-first-stopped p h = way-first-stopped b k limit buffer good p h
+
+    module _ {n : ℕ} (tries : NeedsTries b 1 n) (within : n ≤ limit) where
+      -- "otherwise 11 exactly if there is no answer set", with all tries of that walk
+      pub name-none : (nameIn b k limit buffer .told ≡ fewer n 0) ↔ ((x : Atoms) → AnswerSet b x → ⊥)
+      unfolding Says
+      name-none = (λ e. fewer-none b (good .few-rules) (says e), back tries within)
+        where
+          back : {n : ℕ} → NeedsTries b 1 n → n ≤ limit → ((x : Atoms) → AnswerSet b x → ⊥) → nameIn b k limit buffer .told ≡ fewer n 0
+          back (to-reading {x = x} first) h none = absurd (none x (kth-answer b (good .few-rules) first))
+          back (to-end f) h none = told-by (way-no-reading b k limit buffer good f h)
+
+      module _ (some : (x : Atoms) × AnswerSet b x) {m : ℕ} (needs : Needs b k m) where
+        found : (x : Atoms) × Found b limit x
+        found = by tries within
+          where
+            by : {n : ℕ} → NeedsTries b 1 n → n ≤ limit → (x : Atoms) × Found b limit x
+            by {n} (to-reading {x = x} first) h = (x, (n, first, h))
+            by (to-end f) h = absurd (fewer-none b (good .few-rules) f (some .0) (some .1))
+
+        -- "otherwise 9 exactly if the paper's walk needs more than L branches to get stuck or to its end"
+        pub name-paper-stopped : (nameIn b k limit buffer .told ≡ stopped limit) ↔ (limit < m)
+        unfolding Says
+        name-paper-stopped = (
+          λ e. ⊎-elim (λ (i, p, h). absurd (omega (arith, tries-one b p tries)))
+              (λ (i, p, h, x, f). omega (arith, needs-one b k p needs)) (says e),
+          λ h. told-by (way-paper-stopped b k limit buffer good (found .1) needs h),
+        )
+
+        module _ (enough : m ≤ limit) where
+          -- "otherwise 12 exactly if it gets stuck"
+          pub name-not-certain : (nameIn b k limit buffer .told ≡ refused 12) ↔ Stuck b k m
+          unfolding Says
+          name-not-certain = (
+            λ e. ⊎-elim (λ (i, p, q). rw (needs-one b k (to-stuck p) needs) at p) (λ (x, f, l, q). absurd (omega (arith, q))) (says e),
+            λ u. told-by (way-stuck b k limit buffer good (found .1) u enough),
+          )
+
+          module _ (all : every settled (branches b k start) ≡ true) {t : ℕ} {x : Atoms} (first : Kth b 1 t x) where
+            first-found : Found b limit x
+            first-found = (t, first, omega (arith, tries-one b (to-reading first) tries))
+
+            within-limit : Settled b k limit
+            within-limit = (all, omega (arith, needs-one b k (to-last all) needs))
+
+            -- "otherwise 14 exactly if the paper is longer than the room or 60,000"
+            pub name-too-long : (nameIn b k limit buffer .told ≡ refused 14)
+                ↔ ((length buffer < length (paperFor b k x)) ⊎ (60000 < length (paperFor b k x)))
+            unfolding Says
+            name-too-long = (
+              λ e. ⊎-elim (λ (i, p, q). absurd (omega (arith, q)))
+                  (λ (y, (u, f, h), l, q). rw (kth-one b f first .1) at l) (says e),
+              λ l. told-by (way-too-long b k limit buffer good first-found within-limit l),
+            )
+
+            -- "else the paper": its walk's branches and its length are told, it stands from byte 0, and the later bytes keep
+            pub name-paper : length (paperFor b k x) ≤ length buffer → length (paperFor b k x) ≤ 60000
+                → nameIn b k limit buffer ≡ record {
+                  told = paper (length (branches b k start)) (length (paperFor b k x));
+                  buffer = paperFor b k x ++ drop (length (paperFor b k x)) buffer;
+                }
+            name-paper l h = way-paper b k limit buffer good first-found within-limit l h
+
+    -- both 9s together
+    pub name-stopped : {n m : ℕ} → NeedsTries b 1 n → Needs b k m → (nameIn b k limit buffer .told ≡ stopped limit)
+        ↔ ((limit < n) ⊎ ((n ≤ limit) × ((x : Atoms) × AnswerSet b x) × (limit < m)))
+    unfolding Says
+    name-stopped tries needs = (
+      λ e. ⊎-elim (λ (i, p, h). inl (omega (arith, tries-one b p tries))) (λ (i, p, h, x, (t, first, g)).
+          let answer = kth-answer b (good .few-rules) first in
+          inr (omega (arith, tries-one b (to-reading first) tries), (x, answer), omega (arith, needs-one b k p needs))) (says e),
+      λ s. ⊎-elim (λ h. told-by (name-first-stopped tries h)) (λ (h, some, g). name-paper-stopped tries h some needs .1 g) s,
+    )
+
+    -- ---- what an answer means
+
+    -- every paper that is told keeps the printed rules, is at most 60,000 bytes and stands in the buffer
+    pub name-written : {t n : ℕ} → nameIn b k limit buffer .told ≡ paper t n
+        → (x : Atoms) × AnswerSet b x × (t ≡ length (branches b k start)) × (n ≡ length (paperFor b k x)) × (n ≤ length buffer)
+        × (n ≤ 60000) × (nameIn b k limit buffer .buffer ≡ paperFor b k x ++ drop n buffer) × Keeps b k (paperFor b k x)
+    unfolding Says
+    name-written e =
+        let (x, (t, first, h), s, p, q, room, most, stands) = says e in
+        let answer = kth-answer b (good .few-rules) first in
+        (x, answer, p, q, room, most, stands, paper-keeps b k (good .few-rules) (s .0) (good .atom-below) x answer)
+
+    -- 12 is told only if the claim fails of an answer set
+    pub name-lacks : nameIn b k limit buffer .told ≡ refused 12 → (x : Atoms) × AnswerSet b x × (x ∉ meant k)
+    unfolding Says
+    name-lacks e = ⊎-elim
+        (λ (n, u, q). unsettled-one b k (good .few-rules) (stuck-unsettled b k u)) (λ (x, f, l, q). absurd (omega (arith, q))) (says e)
+
+    pub name-never-10 : nameIn b k limit buffer .told ≡ refused 10 → ⊥
+    unfolding Says
+    name-never-10 e = ⊎-elim (λ (n, u, q). absurd (omega (arith, q))) (λ (x, f, l, q). absurd (omega (arith, q))) (says e)
+
+    -- where the claim holds throughout, the answer is never 11 and never 12
+    pub name-certain : Throughout b (meant k)
+        → ((t n : ℕ) → nameIn b k limit buffer .told ≡ fewer t n → ⊥) × (nameIn b k limit buffer .told ≡ refused 12 → ⊥)
+    unfolding Says
+    name-certain c = (
+      λ t n e. fewer-none b (good .few-rules) (says e) (c .one .0) (c .one .1),
+      λ e. let (x, answer, n) = name-lacks e in clash (c .each x answer) n,
+    )
+
+    -- "When the atom is in all answer sets, and there is at least one, the engine writes such a paper unless document 01's walks pass the
+    -- tries limit or its paper passes the room given or 60,000 bytes"
+    pub name-writes : Throughout b (meant k) → {t : ℕ} {x : Atoms} → Kth b 1 t x → t ≤ limit → length (branches b k start) ≤ limit
+        → length (paperFor b k x) ≤ length buffer → length (paperFor b k x) ≤ 60000
+        → (nameIn b k limit buffer ≡ written b k buffer x) × Keeps b k (paperFor b k x)
+    name-writes c {t} {x} first h l room most =
+        let s = certain-settled b k (good .few-rules) c in (
+          way-paper b k limit buffer good (t, first, h) (s, l) room most,
+          paper-keeps b k (good .few-rules) s (good .atom-below) x (kth-answer b (good .few-rules) first),
+        )
+
+    -- where it fails of an answer set, the answer is 12 or 9
+    pub name-uncertain : (x : Atoms) → AnswerSet b x → x ∉ meant k
+        → (nameIn b k limit buffer .told ≡ refused 12) ⊎ (nameIn b k limit buffer .told ≡ stopped limit)
+    name-uncertain x answer n = by (name-outcome b k limit buffer good)
+      where
+        open-branch : {A : Type 0} → Settled b k limit → A
+        open-branch s = clash (settled-each b k (good .few-rules) (s .0) x answer) n
+
+        by : {a : Answered} → Outcome b k limit buffer a → (a .told ≡ refused 12) ⊎ (a .told ≡ stopped limit)
+        by (first-stopped p h) = inr refl
+        by (no-reading h l) = absurd (fewer-none b (good .few-rules) h x answer)
+        by (paper-stopped f p h) = inr refl
+        by (got-stuck f u h) = inl refl
+        by (too-long f s l) = open-branch s
+        by (handed-over f s h l) = open-branch s

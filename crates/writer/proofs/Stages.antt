@@ -1,0 +1,90 @@
+-- What a naming answers, stage by stage (document 01, "Naming: 13; then answer set 1 ...; then the paper's walk ...; then 14"): the book's
+-- refusals come first, then 13; a paper is handed over only if it fits; and the buffer changes only where a paper is told.
+use mathlib.Core.Path.{_≡_, refl, _∙_}
+use mathlib.Core.Logic.{_⊎_, inl, inr}
+use mathlib.Core.List.{List, _++_}
+use Prim.Native.Nat.{ℕ, _≤_, _<_}
+use native.Mathlib.Nat.{zero-add}
+use lib.ListN.{length, drop}
+use Rattle.meaning.specs.declared.AtomNo.{AtomNo}
+use Rattle.meaning.specs.Books.{Rule, Book}
+use Rattle.meaning.specs.Claim.{Claim, named, claimed}
+use Rattle.meaning.proofs.Choice.{lt-yes, lt-no, lt-either}
+use Rattle.book.specs.Format.{Reading, good, bad, readOf}
+use Rattle.walk.specs.Run.{State, writeAt}
+use Rattle.walk.specs.declared.tally.Halt.{Halt}
+use Rattle.walk.specs.declared.tally.Halt.the-variants.{Going, Full, Limit, NotLeast}
+use Rattle.writer.specs.Scan.{Course, writing, limited, refuted, Progress}
+use Rattle.writer.specs.Name.{paper, refusedAt, refused, Answered, handOver, afterPaperWalk, afterFirstWalk, nameIn, nameReading}
+use Rattle.writer.specs.Name.{nameOf}
+
+-- ---- the paper is handed over
+
+module _ (tries : ℕ) (whole buffer : List ℕ) where
+  pub hand-no-room : length buffer < length whole → handOver tries whole buffer ≡ record { told = refused 14; buffer = buffer }
+  unfolding handOver
+  hand-no-room h = lt-yes _ _ _ _ h
+
+  pub hand-long : 60000 < length whole → handOver tries whole buffer ≡ record { told = refused 14; buffer = buffer }
+  unfolding handOver
+  hand-long h = lt-either (λ a. a ≡ record { told = refused 14; buffer = buffer }) _ _ _ _ (λ g. refl) (λ g. lt-yes _ _ _ _ h)
+
+  pub hand-over : length whole ≤ length buffer → length whole ≤ 60000 → handOver tries whole buffer
+      ≡ record { told = paper tries (length whole); buffer = whole ++ drop (length whole) buffer }
+  unfolding handOver writeAt
+  hand-over h g = lt-no _ _ _ _ h ∙ lt-no _ _ _ _ g ∙ rw zero-add
+
+-- ---- where the buffer stays
+
+-- the answer tells a paper, or the buffer is as before
+abbrev Keeping : List ℕ → Answered → Type 0
+Keeping buffer a = ((tries : ℕ) × (n : ℕ) × (a .told ≡ paper tries n)) ⊎ (a .buffer ≡ buffer)
+
+module _ (b : Book) (k : Claim) (limit : ℕ) (buffer : List ℕ) where
+  hand-keeping : (tries : ℕ) (whole : List ℕ) → Keeping buffer (handOver tries whole buffer)
+  unfolding handOver
+  hand-keeping tries whole =
+      lt-either (Keeping buffer) _ _ _ _ (λ h. inr refl)
+      (λ h. lt-either (Keeping buffer) _ _ _ _ (λ g. inr refl) (λ g. inl (tries, _, refl)))
+
+  paper-keeping : (h : Course) (p : Progress) (row : List ℕ) → Keeping buffer (afterPaperWalk h b k limit p row buffer)
+  unfolding afterPaperWalk
+  paper-keeping writing p row = hand-keeping _ _
+  paper-keeping limited p row = inr refl
+  paper-keeping refuted p row = inr refl
+
+  first-keeping : (h : Halt) (s : State) → Keeping buffer (afterFirstWalk h b k limit s buffer)
+  unfolding afterFirstWalk
+  first-keeping Going s = inr refl
+  first-keeping Full s = paper-keeping _ _ (s .out)
+  first-keeping Limit s = inr refl
+  first-keeping NotLeast s = inr refl
+
+  name-in-keeping : Keeping buffer (nameIn b k limit buffer)
+  unfolding nameIn
+  name-in-keeping = lt-either (Keeping buffer) _ _ _ _ (λ h. first-keeping _ _) (λ h. inr refl)
+
+-- ---- the book's refusals, and 13
+
+module _ (book : List ℕ) (a : AtomNo) (limit : ℕ) (buffer : List ℕ) where
+  pub name-bad-book : (i at : ℕ) → readOf book ≡ bad i at → nameOf book a limit buffer ≡ record { told = refusedAt i at; buffer = buffer }
+  unfolding nameOf nameReading
+  name-bad-book i at e = rw e
+
+  module _ (n r index : ℕ) (l : List Rule) (e : readOf book ≡ good n r index l) where
+    pub name-good-book : nameOf book a limit buffer ≡ nameIn (record { atoms = n; rules = l }) (named a) limit buffer
+    unfolding nameOf nameReading
+    name-good-book = rw e
+
+    pub name-no-atom : n ≤ a .0 → nameOf book a limit buffer ≡ record { told = refused 13; buffer = buffer }
+    unfolding nameIn claimed
+    name-no-atom h = name-good-book ∙ lt-no _ _ _ _ h
+
+  pub name-keeps-buffer : ((tries : ℕ) × (n : ℕ) × (nameOf book a limit buffer .told ≡ paper tries n))
+      ⊎ (nameOf book a limit buffer .buffer ≡ buffer)
+  unfolding nameOf nameReading
+  name-keeps-buffer = go (readOf book)
+    where
+      go : (r : Reading) → Keeping buffer (nameReading r a limit buffer)
+      go (good n r index l) = name-in-keeping _ _ limit buffer
+      go (bad i at) = inr refl

@@ -1,0 +1,162 @@
+-- The six ways that a naming can go (document 01, "Numbers given back"; blueprint, N7): stopped on the first walk, no reading, stopped on
+-- the paper's walk, stuck, a paper that is too long, and the paper handed over. Each is answered as it should be, and one of them it is.
+use mathlib.Core.Path.{_≡_, _∙_, ap}
+use mathlib.Core.Logic.{_⊎_, inl, inr, ⊎-elim}
+use mathlib.Core.Bool.{true}
+use mathlib.Core.List.{List, _++_}
+use Prim.Native.Nat.{ℕ, _≤_, _<_}
+use native.Mathlib.Omega.{arith}
+use lib.ListN.{length, drop}
+use Rattle.meaning.specs.Sets.{every}
+use Rattle.meaning.specs.Books.{Atoms, Book, count, rule}
+use Rattle.meaning.specs.Colours.{start}
+use Rattle.meaning.specs.Claim.{Claim, claimed}
+use Rattle.meaning.specs.Written.{nothing}
+use Rattle.meaning.proofs.Tests.{decided, lt-or-le}
+use Rattle.meaning.proofs.Rules.{rule-member}
+use Rattle.meaning.proofs.Choice.{lt-yes}
+use Rattle.meaning.proofs.LeastModel.{Proper, answer-inside}
+use Rattle.book.specs.Writing.{Fits}
+use Rattle.walk.specs.Events.{events}
+use Rattle.walk.specs.Readings.{readings}
+use Rattle.walk.specs.Tries.{Kth, to-reading, to-end}
+use Rattle.walk.specs.Tries.{Needs as NeedsTries}
+use Rattle.walk.specs.Page.{setIn}
+use Rattle.walk.specs.declared.tally.Halt.the-variants.{Full}
+use Rattle.walk.proofs.Needs.{kth-or-fewer}
+use Rattle.writer.specs.Branches.{branches}
+use Rattle.writer.specs.Needs.{settled, Stuck, Needs, to-stuck, paperFor}
+use Rattle.writer.specs.Needs.{to-end as to-last}
+use Rattle.writer.specs.Name.{Told, paper, fewer, stopped, refused, Answered, firstWalk, paperWalk, handOver}
+use Rattle.writer.specs.Name.{afterPaperWalk, afterFirstWalk, nameIn}
+use Rattle.writer.proofs.Needs.{stuck-some, paper-limited, paper-stuck, paper-written}
+use Rattle.writer.proofs.Papers.{paper-whole}
+use Rattle.writer.proofs.Stages.{hand-no-room, hand-long, hand-over}
+use Rattle.writer.proofs.First.{set-in-first, kth-answer, first-limited, first-none, first-found}
+
+-- a book within the bounds of the format whose heads are its atoms, and a claim of one of its atoms
+pub record Nameable (b : Book) (k : Claim) : Type 0 where
+  pub few-atoms : b .atoms ≤ 255
+  pub few-rules : count b ≤ 255
+  pub heads-below : Proper b
+  pub atom-below : claimed k .0 < b .atoms
+
+pub fits-nameable : (b : Book) (k : Claim) → Fits b → claimed k .0 < b .atoms → Nameable b k
+fits-nameable b k fits h = record {
+  few-atoms = fits .atoms;
+  few-rules = fits .rules;
+  heads-below = λ r g. fits .each (rule b r) (rule-member b r g) .head;
+  atom-below = h;
+}
+
+-- an answer that leaves the buffer
+abbrev pub only : List ℕ → Told → Answered
+only buffer t = record { told = t; buffer = buffer }
+
+-- the answer where the paper with the witness of x stands in the buffer; its tries are the branches
+abbrev pub written : Book → Claim → List ℕ → Atoms → Answered
+written b k buffer x = record {
+  told = paper (length (branches b k start)) (length (paperFor b k x));
+  buffer = paperFor b k x ++ drop (length (paperFor b k x)) buffer;
+}
+
+-- answer set 1 is x, and is found within the limit
+abbrev pub Found : Book → ℕ → Atoms → Type 0
+Found b limit x = (t : ℕ) × Kth b 1 t x × (t ≤ limit)
+
+-- every branch is settled, and they are within the limit
+abbrev pub Settled : Book → Claim → ℕ → Type 0
+Settled b k limit = (every settled (branches b k start) ≡ true) × (length (branches b k start) ≤ limit)
+
+-- "paper longer than the buffer or 60,000"
+abbrev pub TooLong : Book → Claim → List ℕ → Atoms → Type 0
+TooLong b k buffer x = (length buffer < length (paperFor b k x)) ⊎ (60000 < length (paperFor b k x))
+
+module _ (b : Book) (k : Claim) (limit : ℕ) (buffer : List ℕ) where
+  pub data Outcome : Answered → Type 0 where
+    first-stopped : {n : ℕ} → NeedsTries b 1 n → limit < n → Outcome (only buffer (stopped limit))
+    no-reading : length (readings b) < 1 → length (events b nothing) ≤ limit → Outcome (only buffer (fewer (length (events b nothing)) 0))
+    paper-stopped : {x : Atoms} {n : ℕ} → Found b limit x → Needs b k n → limit < n → Outcome (only buffer (stopped limit))
+    got-stuck : {x : Atoms} {n : ℕ} → Found b limit x → Stuck b k n → n ≤ limit → Outcome (only buffer (refused 12))
+    too-long : {x : Atoms} → Found b limit x → Settled b k limit → TooLong b k buffer x → Outcome (only buffer (refused 14))
+    handed-over : {x : Atoms} → Found b limit x → Settled b k limit → length (paperFor b k x) ≤ length buffer
+        → length (paperFor b k x) ≤ 60000 → Outcome (written b k buffer x)
+
+  module _ (good : Nameable b k) where
+    abbrev answer : Answered
+    answer = nameIn b k limit buffer
+
+    -- ---- what each way answers
+
+    pub way-first-stopped : {n : ℕ} → NeedsTries b 1 n → limit < n → nameIn b k limit buffer ≡ only buffer (stopped limit)
+    unfolding nameIn afterFirstWalk
+    way-first-stopped p h = lt-yes _ _ _ _ (good .atom-below) ∙ rw (first-limited b limit (good .few-atoms) (good .few-rules) p h)
+
+    pub way-no-reading : length (readings b) < 1 → length (events b nothing) ≤ limit
+        → nameIn b k limit buffer ≡ only buffer (fewer (length (events b nothing)) 0)
+    unfolding nameIn afterFirstWalk
+    way-no-reading p h =
+        let (e, t) = first-none b limit (good .few-atoms) (good .few-rules) p h in lt-yes _ _ _ _ (good .atom-below) ∙ rw (e, t)
+
+    module _ {x : Atoms} (found : Found b limit x) where
+      ended : (firstWalk b limit .tally .halt ≡ Full) × (setIn (firstWalk b limit .out) ≡ x)
+      ended =
+          let (t, first, h) = found in let (e, o) = first-found b limit (good .few-atoms) (good .few-rules) first h in
+          let inside = answer-inside b (good .few-rules) x (good .heads-below) (kth-answer b (good .few-rules) first) in
+          (e, ap setIn o ∙ set-in-first b x inside)
+
+      after-first : answer ≡ afterPaperWalk (paperWalk b k limit .course) b k limit (paperWalk b k limit) (firstWalk b limit .out) buffer
+      unfolding nameIn afterFirstWalk
+      after-first = lt-yes _ _ _ _ (good .atom-below) ∙ rw (ended .0)
+
+      pub way-paper-stopped : {n : ℕ} → Needs b k n → limit < n → nameIn b k limit buffer ≡ only buffer (stopped limit)
+      unfolding afterPaperWalk
+      way-paper-stopped p g = after-first ∙ rw (paper-limited b k limit p g)
+
+      pub way-stuck : {n : ℕ} → Stuck b k n → n ≤ limit → nameIn b k limit buffer ≡ only buffer (refused 12)
+      unfolding afterPaperWalk
+      way-stuck p g = after-first ∙ rw (paper-stuck b k limit p g)
+
+      module _ (all : Settled b k limit) where
+        handed : answer ≡ handOver (length (branches b k start)) (paperFor b k x) buffer
+        unfolding afterPaperWalk
+        handed = after-first ∙ rw (paper-written b k limit (all .0) (all .1), paper-whole b k (firstWalk b limit .out), ended .1)
+
+        pub way-too-long : TooLong b k buffer x → nameIn b k limit buffer ≡ only buffer (refused 14)
+        way-too-long l = handed ∙ ⊎-elim (hand-no-room _ (paperFor b k x) buffer) (hand-long _ (paperFor b k x) buffer) l
+
+        pub way-paper : length (paperFor b k x) ≤ length buffer → length (paperFor b k x) ≤ 60000
+            → nameIn b k limit buffer ≡ written b k buffer x
+        way-paper l m = handed ∙ hand-over _ (paperFor b k x) buffer l m
+
+    -- ---- one of them it is
+
+    module _ {x : Atoms} (found : Found b limit x) where
+      stuck-outcome : {n : ℕ} → Stuck b k n → Outcome answer
+      stuck-outcome {n} u =
+          ⊎-elim (λ h. rw (way-paper-stopped found (to-stuck u) h) (paper-stopped found (to-stuck u) h))
+          (λ h. rw (way-stuck found u h) (got-stuck found u h)) (lt-or-le limit n)
+
+      settled-outcome : Settled b k limit → Outcome answer
+      settled-outcome all = ⊎-elim (λ h. long (inl h)) (λ h. ⊎-elim (λ g. long (inr g))
+          (λ g. rw (way-paper found all h g) (handed-over found all h g))
+          (lt-or-le 60000 (length (paperFor b k x)))) (lt-or-le (length buffer) (length (paperFor b k x)))
+        where
+          long : TooLong b k buffer x → Outcome answer
+          long l = rw (way-too-long found all l) (too-long found all l)
+
+      found-outcome : Outcome answer
+      found-outcome = ⊎-elim
+          (λ s. ⊎-elim (λ h. rw (way-paper-stopped found (to-last s) h) (paper-stopped found (to-last s) h))
+          (λ h. settled-outcome (s, h)) (lt-or-le limit (length (branches b k start))))
+          (λ n. let (m, u) = stuck-some b k n in stuck-outcome u) (decided (every settled (branches b k start)))
+
+    pub name-outcome : Outcome (nameIn b k limit buffer)
+    name-outcome = ⊎-elim
+        (λ (t, x, first). ⊎-elim (λ h. stopped-first (to-reading first) h) (λ h. found-outcome (t, first, h)) (lt-or-le limit t))
+        (λ none. ⊎-elim (λ h. stopped-first (to-end none) h) (λ h. rw (way-no-reading none h) (no-reading none h))
+        (lt-or-le limit (length (events b nothing))))
+        (kth-or-fewer b 1 (omega arith))
+      where
+        stopped-first : {n : ℕ} → NeedsTries b 1 n → limit < n → Outcome answer
+        stopped-first p h = rw (way-first-stopped p h) (first-stopped p h)

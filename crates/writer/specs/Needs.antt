@@ -1,0 +1,52 @@
+-- The branches that the paper's walk needs, and its paper, told from the branches alone. Document 01: "Each branch, the first included,
+-- counts as one try. A branch with no step left, all rules coloured and 45 not allowed settles that the atom isn't certain, and the walk
+-- stops there."
+--
+--   settled t        the branch t ends with its 45 or with a split
+--   Stuck b k n      the paper's walk gets stuck, and that at its n-th branch
+--   Needs b k n      the paper's walk needs n branches: up to the one where it gets stuck, or all of them
+--   stepsOf l        the bytes of the branches, one after the other
+--   paperFor b k x   the engine's own paper with the witness of the answer set x
+use mathlib.Core.Path.{_≡_}
+use mathlib.Core.Bool.{true, false}
+use mathlib.Core.List.{List, [], _∷_, _++_}
+use Prim.Native.Nat.{ℕ, _+_}
+use lib.ListN.{length}
+use Rattle.meaning.specs.Sets.{Set, _∉_, every}
+use Rattle.meaning.specs.Books.{Atoms, Book}
+use Rattle.meaning.specs.Colours.{start}
+use Rattle.meaning.specs.Claim.{Claim}
+use Rattle.meaning.specs.Paper.{numbers, trailer}
+use Rattle.meaning.specs.Engine.{witnessOf}
+use Rattle.writer.specs.Branches.{Tip, ended, parted, unsettled, Branch, branches}
+
+unfoldable pub settles : Set Tip
+settles ended = true
+settles (parted r c) = true
+settles unsettled = false
+
+abbrev pub settled : Set Branch
+settled t = settles (t .tip)
+
+pub record Stuck (b : Book) (k : Claim) (n : ℕ) : Type 0 where
+  pub earlier : List Branch
+  pub last : Branch
+  pub later : List Branch
+  pub walk : branches b k start ≡ earlier ++ (last ∷ later)
+  pub number : n ≡ length earlier + 1
+  pub earlier-settled : every settled earlier ≡ true
+  pub last-unsettled : last ∉ settled
+
+pub data Needs (b : Book) (k : Claim) : ℕ → Type 0 where
+  to-stuck : {n : ℕ} → Stuck b k n → Needs b k n
+  to-end : every settled (branches b k start) ≡ true → Needs b k (length (branches b k start))
+
+unfoldable pub stepsOf : List Branch → List ℕ
+stepsOf [] = []
+stepsOf (t ∷ l) = t .bytes ++ stepsOf l
+
+-- "Steps from byte 0, then the witness, then a trailer"
+unfoldable pub paperFor : Book → Claim → Atoms → List ℕ
+paperFor b k x =
+    stepsOf (branches b k start)
+    ++ (numbers (witnessOf b x) ++ trailer k (length (witnessOf b x)) (length (stepsOf (branches b k start))))
