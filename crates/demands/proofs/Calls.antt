@@ -1,0 +1,58 @@
+-- Calls of good books: our answers are those of what the bytes say, the book keeps the format's limits, and there is one list of all
+-- readings and one number of tries, so that demand 2 says something of every call. From the laws of book, walk and writer.
+use mathlib.Core.Path.{_≡_, sym, _∙_}
+use mathlib.Core.Logic.{_↔_}
+use mathlib.Core.List.{List}
+use Prim.Native.Nat.{ℕ}
+use Rattle.meaning.specs.declared.AtomNo.{AtomNo}
+use Rattle.meaning.specs.Books.{Atoms, Book}
+use Rattle.meaning.specs.Claim.{named, claimed}
+use Rattle.book.specs.Format.{bookOf}
+use Rattle.book.specs.Rows.{Bytes}
+use Rattle.book.specs.Writing.{Fits}
+use Rattle.book.proofs.Shape.{good-fits}
+use Rattle.walk.specs.Readings.{readings, AllReadings}
+use Rattle.walk.specs.Tries.{Needs}
+use Rattle.walk.specs.Find.{findIn, findOf}
+use Rattle.walk.proofs.Readings.{readings-all}
+use Rattle.walk.proofs.Order.{readings-only}
+use Rattle.walk.proofs.Needs.{needs-some}
+use Rattle.walk.proofs.Demand.{find-good-book}
+use Rattle.writer.specs.Name.{nameIn, nameOf}
+use Rattle.writer.proofs.Stages.{name-good-book}
+use Rattle.writer.proofs.Ways.{Nameable, fits-nameable}
+use Rattle.demands.specs.Damaged.{GoodBook}
+use Rattle.demands.specs.Demand2.{Call, Naming}
+use Rattle.demands.proofs.Damaged.{good-read, good-is}
+
+-- an equation told of one of two equal values is told of the other
+pub along : {A : Type 0} {x y : A} {P : Type 0} (z : A) → x ≡ y → (y ≡ z) ↔ P → (x ≡ z) ↔ P
+along z e (f, g) = (λ p. f (sym e ∙ p), λ p. e ∙ g p)
+
+module _ {book : List ℕ} {b : Book} (g : GoodBook book b) where
+  pub found-as : (k limit : ℕ) (answer : List ℕ) → findOf book k limit answer ≡ findIn b k limit answer
+  found-as k limit answer = rw (good-is book g) at (find-good-book book k limit answer _ _ _ _ (good-read book g))
+
+  pub named-as : (a : AtomNo) (limit : ℕ) (buffer : List ℕ) → nameOf book a limit buffer ≡ nameIn b (named a) limit buffer
+  named-as a limit buffer = name-good-book book a limit buffer _ _ _ _ (good-read book g)
+
+  module _ (bytes : Bytes book) where
+    pub book-fits : Fits b
+    unfolding bookOf
+    book-fits = rw (good-read book g) at (good-fits book _ _ _ _ bytes (good-read book g))
+
+    pub readings-there : AllReadings b (readings b)
+    readings-there = readings-all b (book-fits .rules)
+
+    pub readings-same : {l : List Atoms} → AllReadings b l → l ≡ readings b
+    readings-same all = readings-only b _ _ all readings-there
+
+-- so a good call has its list and its number of tries
+pub call-counts : {book : List ℕ} {b : Book} {k : ℕ} {answer : List ℕ} → Call book b k answer
+    → (l : List Atoms) × AllReadings b l × (n : ℕ) × Needs b k n
+call-counts {b = b} {k = k} c =
+    let (n, needs) = needs-some b k (c .good-number) in (readings b, readings-there (c .good-book) (c .bytes), n, needs)
+
+pub nameable : {book : List ℕ} {b : Book} {a : AtomNo} → Naming book b a → Nameable b (named a)
+unfolding claimed
+nameable {b = b} {a = a} c = fits-nameable b (named a) (book-fits (c .good-book) (c .bytes)) (c .good-number)

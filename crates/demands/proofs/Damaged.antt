@@ -1,0 +1,170 @@
+-- Books and papers by the rows of the table (specs/Damaged): reading refuses a book exactly where a row of 1 to 7 holds, checking a paper
+-- exactly where a row of 20 to 27 does, and what no row holds of is good. From the laws of the numbers of book and checker.
+use mathlib.Core.Path.{_≡_, refl, sym, _∙_, subst}
+use mathlib.Core.Logic.{_⊎_, inl, inr, ⊎-elim, _↔_}
+use mathlib.Core.List.{List}
+use Prim.Native.Nat.{ℕ, _≤_}
+use native.Mathlib.Omega.{arith}
+use lib.ListN.{length}
+use Rattle.meaning.specs.Books.{Book, atomNo}
+use Rattle.meaning.specs.Claim.{named}
+use Rattle.meaning.specs.Paper.{Keeps}
+use Rattle.meaning.proofs.Choice.{lt-either, eq-either}
+use Rattle.book.specs.Format.{Check, fine, wrong, rulesOf, Reading, good, bad, readingOf, bodyOf, readOf, bookOf, bookIn}
+use Rattle.book.specs.Rows.{Bytes, LengthGood, MarkGood, atomCount, ruleCount, indexStart, Framed, none}
+use Rattle.book.proofs.Records.{RecordsRow, all-good, at-entry, at-record, at-atom, at-order, records-row}
+use Rattle.book.proofs.Refusals.{refused-length, refused-mark, refused-trailer, refused-entry, refused-record, refused-atom, refused-order}
+use Rattle.book.proofs.Refusals.{accepted}
+use Rattle.checker.specs.Numbers.{Told, certain, refused}
+use Rattle.checker.specs.Check.{checkOf}
+use Rattle.checker.specs.Rows.{GoodBytes}
+use Rattle.checker.proofs.Rows.{CheckRow, at-book, at-paper, checked-row, row-checked}
+use Rattle.checker.proofs.Rows.{at-length, at-mark, at-trailer, at-form, at-step, at-gap, at-witness}
+use Rattle.checker.proofs.Rows.{at-atom as at-claim}
+use Rattle.checker.proofs.Refusals.{refused-form, refused-step, refused-gap, refused-witness}
+use Rattle.checker.proofs.Refusals.{refused-length as paper-length, refused-mark as paper-mark, refused-trailer as paper-trailer}
+use Rattle.checker.proofs.Refusals.{refused-atom as paper-atom}
+use Rattle.checker.proofs.Accepted.{check-exact}
+use Rattle.demands.specs.Damaged.{GoodBook, DamagedBook, row-1, row-2, row-3, row-4, row-5, row-6, row-7}
+use Rattle.demands.specs.Damaged.{DamagedPaper, row-20, row-21, row-22, row-23, row-24, row-25, row-26, row-27}
+
+-- ---- books
+
+module _ (s : List ℕ) where
+  abbrev n : ℕ
+  n = atomCount s
+
+  abbrev k : ℕ
+  k = ruleCount s
+
+  abbrev index : ℕ
+  index = indexStart s
+
+  -- what is read: a damaged book, or the rules of a good one
+  data BookIs : Reading → Type 0 where
+    damaged : {i at : ℕ} → DamagedBook s i at → BookIs (bad i at)
+    whole : BookIs (good n k index (rulesOf k s index 0))
+
+  records-are : Framed s → (c : Check) → RecordsRow s n k index c → BookIs (readingOf c (good n k index (rulesOf k s index 0)))
+  unfolding readingOf
+  records-are f fine (all-good g) = whole
+  records-are f (wrong i at) (at-entry w) = damaged (row-4 f w)
+  records-are f (wrong i at) (at-record w) = damaged (row-5 f w)
+  records-are f (wrong i at) (at-atom w) = damaged (row-6 f w)
+  records-are f (wrong i at) (at-order w) = damaged (row-7 f w)
+
+  book-is : BookIs (readOf s)
+  unfolding readOf bodyOf
+  book-is =
+      lt-either BookIs _ _ _ _ (λ h. damaged (row-1 (λ l. omega (arith, l .at-least))))
+      λ h. lt-either BookIs _ _ _ _ (λ g. damaged (row-1 (λ l. omega (arith, l .at-most))))
+      λ g. let size : LengthGood s = record { at-least = h; at-most = g } in
+      eq-either BookIs _ _ _ _
+      (λ p. eq-either BookIs _ _ _ _ (λ q. framed size (record { first = p; second = q }))
+      (λ q. damaged (row-2 size (λ m. q (m .second)))))
+      (λ p. damaged (row-2 size (λ m. p (m .first))))
+    where
+      framed : LengthGood s → MarkGood s → BookIs (bodyOf s n k index)
+      framed size mark =
+          eq-either BookIs _ _ _ _
+          (λ t. records-are (record { size = size; mark = mark; trailer = t }) _
+          (records-row s n index (omega arith) k k 0 0 (omega arith) none))
+          (λ t. damaged (row-3 size mark t))
+
+  pub bad-damaged : {i at : ℕ} → readOf s ≡ bad i at → DamagedBook s i at
+  bad-damaged e = there (subst BookIs e book-is)
+    where
+      there : {i at : ℕ} → BookIs (bad i at) → DamagedBook s i at
+      there (damaged d) = d
+
+  pub damaged-bad : {i at : ℕ} → DamagedBook s i at → readOf s ≡ bad i at
+  damaged-bad (row-1 l) = refused-length s 0 .1 (l, refl)
+  damaged-bad (row-2 l m) = refused-mark s _ .1 (l, m, refl)
+  damaged-bad (row-3 l m t) = refused-trailer s _ .1 (l, m, t, refl)
+  damaged-bad (row-4 f w) = refused-entry s _ .1 (f, w)
+  damaged-bad (row-5 f w) = refused-record s _ .1 (f, w)
+  damaged-bad (row-6 f w) = refused-atom s _ .1 (f, w)
+  damaged-bad (row-7 f w) = refused-order s _ .1 (f, w)
+
+  pub good-read : {b : Book} (g : GoodBook s b) → readOf s ≡ good (b .atoms) (g .rule-count) (g .index) (b .rules)
+  good-read g = accepted s _ _ _ _ .1 (g .bytes)
+
+  -- the book that good bytes hold
+  pub good-is : {b : Book} → GoodBook s b → bookIn s ≡ b
+  unfolding bookIn bookOf
+  good-is g = rw (good-read g)
+
+  -- every list of bytes is a good book or a damaged one
+  pub every-book : ((b : Book) × GoodBook s b) ⊎ ((i : ℕ) × (at : ℕ) × DamagedBook s i at)
+  every-book = go (readOf s) refl
+    where
+      go : (x : Reading) → readOf s ≡ x → ((b : Book) × GoodBook s b) ⊎ ((i : ℕ) × (at : ℕ) × DamagedBook s i at)
+      go (good m r i l) e =
+          inl (record { atoms = m; rules = l }, record { rule-count = r; index = i; bytes = accepted s m r i l .0 e })
+      go (bad i at) e = inr (i, at, bad-damaged e)
+
+  -- and never both
+  pub not-both : {A : Type 0} {b : Book} {i at : ℕ} → GoodBook s b → DamagedBook s i at → A
+  not-both g d =
+      let p = good-read g in let q = damaged-bad d in let z : _≡_ {A = ℕ} 0 1 = cc in absurd (omega arith)
+
+-- ---- papers
+
+module _ (book paper : List ℕ) where
+  -- a good book, as the checker's laws say it
+  pub good-bytes : {b : Book} → GoodBook book b → GoodBytes book
+  good-bytes {b} g = record { atoms = _; rules = _; index = _; each = _; read = good-read book g }
+
+  pub bytes-good : GoodBytes book → GoodBook book (bookIn book)
+  unfolding bookIn bookOf
+  bytes-good g = rw (g .read) (record { rule-count = g .rules; index = g .index; bytes = accepted book _ _ _ _ .0 (g .read) })
+
+  Refuses : ℕ → ℕ → Type 0
+  Refuses i at = DamagedBook book i at ⊎ ((b : Book) × GoodBook book b × DamagedPaper b paper i at)
+
+  refused-row : {i at : ℕ} → checkOf book paper ≡ refused i at → CheckRow book paper (refused i at) → Refuses i at
+  unfolding Refuses
+  refused-row e (at-book p) = inl (bad-damaged book p)
+  refused-row e (at-paper g (at-length l)) = inr (bookIn book, bytes-good g, row-20 l)
+  refused-row e (at-paper g (at-mark l m)) = inr (bookIn book, bytes-good g, row-21 l m)
+  refused-row e (at-paper g (at-trailer l m t)) = inr (bookIn book, bytes-good g, row-22 l m t)
+  refused-row e (at-paper g (at-claim l m t a)) = inr (bookIn book, bytes-good g, row-23 l m t a)
+  refused-row e (at-paper g (at-form f w)) =
+      let (framed, c, p, m) = refused-form book paper _ .0 e .1 in inr (bookIn book, bytes-good g, row-24 framed p m)
+  refused-row e (at-paper g (at-step f w)) =
+      let (framed, c, p, m) = refused-step book paper _ .0 e .1 in inr (bookIn book, bytes-good g, row-25 framed p m)
+  refused-row e (at-paper g (at-gap f w m)) =
+      let (framed, p, l) = refused-gap book paper _ .0 e .1 in inr (bookIn book, bytes-good g, row-26 framed p l)
+  refused-row e (at-paper g (at-witness f w v)) =
+      let (framed, p, l) = refused-witness book paper _ .0 e .1 in inr (bookIn book, bytes-good g, row-27 framed p l)
+
+  damaged-row : {i at : ℕ} → GoodBytes book → DamagedPaper (bookIn book) paper i at → checkOf book paper ≡ refused i at
+  damaged-row g (row-20 l) = paper-length book paper 0 .1 (g, (l, refl))
+  damaged-row g (row-21 l m) = paper-mark book paper _ .1 (g, (l, m, refl))
+  damaged-row g (row-22 l m t) = paper-trailer book paper _ .1 (g, (l, m, t, refl))
+  damaged-row g (row-23 l m t a) = paper-atom book paper _ .1 (g, (l, m, t, a, refl))
+  damaged-row g (row-24 f p m) = refused-form book paper _ .1 (g, (f, _, p, m))
+  damaged-row g (row-25 f p u) = refused-step book paper _ .1 (g, (f, _, p, u))
+  damaged-row g (row-26 f p h) = refused-gap book paper _ .1 (g, (f, p, h))
+  damaged-row g (row-27 f p w) = refused-witness book paper _ .1 (g, (f, p, w))
+
+  -- checking refuses exactly the damaged: the book by its row, then the paper by its row
+  pub check-refused : (i at : ℕ)
+      → (checkOf book paper ≡ refused i at) ↔ (DamagedBook book i at ⊎ ((b : Book) × GoodBook book b × DamagedPaper b paper i at))
+  unfolding Refuses
+  check-refused i at = (
+    λ e. refused-row e (checked-row book paper e),
+    λ d. ⊎-elim (λ p. row-checked book paper (at-book (damaged-bad book p)))
+        (λ (b, g, p). damaged-row (good-bytes g) (rw (← good-is book g) at p)) d,
+  )
+
+  -- every paper for a good book keeps the printed rules, at no more than 60,000 bytes, or is damaged
+  pub every-paper : Bytes paper → {b : Book} → GoodBook book b
+      → ((a : ℕ) × Keeps b (named (atomNo a)) paper × (length paper ≤ 60000)) ⊎ ((i : ℕ) × (at : ℕ) × DamagedPaper b paper i at)
+  every-paper bytes {b} g = go (checkOf book paper) refl
+    where
+      go : (t : Told) → checkOf book paper ≡ t
+          → ((a : ℕ) × Keeps b (named (atomNo a)) paper × (length paper ≤ 60000)) ⊎ ((i : ℕ) × (at : ℕ) × DamagedPaper b paper i at)
+      go (certain a) e = let (h, k, l) = check-exact book paper bytes a .0 e in inl (a, rw (good-is book g) at k, l)
+      go (refused i at) e = ⊎-elim (not-both book g)
+          (λ (c, h, d). inr (i, at, rw (sym (good-is book h) ∙ good-is book g) at d)) (check-refused i at .0 e)

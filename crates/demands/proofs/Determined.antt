@@ -1,0 +1,71 @@
+-- Two results that meet a promise are equal: the answer, and every byte of lent memory afterwards. Document 01, "What the promises say".
+--
+-- Where a promise is an equation of the result itself, or of a buffer afterwards, there is nothing more to it than `equal-determined`. The
+-- answers of read_book, find, page, name and check are enums, and their promises speak of document 01's numbers and values; what is told
+-- of an answer tells all of it, so these are determined too. In a promise, r is the result and `after` the buffer afterwards.
+use mathlib.Core.Path.{_≡_, sym, _∙_, ap}
+use mathlib.Core.List.{List}
+use Prim.Native.Nat.{ℕ, suc, _-_}
+use native.Mathlib.Omega.{arith}
+use Rattle.meaning.specs.declared.AtomNo.{AtomNo}
+use Rattle.meaning.specs.Books.{Book}
+use Rattle.meaning.specs.Colours.{Pair}
+use Rattle.meaning.specs.Claim.{Claim}
+use Rattle.book.specs.Format.{readOf, toldOf}
+use Rattle.book.specs.Numbers.{told as readTold}
+use Rattle.book.specs.declared.reader.Read.{Read}
+use Rattle.book.proofs.Told.{told-one as read-one}
+use Rattle.walk.specs.Find.{Answered as Found, findOf}
+use Rattle.walk.specs.Find.{told as findTold}
+use Rattle.walk.specs.Page.{Paged, pageOf}
+use Rattle.walk.specs.Page.{told as pageTold}
+use Rattle.walk.specs.declared.find.Found.{Found as FoundAnswer}
+use Rattle.walk.specs.declared.page.Page.{Page}
+use Rattle.walk.proofs.Told.{found-one, page-one}
+use Rattle.writer.specs.Name.{Answered as Named, nameOf}
+use Rattle.writer.specs.Name.{told as nameTold}
+use Rattle.writer.specs.declared.name.Named.{Named as NamedAnswer}
+use Rattle.writer.proofs.Told.{told-one as named-one}
+use Rattle.checker.specs.Branches.{Walked, BranchTo}
+use Rattle.checker.specs.Check.{checkOf}
+use Rattle.checker.specs.Numbers.{told as checkTold}
+use Rattle.checker.specs.declared.answer.Checked.{Checked}
+use Rattle.checker.proofs.Told.{told-one as checked-one}
+
+pub equal-determined : {A : Type 0} {x r q : A} → r ≡ x → q ≡ x → r ≡ q
+equal-determined p s = p ∙ sym s
+
+pub read-determined : (book : List ℕ) (r q : Read) → readTold r ≡ toldOf (readOf book) → readTold q ≡ toldOf (readOf book) → r ≡ q
+read-determined book r q p s = read-one r q (equal-determined p s)
+
+module _ (book : List ℕ) (k limit : ℕ) (answer : List ℕ) where
+  abbrev FindPromise : FoundAnswer → List ℕ → Type 0
+  FindPromise r after = _≡_ {A = Found} (record { told = findTold r; buffer = after }) (findOf book k limit answer)
+
+  pub find-determined : (r q : FoundAnswer) (after other : List ℕ) → FindPromise r after → FindPromise q other → (r ≡ q) × (after ≡ other)
+  find-determined r q after other p s =
+      let e = equal-determined p s in (found-one r q (ap (λ (a : Found). a .told) e), ap (λ (a : Found). a .buffer) e)
+
+module _ (book : List ℕ) (limit tries : ℕ) (last out : List ℕ) where
+  abbrev PagePromise : Page → List ℕ → Type 0
+  PagePromise r after = _≡_ {A = Paged} (record { told = pageTold r; buffer = after }) (pageOf book limit tries last out)
+
+  pub page-determined : (r q : Page) (after other : List ℕ) → PagePromise r after → PagePromise q other → (r ≡ q) × (after ≡ other)
+  page-determined r q after other p s =
+      let e = equal-determined p s in (page-one r q (ap (λ (a : Paged). a .told) e), ap (λ (a : Paged). a .buffer) e)
+
+module _ (book : List ℕ) (atom : AtomNo) (limit : ℕ) (paper : List ℕ) where
+  abbrev NamePromise : NamedAnswer → List ℕ → Type 0
+  NamePromise r after = _≡_ {A = Named} (record { told = nameTold r; buffer = after }) (nameOf book atom limit paper)
+
+  pub name-determined : (r q : NamedAnswer) (after other : List ℕ) → NamePromise r after → NamePromise q other → (r ≡ q) × (after ≡ other)
+  name-determined r q after other p s =
+      let e = equal-determined p s in (named-one r q (ap (λ (a : Named). a .told) e), ap (λ (a : Named). a .buffer) e)
+
+pub check-determined : (book paper : List ℕ) (r q : Checked) → checkTold r ≡ checkOf book paper → checkTold q ≡ checkOf book paper → r ≡ q
+check-determined book paper r q p s = checked-one r q (equal-determined p s)
+
+-- the checker's branch: an answer for every number of steps that is enough, so for one
+pub branch-determined : (b : Book) (k : Claim) (s : List ℕ) (from at : ℕ) (c : Pair) (w v : Walked)
+    → BranchTo b k s from at c w → BranchTo b k s from at c v → w ≡ v
+branch-determined b k s from at c w v p q = let f = suc (from - at) in equal-determined (p f (omega arith)) (q f (omega arith))

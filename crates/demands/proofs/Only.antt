@@ -1,0 +1,177 @@
+-- The demands leave nothing open: an engine that meets them answers every call as ours does, and leaves the same bytes in the buffer. For
+-- each call one answer is found that every engine gives which meets the demands; ours is one of them. Document 01, "What the promises say".
+use mathlib.Core.Path.{_≡_, sym, _∙_}
+use mathlib.Core.Logic.{_⊎_, inl, inr, ⊎-elim}
+use mathlib.Core.Bool.{false}
+use mathlib.Core.List.{List, _++_}
+use Prim.Native.Nat.{ℕ, _-_, _≤_, _<_}
+use native.Mathlib.Omega.{arith}
+use lib.ListN.{length, getD, drop}
+use Rattle.meaning.specs.declared.AtomNo.{AtomNo}
+use Rattle.meaning.specs.Books.{Atoms, atomNo, Book}
+use Rattle.meaning.specs.AnswerSet.{AnswerSet, Certain}
+use Rattle.meaning.specs.Claim.{named}
+use Rattle.meaning.proofs.Tests.{lt-or-le}
+use Rattle.book.specs.Rows.{Bytes}
+use Rattle.walk.specs.Readings.{AllReadings}
+use Rattle.walk.specs.Tries.{Needs, to-reading, to-end}
+use Rattle.walk.specs.Run.{rowOf}
+use Rattle.walk.specs.Find.{Told, set, fewer, stopped, refusedAt, refused, Answered, findOf}
+use Rattle.walk.proofs.Run.{apart}
+use Rattle.walk.proofs.Needs.{needs-some}
+use Rattle.writer.specs.Needs.{paperFor}
+use Rattle.writer.specs.Name.{Told as NameTold, paper, fewer as nameFewer, stopped as nameStopped, refusedAt as unnamedAt}
+use Rattle.writer.specs.Name.{refused as unnamed, Answered as Named, nameOf}
+use Rattle.writer.proofs.Needs.{needs-some as paper-needs-some}
+use Rattle.writer.proofs.First.{kth-answer, fewer-none}
+use Rattle.checker.specs.Check.{checkOf}
+use Rattle.demands.specs.Engine.{Engine, ours}
+use Rattle.demands.specs.Damaged.{GoodBook, DamagedBook, DamagedPaper}
+use Rattle.demands.specs.Demand1.{Demand1}
+use Rattle.demands.specs.Demand2.{Call, Naming, Demand2}
+use Rattle.demands.specs.Demand3.{InLimit, Demand3}
+use Rattle.demands.proofs.Damaged.{every-book, every-paper}
+use Rattle.demands.proofs.Calls.{call-counts, nameable}
+use Rattle.demands.proofs.Ours1.{ours-1}
+use Rattle.demands.proofs.Ours2.{ours-2}
+use Rattle.demands.proofs.Ours3.{certain-or-not, ours-3}
+
+-- ---- finding
+
+module _ (book : List ℕ) (bytes : Bytes book) (k limit : ℕ) (answer : List ℕ) where
+  -- every engine that meets demands 1 and 2 answers this call so
+  Finds : Answered → Type 0
+  Finds a = (e : Engine) → Demand1 e → Demand2 e → e .find book k limit answer ≡ a
+
+  -- the same told, and the buffer as it was
+  refuses : (t : Told) → ((u : ℕ) → t ≡ set u → ⊥) → ((e : Engine) → Demand1 e → Demand2 e → e .find book k limit answer .told ≡ t)
+      → Finds (record { told = t; buffer = answer })
+  unfolding Finds
+  refuses t n f e p q =
+      let told = f e p q in
+      let kept = p .find-keeps book bytes k limit answer (λ u z. n u (sym told ∙ z)) in
+      λ i. record { told = told i; buffer = kept i }
+
+  module _ {b : Book} (c : Call book b k answer) where
+    gives : {l : List Atoms} → AllReadings b l → {n : ℕ} → Needs b k n → n ≤ limit → k ≤ length l
+        → Finds (record { told = set n; buffer = rowOf b (getD l (k - 1) (λ a. false)) ++ drop (b .atoms) answer })
+    unfolding Finds
+    gives all needs h m e p q =
+        let (told, row) = q .gives-readings book b k limit answer c _ all _ needs h m in
+        let there = row (λ a. false) in
+        λ i. record { told = told i; buffer = there i }
+
+    call-found : (a : Answered) × Finds a
+    call-found =
+        let (l, all, n, needs) = call-counts c in
+        ⊎-elim (λ h. (_, refuses (stopped limit) (λ u z. apart (cc)) (λ e p q. q .stops book b k limit answer c .1 (n, needs, h))))
+        (λ h. ⊎-elim
+        (λ m. (
+          _,
+          refuses (fewer n (length l)) (λ u z. apart (cc))
+              (λ e p q. q .tells-fewer book b k limit answer c l all n needs h .1 m),
+        ))
+        (λ m. (_, gives all needs h m)) (lt-or-le (length l) k)) (lt-or-le limit n)
+
+  module _ {b : Book} (g : GoodBook book b) where
+    good-found : (a : Answered) × Finds a
+    good-found = ⊎-elim
+        (λ h. ⊎-elim
+        (λ l. (_, refuses (refused 8) (λ u z. apart (cc)) (λ e p q. p .find-room book k limit answer .1 (b, g, h, l))))
+        (λ l. call-found (record { bytes = bytes; good-book = g; good-number = h; good-room = l })) (lt-or-le (length answer) (b .atoms)))
+        (λ h. (_, refuses (refused 15) (λ u z. apart (cc)) (λ e p q. p .find-number book k limit answer .1 (b, g, omega arith))))
+        (lt-or-le 0 k)
+
+  found-one : (a : Answered) × Finds a
+  found-one = ⊎-elim (λ (b, g). good-found g)
+      (λ (i, at, d). (_, refuses (refusedAt i at) (λ u z. apart (cc)) (λ e p q. p .find-book book k limit answer i at .1 d)))
+      (every-book book)
+
+  pub find-only : (e : Engine) → Demand1 e → Demand2 e → e .find book k limit answer ≡ findOf book k limit answer
+  unfolding Finds
+  find-only e p q = let (a, f) = found-one in f e p q ∙ sym (f ours ours-1 ours-2)
+
+-- ---- naming
+
+module _ (book : List ℕ) (bytes : Bytes book) (a : AtomNo) (limit : ℕ) (buffer : List ℕ) where
+  Names : Named → Type 0
+  Names r = (e : Engine) → Demand1 e → Demand2 e → Demand3 e → e .name book a limit buffer ≡ r
+
+  leaves : (t : NameTold) → ((u n : ℕ) → t ≡ paper u n → ⊥)
+      → ((e : Engine) → Demand1 e → Demand2 e → Demand3 e → e .name book a limit buffer .told ≡ t)
+      → Names (record { told = t; buffer = buffer })
+  unfolding Names
+  leaves t n f e p q r =
+      let told = f e p q r in
+      let kept = p .name-keeps book a limit buffer (λ u m z. n u m (sym told ∙ z)) in
+      λ i. record { told = told i; buffer = kept i }
+
+  module _ {b : Book} (c : Naming book b a) where
+    abbrev own : Atoms → List ℕ
+    own x = paperFor b (named a) x
+
+    -- within the limit: 12, or 14, or the paper
+    module _ (x : Atoms) (m : ℕ) (w : InLimit b a limit x m) where
+      writes : Certain b a → length (own x) ≤ length buffer → length (own x) ≤ 60000
+          → Names (record { told = paper m (length (own x)); buffer = own x ++ drop (length (own x)) buffer })
+      unfolding Names
+      writes t room most e p q r =
+          let (k, told, stands) = r .writes book b a limit buffer c t x m w room most in
+          λ i. record { told = told i; buffer = stands i }
+
+      long : Certain b a → (length buffer < length (own x)) ⊎ (60000 < length (own x))
+          → Names (record { told = unnamed 14; buffer = buffer })
+      long t l = leaves (unnamed 14) (λ u n z. apart (cc)) (λ e p q r. r .tells-length book b a limit buffer c t x m w .1 l)
+
+      within-named : (r : Named) × Names r
+      within-named = ⊎-elim
+          (λ t. ⊎-elim (λ l. (_, long t (inl l))) (λ l. ⊎-elim (λ h. (_, long t (inr h))) (λ h. (_, writes t l h))
+          (lt-or-le 60000 (length (own x)))) (lt-or-le (length buffer) (length (own x))))
+          (λ u. (_, leaves (unnamed 12) (λ t n z. apart (cc)) (λ e p q r. r .tells-uncertain book b a limit buffer c x m w .1 u)))
+          (certain-or-not c (w .first))
+
+    call-named : (r : Named) × Names r
+    call-named = by (needs-some b 1 (omega arith) .1)
+      where
+        stops : {n : ℕ} → Needs b 1 n
+            → (limit < n) ⊎ ((n ≤ limit) × ((x : Atoms) × AnswerSet b x) × (limit < paper-needs-some b (named a) .0))
+            → Names (record { told = nameStopped limit; buffer = buffer })
+        stops needs l = leaves (nameStopped limit) (λ u n z. apart (cc))
+            (λ e p q r. q .naming-stops book b a limit buffer c _ _ needs (paper-needs-some b (named a) .1) .1 l)
+
+        by : {n : ℕ} → Needs b 1 n → (r : Named) × Names r
+        by {n} (to-reading {x = x} first) = ⊎-elim (λ h. (_, stops (to-reading first) (inl h)))
+            (λ h. let (m, needs) = paper-needs-some b (named a) in ⊎-elim
+            (λ l. (_, stops (to-reading first) (inr (h, (x, kth-answer b (nameable c .few-rules) first), l))))
+            (λ l. within-named x m (record { tries = n; first = first; first-within = h; needs = needs; paper-within = l }))
+            (lt-or-le limit m)) (lt-or-le limit n)
+        by {n} (to-end f) = ⊎-elim (λ h. (_, stops (to-end f) (inl h)))
+            (λ h. (
+              _,
+              leaves (nameFewer n 0) (λ u m z. apart (cc))
+                  (λ e p q r. q .naming-fewer book b a limit buffer c n (to-end f) h .1 (fewer-none b (nameable c .few-rules) f)),
+            )) (lt-or-le limit n)
+
+  named-one : (r : Named) × Names r
+  named-one = ⊎-elim
+      (λ (b, g). ⊎-elim (λ h. call-named (record { bytes = bytes; good-book = g; good-number = h }))
+      (λ h. (_, leaves (unnamed 13) (λ u n z. apart (cc)) (λ e p q r. p .name-atom book a limit buffer .1 (b, g, h))))
+      (lt-or-le (a .0) (b .atoms)))
+      (λ (i, at, d). (_, leaves (unnamedAt i at) (λ u n z. apart (cc)) (λ e p q r. p .name-book book a limit buffer i at .1 d)))
+      (every-book book)
+
+  pub name-only : (e : Engine) → Demand1 e → Demand2 e → Demand3 e → e .name book a limit buffer ≡ nameOf book a limit buffer
+  unfolding Names
+  name-only e p q r = let (z, f) = named-one in f e p q r ∙ sym (f ours ours-1 ours-2 ours-3)
+
+-- ---- checking
+
+pub check-only : (book s : List ℕ) → Bytes s → (e : Engine) → Demand1 e → Demand3 e → e .check book s ≡ checkOf book s
+check-only book s bytes e p r = ⊎-elim
+    (λ (b, g). ⊎-elim
+    (λ (a, k, h). r .complete book s b (atomNo a) g k h ∙ sym (ours-3 .complete book s b (atomNo a) g k h))
+    (λ (i, at, d). both i at (inr (b, g, d))) (every-paper book s bytes g))
+    (λ (i, at, d). both i at (inl d)) (every-book book)
+  where
+    both : (i at : ℕ) → DamagedBook book i at ⊎ ((b : Book) × GoodBook book b × DamagedPaper b s i at) → e .check book s ≡ checkOf book s
+    both i at d = p .check-bytes book s i at .1 d ∙ sym (ours-1 .check-bytes book s i at .1 d)

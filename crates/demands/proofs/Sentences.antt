@@ -1,0 +1,138 @@
+-- What one sentence of a demand says of any engine at a call, told by our answer to the same call: where ours gives a reading, writes a
+-- paper, accepts or stops, so does every engine of which that sentence holds. Each is the sentence at the values that our laws find.
+use mathlib.Core.Path.{_≡_, sym, _∙_, ap, subst}
+use mathlib.Core.Logic.{⊎-elim, _↔_}
+use mathlib.Core.Bool.{true}
+use mathlib.Core.List.{List, [], _∷_}
+use Prim.Native.Nat.{ℕ, zero, suc, _≤_}
+use native.Mathlib.Omega.{arith}
+use lib.Dec.{ltb}
+use lib.ListN.{length}
+use borrow.Author.Tests.{ltb-true}
+use Rattle.meaning.specs.declared.AtomNo.{AtomNo}
+use Rattle.meaning.specs.Sets.{every}
+use Rattle.meaning.specs.Books.{Atoms, atomNo, Book}
+use Rattle.meaning.specs.Claim.{named}
+use Rattle.meaning.proofs.Tests.{left, right, lt-or-le}
+use Rattle.book.specs.Format.{bookIn}
+use Rattle.book.specs.Rows.{Bytes}
+use Rattle.walk.specs.Tries.{to-reading}
+use Rattle.walk.specs.Find.{Told, set, stopped, refusedAt, refused, Answered, findOf}
+use Rattle.walk.proofs.Run.{apart}
+use Rattle.walk.proofs.Needs.{kth-count}
+use Rattle.walk.proofs.Demand.{find-set}
+use Rattle.writer.specs.Needs.{to-end, paperFor}
+use Rattle.writer.specs.Name.{paper, Answered as Named, nameOf}
+use Rattle.writer.proofs.Ways.{Found, Settled, Outcome, first-stopped, no-reading, paper-stopped, got-stuck, too-long, handed-over}
+use Rattle.writer.proofs.Ways.{name-outcome}
+use Rattle.checker.specs.Numbers.{certain}
+use Rattle.checker.specs.Check.{checkOf}
+use Rattle.checker.proofs.Accepted.{check-exact}
+use Rattle.demands.specs.Engine.{Engine}
+use Rattle.demands.specs.Demand2.{Call, GivesReadings, Stops}
+use Rattle.demands.specs.Demand3.{Complete, InLimit, Writes}
+use Rattle.demands.proofs.Damaged.{every-book, bytes-good}
+use Rattle.demands.proofs.Calls.{found-as, named-as, book-fits, readings-there, nameable}
+use Rattle.demands.proofs.Ours1.{ours-1}
+use Rattle.demands.proofs.Ours2.{ours-2}
+use Rattle.demands.proofs.Ours3.{settled-certain, ours-3, naming-of}
+
+pub bytes-of : (l : List ℕ) → every (λ n. ltb n 256) l ≡ true → Bytes l
+unfolding every
+bytes-of [] e i = omega arith
+bytes-of (x ∷ l) e zero = ltb-true x 256 (left (ltb x 256) _ e)
+bytes-of (x ∷ l) e (suc i) = bytes-of l (right (ltb x 256) _ e) i
+
+-- ---- finding
+
+-- the answers to good calls
+pub data Good : Told → Type 0 where
+  good-set : {t : ℕ} → Good (set t)
+  good-stop : {l : ℕ} → Good (stopped l)
+
+module _ (book : List ℕ) (bytes : Bytes book) (k limit : ℕ) (answer : List ℕ) where
+  -- a call that we answer so is good
+  call-of : {t : Told} → Good t → findOf book k limit answer .told ≡ t → (b : Book) × Call book b k answer
+  call-of {t} w e = ⊎-elim
+      (λ (b, g). (
+        b,
+        record {
+          bytes = bytes;
+          good-book = g;
+          good-number = ⊎-elim (λ h. h) (λ h. not-numbered (other (ours-1 .find-number book k limit answer .1 (b, g, omega arith))))
+              (lt-or-le 0 k);
+          good-room = ⊎-elim (λ h. ⊎-elim (λ n. not-numbered (other (ours-1 .find-room book k limit answer .1 (b, g, n, h))))
+              (λ n. not-numbered (other (ours-1 .find-number book k limit answer .1 (b, g, omega arith)))) (lt-or-le 0 k))
+              (λ h. h) (lt-or-le (length answer) (b .atoms));
+        },
+      ))
+      (λ (i, at, d). not-placed (other (ours-1 .find-book book k limit answer i at .1 d))) (every-book book)
+    where
+      other : {u : Told} → findOf book k limit answer .told ≡ u → Good u
+      other p = subst Good (sym e ∙ p) w
+
+      not-placed : {A : Type 0} {i at : ℕ} → Good (refusedAt i at) → A
+      not-placed x = elim x [ ]
+
+      not-numbered : {A : Type 0} {i : ℕ} → Good (refused i) → A
+      not-numbered x = elim x [ ]
+
+  pub given-as-ours : (e : Engine) → GivesReadings e → {t : ℕ} → findOf book k limit answer .told ≡ set t
+      → e .find book k limit answer ≡ findOf book k limit answer
+  given-as-ours e gives {t} told =
+      let (b, c) = call-of good-set told in
+      let g = c .good-book in
+      let ours-told = ap (λ (a : Answered). a .told) (sym (found-as g k limit answer)) ∙ told in
+      let (x, kth, h) = find-set b (book-fits g bytes .rules) k limit answer (c .good-number) (c .good-room) t .0 ours-told in
+      let all = readings-there g bytes in
+      let n = to-reading kth in
+      let l = kth-count b kth in
+      let (p, q) = gives book b k limit answer c _ all t n h l in
+      let (u, v) = ours-2 .gives-readings book b k limit answer c _ all t n h l in
+      let same-told = p ∙ sym u in let same-row = q x ∙ sym (v x) in
+      λ i. record { told = same-told i; buffer = same-row i }
+
+  pub stops-as-ours : (e : Engine) → Stops e → {t : Told} → Good t → findOf book k limit answer .told ≡ t
+      → (e .find book k limit answer .told ≡ stopped limit) ↔ (findOf book k limit answer .told ≡ stopped limit)
+  stops-as-ours e stops w told =
+      let (b, c) = call-of w told in
+      let (f, g) = stops book b k limit answer c in
+      let (u, v) = ours-2 .stops book b k limit answer c in
+      (λ p. v (f p), λ p. g (u p))
+
+-- ---- checking
+
+module _ (book s : List ℕ) (bytes : Bytes s) where
+  pub accepts-as-ours : (e : Engine) → Complete e → (a : ℕ) → checkOf book s ≡ certain a → e .check book s ≡ certain a
+  accepts-as-ours e complete a told =
+      let (g, k, h) = check-exact book s bytes a .0 told in
+      complete book s (bookIn book) (atomNo a) (bytes-good book s g) k h
+
+-- ---- naming
+
+-- our walks were within the limit where a paper was told, and all branches are settled
+handed : {b : Book} {a : AtomNo} {limit : ℕ} {buffer : List ℕ} {r : Named} → Outcome b (named a) limit buffer r
+    → {t n : ℕ} → r .told ≡ paper t n
+    → (x : Atoms) × Found b limit x × Settled b (named a) limit × (length (paperFor b (named a) x) ≤ length buffer)
+    × (length (paperFor b (named a) x) ≤ 60000)
+handed (first-stopped p h) e = apart (cc)
+handed (no-reading h l) e = apart (cc)
+handed (paper-stopped f p h) e = apart (cc)
+handed (got-stuck f u h) e = apart (cc)
+handed (too-long f s l) e = apart (cc)
+handed (handed-over {x} f s h l) e = (x, f, s, h, l)
+
+module _ (book : List ℕ) (bytes : Bytes book) (a : AtomNo) (limit : ℕ) (buffer : List ℕ) where
+  pub written-as-ours : (e : Engine) → Writes e → {t n : ℕ} → nameOf book a limit buffer .told ≡ paper t n
+      → e .name book a limit buffer ≡ nameOf book a limit buffer
+  written-as-ours e writes {t} told =
+      let (b, c) = naming-of book bytes a limit buffer told in
+      let in-book = ap (λ (r : Named). r .told) (sym (named-as (c .good-book) a limit buffer)) ∙ told in
+      let (x, (i, first, h), (all, m), room, most) = handed (name-outcome b (named a) limit buffer (nameable c)) in-book in
+      let w : InLimit b a limit x _ =
+      record { tries = i; first = first; first-within = h; needs = to-end all; paper-within = m } in
+      let holds = settled-certain c first all in
+      let (k, p, q) = writes book b a limit buffer c holds x _ w room most in
+      let (l, u, v) = ours-3 .writes book b a limit buffer c holds x _ w room most in
+      let same-told = p ∙ sym u in let same-paper = q ∙ sym v in
+      λ j. record { told = same-told j; buffer = same-paper j }

@@ -1,0 +1,97 @@
+-- Document 01's "Slips to rule out", each as a theorem. What a book means is computed for the worked books; the papers that make a slip
+-- are refused at the byte where they make it.
+use mathlib.Core.Path.{_≡_, refl, sym, _∙_, subst}
+use mathlib.Core.Bool.{true, false, false≢true}
+use mathlib.Core.List.{List, [], _∷_, List·Memᴰ·head, List·Memᴰ·tail, List·Memᴰ·eq-of-singleton}
+use Prim.Native.Nat.{ℕ}
+use Rattle.meaning.specs.declared.AtomNo.{AtomNo}
+use Rattle.meaning.specs.Sets.{every, some, everyBelow, someBelow, ascending}
+use Rattle.meaning.specs.Books.{Atoms, atomNo, sameAtom, sameRule, Book, count, rule, everyRule, someRule}
+use Rattle.meaning.specs.AnswerSet.{AnswerSet, Certain}
+use Rattle.meaning.specs.Colours.{put, heads, allIn, mayOn, blocked, clashing, uncoloured}
+use Rattle.meaning.specs.Claim.{shown, ended}
+use Rattle.meaning.specs.Paper.{unfounded, fails}
+use Rattle.meaning.specs.Choice.{ifb, ifLt, ifEq}
+use Rattle.meaning.proofs.Tests.{clash}
+use Rattle.meaning.proofs.Readings.{atomsOf}
+use Rattle.meaning.proofs.Cases.{circular-readings, choice-readings}
+use Rattle.meaning.proofs.Cases.{circular as circularBook, choice as choiceBook}
+use Rattle.meaning.proofs.Answers.{nothing-certain}
+use Rattle.meaning.proofs.Papers.{keeps-certain}
+use Rattle.book.specs.Format.{u16At, partOf, bytesOf, recordOf, lengthOf, ruleOf, recordsOf, rulesOf, readingOf, bodyOf, readOf}
+use Rattle.book.specs.Format.{andThen as recordsThen, bookOf, bookIn}
+use Rattle.walk.specs.Find.{set, findOf}
+use Rattle.writer.specs.Name.{paper, refused as unnamed, nameOf}
+use Rattle.checker.specs.Numbers.{certain, refused}
+use Rattle.checker.specs.Steps.{withRule, properList, withList, stepBy, stepOf}
+use Rattle.checker.specs.Branches.{andThen, afterStep, branchOf}
+use Rattle.checker.specs.Witness.{andThen as witnessThen, follows, orderOf, blockedOf, restFails, listOf, witnessOf}
+use Rattle.checker.specs.Check.{witnessTold, branchTold, stepsTold, trailerTold, paperOf, checkReading, checkOf}
+use Rattle.demands.specs.Engine.{Engine}
+use Rattle.demands.specs.Damaged.{GoodBook}
+use Rattle.demands.specs.Demand2.{Naming}
+use Rattle.demands.specs.Demand3.{Sound, WritesOnly}
+use Rattle.demands.specs.Printed.{choice, circular}
+use Rattle.demands.specs.Worked.{Holds, sevens}
+use Rattle.demands.specs.Forged.{carriedPaper, barredBook, barredPaper, blockedPaper}
+use Rattle.demands.proofs.Damaged.{good-is}
+use Rattle.demands.proofs.Worked.{At, row}
+
+-- the bytes of two worked books are the books whose readings are computed in meaning
+printed : (bookIn circular ≡ circularBook) × (bookIn choice ≡ choiceBook)
+unfolding bookIn bookOf readOf bodyOf readingOf recordsOf rulesOf ruleOf lengthOf recordOf bytesOf partOf recordsThen u16At ifb ifLt ifEq
+printed = (refl, refl)
+
+-- ---- "Two rules that hold each other up are kept on because neither is off. Support decides."
+
+pub mutual-support : {b : Book} → GoodBook circular b → (x : Atoms) → AnswerSet b x
+    → (x (atomNo 0) ≡ false) × (x (atomNo 1) ≡ false)
+unfolding atomsOf
+mutual-support g x answer =
+    let (l, m, same) = circular-readings .only x (rw (sym (good-is circular g) ∙ printed .0) at answer) in
+    let e = List·Memᴰ·eq-of-singleton m in
+    (rw e at (same (atomNo 0)), rw e at (same (atomNo 1)))
+
+pub circular-uncertain : {b : Book} → GoodBook circular b → Certain b (atomNo 0) → ⊥
+circular-uncertain g c = let (x, answer) = c .one in clash (c .each x answer) (mutual-support g x answer .0)
+
+-- ---- "An atom called certain because no answer set lacks it, in a book that has none."
+
+-- no paper is accepted for a book without an answer set, by any checker of which demand 3's first half holds
+pub none-certain : (e : Engine) → Sound e → (book : List ℕ) → ((b : Book) → GoodBook book b → (x : Atoms) → AnswerSet b x → ⊥)
+    → (s : List ℕ) (a : ℕ) → e .check book s ≡ certain a → ⊥
+none-certain e sound book none s a told = let (p, (b, g, c)) = sound book s a told in nothing-certain b (none b g) c
+
+-- ---- "A name taken from the first answer set."
+
+-- a paper is told only if the atom is in every answer set, of any engine of which demand 3's last sentence holds
+pub told-certain : (e : Engine) → WritesOnly e → {book : List ℕ} {b : Book} {a : AtomNo} {limit : ℕ} {buffer : List ℕ} → Naming book b a
+    → {t n : ℕ} → e .name book a limit buffer .told ≡ paper t n → Certain b a
+told-certain e only {book} {b} {a} {limit} {buffer} c {t} {n} told =
+    let (most, room, k, later) = only book b a limit buffer c t n told in keeps-certain b a k
+
+-- so 0 is not named in "0 if not 1; 1 if not 0", where the first answer set has it and the second has not
+pub first-set-names-nobody : (findOf choice 1 1000 (sevens 3) ≡ record { told = set 2; buffer = 1 ∷ 0 ∷ sevens 1 })
+    × (nameOf choice (atomNo 0) 1000 (sevens 12) ≡ record { told = unnamed 12; buffer = sevens 12 })
+unfolding At Holds
+first-set-names-nobody = (row 8, row 11)
+
+pub choice-uncertain : {b : Book} → GoodBook choice b → Certain b (atomNo 0) → ⊥
+unfolding atomsOf
+choice-uncertain g c =
+    let x = atomsOf (false ∷ true ∷ []) in
+    let answer : AnswerSet choiceBook x = choice-readings .each _ (List·Memᴰ·tail (List·Memᴰ·head refl)) in
+    false≢true (c .each x (subst (λ (b : Book). AnswerSet b x) (sym (printed .1) ∙ good-is choice g) answer))
+
+-- ---- "The second branch of a split starting from what the first had added."
+-- ---- "Listing a rule under 55 because its negative atoms block it."
+
+pub slips-refused : (checkOf choice carriedPaper ≡ refused 25 3) × (checkOf barredBook barredPaper ≡ refused 25 2)
+    × (checkOf barredBook blockedPaper ≡ certain 0)
+unfolding checkOf checkReading paperOf trailerTold stepsTold branchTold witnessTold
+    witnessOf listOf restFails blockedOf orderOf follows witnessThen
+    branchOf afterStep andThen stepOf stepBy withList properList withRule
+    readOf bodyOf readingOf recordsOf rulesOf ruleOf lengthOf recordOf bytesOf partOf recordsThen u16At
+    unfounded fails ended shown clashing uncoloured blocked mayOn allIn heads put
+    someRule everyRule rule count sameRule sameAtom ascending someBelow everyBelow some every ifb ifLt ifEq
+slips-refused = (refl, refl, refl)

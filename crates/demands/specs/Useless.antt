@@ -1,0 +1,151 @@
+-- The five useless versions of document 01, each an engine of its own and as sharp as it can be: what its fault does not touch it does as
+-- ours does. Document 01, "What the promises say": "Five useless versions are to be tried."
+--
+--   refusesAll w i at    "One refuses each call": with the excuse w, and the paper with number i at the place `at`
+--   sameSet f            "One gives the same answer set": f finds it without a look at k
+--   alwaysAccepts        "or always accepts": every paper in which nothing of 1 to 23 is wrong
+--   closesOnce           "One closes once and calls the rest off"
+--   firstBranch          "or checks only the first branch": of each split; the second is passed over by its form
+--   doesNothing e        "One does nothing and reports success": whatever e reports
+--   inventsTries n       "One invents tries": always n
+use mathlib.Core.List.{List, [], _∷_}
+use Prim.Native.Nat.{ℕ, zero, suc, _+_}
+use lib.ListN.{length, getD}
+use Rattle.meaning.specs.declared.colouring.Colouring.{Colouring}
+use Rattle.meaning.specs.Books.{Book}
+use Rattle.meaning.specs.Colours.{Pair, onSide, put, start, clashing}
+use Rattle.meaning.specs.Claim.{Claim}
+use Rattle.meaning.specs.Paper.{codeOn, codeOff, codeUnfounded, codeSplit, codeEnd}
+use Rattle.meaning.specs.Written.{nothing, pair}
+use Rattle.meaning.specs.Computed.{close}
+use Rattle.meaning.specs.Choice.{ifb, ifLt, ifEq}
+use Rattle.book.specs.Format.{Reading, good, bad, readOf, bookIn}
+use Rattle.walk.specs.Readings.{readingOf}
+use Rattle.walk.specs.Run.{rowOf, writeAt}
+use Rattle.walk.specs.Find.{set, fewer, stopped, refusedAt, refused, findOf}
+use Rattle.walk.specs.Find.{Told as FindTold, Answered as Found}
+use Rattle.writer.specs.Name.{Told as NameTold, nameOf}
+use Rattle.writer.specs.Name.{fewer as nameFewer, stopped as nameStopped, refusedAt as unnamedAt, refused as unnamed}
+use Rattle.checker.specs.Numbers.{certain}
+use Rattle.checker.specs.Numbers.{Told as CheckTold, refused as unchecked}
+use Rattle.checker.specs.Steps.{Stepped, goes, parts, ends, fails, stepOf}
+use Rattle.checker.specs.Branches.{Walked, done, andThen}
+use Rattle.checker.specs.Branches.{stopped as stops}
+use Rattle.checker.specs.Check.{branchTold, checkOf}
+use Rattle.checker.specs.Rows.{atomOf, countOf, startOf, claimOf}
+use Rattle.demands.specs.Engine.{Engine}
+
+-- ---- refuses each call
+
+-- the limit (9), too few readings (11), another number, another number with a place
+pub data Excuse : Type 0 where
+  at-limit : Excuse
+  too-few : ℕ → ℕ → Excuse
+  by-number : ℕ → Excuse
+  by-place : ℕ → ℕ → Excuse
+
+unfoldable pub findExcuse : Excuse → ℕ → FindTold
+findExcuse at-limit limit = stopped limit
+findExcuse (too-few t n) limit = fewer t n
+findExcuse (by-number i) limit = refused i
+findExcuse (by-place i at) limit = refusedAt i at
+
+unfoldable pub nameExcuse : Excuse → ℕ → NameTold
+nameExcuse at-limit limit = nameStopped limit
+nameExcuse (too-few t n) limit = nameFewer t n
+nameExcuse (by-number i) limit = unnamed i
+nameExcuse (by-place i at) limit = unnamedAt i at
+
+abbrev pub refusesAll : Excuse → ℕ → ℕ → Engine
+refusesAll w i at = record {
+  find = λ book k limit answer. record { told = findExcuse w limit; buffer = answer };
+  name = λ book a limit buffer. record { told = nameExcuse w limit; buffer = buffer };
+  check = λ book s. unchecked i at;
+}
+
+-- ---- gives the same answer set, or always accepts
+
+abbrev pub sameSet : (List ℕ → ℕ → List ℕ → Found) → Engine
+sameSet f = record { find = λ book k limit answer. f book limit answer; name = nameOf; check = checkOf }
+
+-- our own refusals by 1 to 23, otherwise the answer t
+unfoldable pub formFirst : CheckTold → CheckTold → CheckTold
+formFirst (certain a) t = t
+formFirst (unchecked i at) t = ifLt i 24 (unchecked i at) t
+
+abbrev pub alwaysAccepts : Engine
+alwaysAccepts = record { find = findOf; name = nameOf; check = λ book s. formFirst (checkOf book s) (certain (atomOf s)) }
+
+-- ---- closes once and calls the rest off, or checks only the first branch
+
+-- the pair d of the first closing, with all that has no colour off, is taken for the only reading
+unfoldable pub onceIn : Book → Colouring → ℕ → List ℕ → Found
+onceIn b d k answer =
+    ifb (clashing b (pair d)) (record { told = fewer 1 0; buffer = answer })
+    (ifEq k 1 (record { told = set 1; buffer = writeAt 0 (rowOf b (readingOf b d)) answer }) (record { told = fewer 1 1; buffer = answer }))
+
+unfoldable pub onceOf : Reading → ℕ → ℕ → List ℕ → Found
+onceOf (good n r index l) k limit answer =
+    let b : Book = record { atoms = n; rules = l } in
+    ifEq k 0 (record { told = refused 15; buffer = answer })
+    (ifLt (length answer) (b .atoms) (record { told = refused 8; buffer = answer })
+    (ifEq limit 0 (record { told = stopped 0; buffer = answer }) (onceIn b (close b nothing) k answer)))
+onceOf (bad i at) k limit answer = record { told = refusedAt i at; buffer = answer }
+
+abbrev pub closesOnce : Engine
+closesOnce = record { find = λ book k limit answer. onceOf (readOf book) k limit answer; name = nameOf; check = checkOf }
+
+-- the end of the branch at byte `at`, by the codes of its steps alone
+unfoldable pub skipOf : ℕ → List ℕ → ℕ → Walked
+skipOf zero s at = stops 24 at
+skipOf (suc f) s at =
+    ifEq (getD s at 0) codeEnd (done (at + 1))
+    (ifEq (getD s at 0) codeSplit (andThen (skipOf f s (at + 2)) (λ m. skipOf f s m))
+    (ifEq (getD s at 0) codeUnfounded (skipOf f s (at + 2 + getD s (at + 1) 0))
+    (ifEq (getD s at 0) codeOn (skipOf f s (at + 2)) (ifEq (getD s at 0) codeOff (skipOf f s (at + 2)) (stops 24 at)))))
+
+-- as afterStep of the checker, but for the second branch of a split
+unfoldable pub afterFirst : ℕ → Pair → Stepped → (ℕ → Pair → Walked) → (ℕ → Walked) → Walked
+afterFirst at c (goes next d) further skip = further next d
+afterFirst at c (parts next r) further skip = andThen (further next (put onSide (r ∷ []) c)) skip
+afterFirst at c (ends next) further skip = done next
+afterFirst at c (fails i) further skip = stops i at
+
+unfoldable pub firstOf : ℕ → Book → Claim → List ℕ → ℕ → ℕ → Pair → Walked
+firstOf zero b k s from at c = stops 24 at
+firstOf (suc f) b k s from at c =
+    afterFirst at c (stepOf b k s from at c) (λ next d. firstOf f b k s from next d) (λ m. skipOf f s m)
+
+abbrev pub firstBranch : Engine
+firstBranch = record {
+  find = findOf;
+  name = nameOf;
+  check = λ book s. formFirst (checkOf book s) (branchTold (bookIn book) s (atomOf s) (countOf s) (startOf s)
+      (firstOf (suc (startOf s)) (bookIn book) (claimOf s) s (startOf s) 0 start));
+}
+
+-- ---- does nothing and reports success
+
+abbrev pub doesNothing : Engine → Engine
+doesNothing e = record {
+  find = λ book k limit answer. record { told = e .find book k limit answer .told; buffer = answer };
+  name = λ book a limit buffer. record { told = e .name book a limit buffer .told; buffer = buffer };
+  check = e .check;
+}
+
+-- ---- invents tries
+
+unfoldable pub withTries : ℕ → FindTold → FindTold
+withTries n (set t) = set n
+withTries n (fewer t m) = fewer n m
+withTries n (stopped limit) = stopped limit
+withTries n (refusedAt i at) = refusedAt i at
+withTries n (refused i) = refused i
+
+abbrev pub inventsTries : ℕ → Engine
+inventsTries n = record {
+  find = λ book k limit answer.
+      record { told = withTries n (findOf book k limit answer .told); buffer = findOf book k limit answer .buffer };
+  name = nameOf;
+  check = checkOf;
+}
