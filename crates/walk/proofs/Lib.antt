@@ -1,4 +1,4 @@
--- The laws of the walk. Read in this order.
+-- The laws of the walk, and those that its code rests on. Read in this order.
 pub mod Events
 pub mod Rows
 pub mod Run
@@ -15,3 +15,11 @@ pub mod Paging
 pub mod Listing
 pub mod Told
 pub mod Cases
+pub mod Searches
+pub mod Agreeing
+pub mod Barring
+pub mod RowBytes
+pub mod HeadTables
+pub mod Meeting
+pub mod Walking
+pub mod Answering

@@ -37,7 +37,7 @@ pub listed-readings : (b : Book) (n : ℕ) (row : List ℕ) (done todo : List Ev
 unfolding readings
 listed-readings b n row done todo l = ap (readingsIn b) (l .walk) ∙ readings-append b done todo
 
-later-events : (b : Book) (n : ℕ) (x : Atoms) → 1 ≤ n → eventsFrom b n x ≡ rest b nothing x
+pub later-events : (b : Book) (n : ℕ) (x : Atoms) → 1 ≤ n → eventsFrom b n x ≡ rest b nothing x
 unfolding eventsFrom
 later-events b zero x h = absurd (omega arith)
 later-events b (suc n) x h = refl

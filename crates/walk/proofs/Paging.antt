@@ -29,12 +29,12 @@ use Rattle.walk.proofs.Rest.{rest-sound}
 
 -- ---- the room of a page
 
-room-some : (b : Book) (n : ℕ) → b .atoms ≤ n → 1 ≤ roomIn b n
+pub room-some : (b : Book) (n : ℕ) → b .atoms ≤ n → 1 ≤ roomIn b n
 unfolding roomIn
 room-some b n h = eq-either (λ (m : ℕ). 1 ≤ m) _ _ _ _ (λ e. omega arith)
     (λ e. le-div-iff-mul-le {k = b .atoms} {x = 1} {y = n} (omega arith) .1 (rw one-mul h))
 
-rooms-fit : (b : Book) (n : ℕ) → roomIn b n * b .atoms ≤ n
+pub rooms-fit : (b : Book) (n : ℕ) → roomIn b n * b .atoms ≤ n
 unfolding roomIn
 rooms-fit b n = eq-either (λ (m : ℕ). m * b .atoms ≤ n) _ _ _ _ (λ e. rw (e, one-mul) (omega arith)) (λ e. div-mul-le-self n (b .atoms))
 

@@ -3,11 +3,11 @@
 use mathlib.Core.Path.{_≡_, refl, sym, _∙_, ap}
 use Rattle.meaning.specs.Choice.{ifb, ifEq}
 use Rattle.book.proofs.Told.{refusalAt, refusal-again}
-use Rattle.walk.specs.declared.find.Found.{Found}
-use Rattle.walk.specs.declared.find.Found.the-variants.{Set, Fewer, Stopped, Book, NoRoom, NoNumber, NotLeast}
-use Rattle.walk.specs.declared.page.Page.{Page}
-use Rattle.walk.specs.declared.page.Page.the-variants.{Whole, Last, Stopped as Cut, NotLeast as Wrong}
-use Rattle.walk.specs.declared.page.Page.the-variants.{Book as BadBook, NoRoom as TooSmall}
+use Rattle.walk.specs.declared.kth.Found.{Found}
+use Rattle.walk.specs.declared.kth.Found.the-variants.{Set, Fewer, Stopped, Book, NoRoom, NoNumber, NotLeast}
+use Rattle.walk.specs.declared.page_answer.Page.{Page}
+use Rattle.walk.specs.declared.page_answer.Page.the-variants.{Whole, Last, Stopped as Cut, NotLeast as Wrong}
+use Rattle.walk.specs.declared.page_answer.Page.the-variants.{Book as BadBook, NoRoom as TooSmall}
 use Rattle.walk.specs.Find.{Told, set, fewer, stopped, refusedAt, refused, told}
 use Rattle.walk.specs.Page.{Told as PageTold, whole, last, stopped as cut, wrong, refusedAt as badAt, refused as small}
 use Rattle.walk.specs.Page.{told as pageTold}

@@ -15,8 +15,8 @@ use Rattle.walk.specs.Events.{events}
 use Rattle.walk.specs.Run.{Wanted, State, run}
 use Rattle.walk.specs.declared.tally.Halt.{Halt}
 use Rattle.walk.specs.declared.tally.Halt.the-variants.{Going, Full, Limit, NotLeast}
-use Rattle.walk.specs.declared.find.Found.{Found}
-use Rattle.walk.specs.declared.find.Found.the-variants.{Set, Fewer, Stopped, Book as BadBook, NoRoom, NoNumber, NotLeast as Wrong}
+use Rattle.walk.specs.declared.kth.Found.{Found}
+use Rattle.walk.specs.declared.kth.Found.the-variants.{Set, Fewer, Stopped, Book as BadBook, NoRoom, NoNumber, NotLeast as Wrong}
 
 -- success tells the tries; 11 tells all tries and sets; 9 tells L; the others tell number and place, or the number only
 pub data Told : Type 0 where

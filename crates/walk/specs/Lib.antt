@@ -5,3 +5,5 @@ pub mod Tries
 pub mod Run
 pub mod Find
 pub mod Page
+pub mod Picked
+pub mod Room

@@ -20,8 +20,8 @@ use Rattle.walk.specs.Events.{Event, events, rest}
 use Rattle.walk.specs.Run.{State, run}
 use Rattle.walk.specs.declared.tally.Halt.{Halt}
 use Rattle.walk.specs.declared.tally.Halt.the-variants.{Going, Full, Limit, NotLeast}
-use Rattle.walk.specs.declared.page.Page.{Page}
-use Rattle.walk.specs.declared.page.Page.the-variants.{Whole, Last, Stopped, NotLeast as Wrong, Book as BadBook, NoRoom}
+use Rattle.walk.specs.declared.page_answer.Page.{Page}
+use Rattle.walk.specs.declared.page_answer.Page.the-variants.{Whole, Last, Stopped, NotLeast as Wrong, Book as BadBook, NoRoom}
 
 -- a full page: all tries so far; the last page: all tries, its rows; the limit was met, or a reading is no least model (10), behind so many
 -- rows; a refusal

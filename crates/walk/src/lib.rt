@@ -1,11 +1,21 @@
 // The walk: finds the readings of a book, in the order that the book fixes, and counts the tries.
 // Stands on closing, book and meaning.
 
-mod find;
-mod page;
+mod answer;
+mod bytes;
+mod colours;
+mod kth;
+mod meet;
+mod page_answer;
+mod pages;
+mod resume;
 mod tally;
+mod walk;
 
-pub use find::Found;
-pub use page::Page;
+pub use kth::Found;
+pub use kth::find;
+pub use kth::first;
+pub use page_answer::Page;
+pub use pages::page;
 pub use tally::Halt;
 pub use tally::Tally;

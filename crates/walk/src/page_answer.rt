@@ -1,4 +1,4 @@
-// The next page of a listing of all readings.
+// What a call for the next page of a listing answers.
 use book::Refusal;
 
 pub enum Page {

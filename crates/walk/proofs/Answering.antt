@@ -1,0 +1,162 @@
+-- From what the code reads to what is answered (src/kth.rt, src/pages.rt): the book's bytes are read as good or refused, a walk starts with
+-- room for its rows, and its tally tells what find and page tell.
+use mathlib.Core.Path.{_≡_, refl, sym, _∙_, ap}
+use mathlib.Core.List.{List, []}
+use Prim.Native.Nat.{ℕ, _+_, _*_, _-_, _/_, _≤_, _<_}
+use native.Mathlib.Nat.{one-mul}
+use native.Mathlib.Omega.{arith}
+use lib.ListN.{length}
+use Rattle.meaning.specs.declared.colouring.Colouring.{Colouring}
+use Rattle.meaning.specs.Books.{Atoms, Book}
+use Rattle.meaning.specs.Choice.{ifEq}
+use Rattle.meaning.specs.Written.{nothing}
+use Rattle.meaning.proofs.Choice.{lt-yes, lt-no, eq-yes, eq-no}
+use Rattle.book.specs.declared.refusal.Refusal.{Refusal}
+use Rattle.book.specs.declared.reader.Shape.{Shape}
+use Rattle.book.specs.declared.reader.Read.{Read}
+use Rattle.book.specs.declared.reader.Read.the-variants.{Good, Refused}
+use Rattle.book.specs.Numbers.{refused as badly, numberOf, placeOf, told as bookTold}
+use Rattle.book.specs.Format.{Reading, good, bad, readOf, toldOf, bookOf, bookIn, ReadAs}
+use Rattle.book.proofs.Shape.{told-good}
+use Rattle.book.proofs.Places.{shape-atoms}
+use Rattle.walk.specs.Events.{Event, events, rest}
+use Rattle.walk.specs.Run.{Wanted, State, run}
+use Rattle.walk.specs.Room.{Room}
+use Rattle.walk.specs.Find.{Told, refused, refusedAt, toldBy, startOf, answeredBy, findIn, findOf}
+use Rattle.walk.specs.Page.{Told as PageTold, refused as small, refusedAt as badAt, toldBy as pageToldBy, setIn, eventsFrom, roomIn}
+use Rattle.walk.specs.Page.{pagedBy, pageIn, pageReading, pageOf}
+use Rattle.walk.specs.declared.tally.Halt.{Halt}
+use Rattle.walk.specs.declared.tally.Halt.the-variants.{Going, Full, Limit, NotLeast}
+use Rattle.walk.specs.declared.tally.Tally.{Tally}
+use Rattle.walk.proofs.Run.{apart}
+use Rattle.walk.proofs.Demand.{find-bad-book, find-good-book}
+use Rattle.walk.proofs.Paging.{room-some, rooms-fit}
+use Rattle.walk.proofs.Listing.{later-events}
+
+-- ---- the book
+
+told-refused : (x : Reading) (i at : ℕ) → toldOf x ≡ badly i at → x ≡ bad i at
+unfolding toldOf
+told-refused (good n k index l) i at e = apart (cc)
+told-refused (bad j to) i at e = let p : j ≡ i = cc in let q : to ≡ at = cc in λ m. bad (p m) (q m)
+
+module _ (s : List ℕ) {x : Read} (e : bookTold x ≡ toldOf (readOf s)) where
+  pub read-as : {h : Shape} → x ≡ Good h → ReadAs s h
+  read-as f = sym e ∙ ap bookTold f
+
+  read-bad : {f : Refusal} → x ≡ Refused f → readOf s ≡ bad (numberOf f) (placeOf f)
+  read-bad f = told-refused (readOf s) _ _ (sym e ∙ ap bookTold f)
+
+  pub find-refused : (k limit : ℕ) (answer : List ℕ) {f : Refusal} → x ≡ Refused f
+      → record { told = refusedAt (numberOf f) (placeOf f); buffer = answer } ≡ findOf s k limit answer
+  find-refused k limit answer f = sym (find-bad-book s k limit answer _ _ (read-bad f))
+
+  pub page-refused : (limit tries : ℕ) (row out : List ℕ) {f : Refusal} → x ≡ Refused f
+      → record { told = badAt (numberOf f) (placeOf f); buffer = out } ≡ pageOf s limit tries row out
+  unfolding pageOf pageReading
+  page-refused limit tries row out f = sym (rw (read-bad f))
+
+-- ---- the start of a walk
+
+pub room-start : (b : Book) (pass room tries : ℕ) (out : List ℕ) → 1 ≤ room → room * b .atoms ≤ length out
+    → Room b pass room (record { tally = record { tries = tries; sets = 0; halt = Going }; out = out })
+room-start b pass room tries out h k = record { some = h; counts = omega arith; wanting = λ g. omega arith; fits = k }
+
+pub walk-from : (b : Book) (w : Wanted) (s : State) {c d : Colouring} {u : State} → c ≡ d → u ≡ run b w s (events b c) → u ≡ run b w s (events b d)
+walk-from b w s e f = f ∙ ap (λ (x : Colouring). run b w s (events b x)) e
+
+-- ---- find
+
+any-buffer : (h : Halt) (t : Tally) (limit : ℕ) (o p : List ℕ) → toldBy h (record { tally = t; out = o }) limit
+    ≡ toldBy h (record { tally = t; out = p }) limit
+unfolding toldBy
+any-buffer Going t limit o p = refl
+any-buffer Full t limit o p = refl
+any-buffer Limit t limit o p = refl
+any-buffer NotLeast t limit o p = refl
+
+module _ (s : List ℕ) (h : Shape) (e : ReadAs s h) where
+  pub one-row : (out : List ℕ) → h .atoms ≤ length out → 1 * bookIn s .atoms ≤ length out
+  one-row out l = rw (one-mul, shape-atoms s h e) l
+
+  module _ (k limit : ℕ) (answer : List ℕ) where
+    find-read : findOf s k limit answer ≡ findIn (bookIn s) k limit answer
+    find-read = find-good-book s k limit answer _ _ _ _ (told-good (readOf s) _ _ _ e)
+
+    pub find-no-number : k ≡ 0 → record { told = refused 15; buffer = answer } ≡ findOf s k limit answer
+    unfolding findIn
+    find-no-number z = sym (find-read ∙ eq-yes _ _ _ _ z)
+
+    module _ (n : k ≡ 0 → ⊥) where
+      pub find-no-room : length answer < h .atoms → record { told = refused 8; buffer = answer } ≡ findOf s k limit answer
+      unfolding findIn
+      find-no-room l = sym (find-read ∙ eq-no _ _ _ _ n ∙ lt-yes _ _ _ _ (rw (shape-atoms s h e) l))
+
+      pub find-walked : h .atoms ≤ length answer → {t : Tally} {out : List ℕ} {r : Told}
+          → record { tally = t; out = out } ≡ run (bookIn s) (record { pass = k - 1; room = 1; limit = limit }) (startOf answer) (events (bookIn s) nothing)
+          → r ≡ toldBy (t .halt) (record { tally = t; out = [] }) limit → record { told = r; buffer = out } ≡ findOf s k limit answer
+      unfolding findIn
+      find-walked l {t} {out} f g =
+          rw (g ∙ any-buffer (t .halt) t limit [] out)
+          (sym (find-read ∙ eq-no _ _ _ _ n ∙ lt-no _ _ _ _ (rw (shape-atoms s h e) l) ∙ ap (λ (u : State). answeredBy u limit) (sym f)))
+
+-- ---- page
+
+page-any-buffer : (h : Halt) (t : Tally) (o p : List ℕ) → pageToldBy h (record { tally = t; out = o }) ≡ pageToldBy h (record { tally = t; out = p })
+unfolding pageToldBy
+page-any-buffer Going t o p = refl
+page-any-buffer Full t o p = refl
+page-any-buffer Limit t o p = refl
+page-any-buffer NotLeast t o p = refl
+
+first-events : (b : Book) (n : ℕ) (x : Atoms) → n ≡ 0 → eventsFrom b n x ≡ events b nothing
+unfolding eventsFrom
+first-events b n x e = rw e
+
+module _ (s : List ℕ) (h : Shape) (e : ReadAs s h) where
+  pub page-read : (limit tries : ℕ) (row out : List ℕ) → pageIn (bookIn s) limit tries row out ≡ pageOf s limit tries row out
+  unfolding pageOf pageReading bookIn bookOf
+  page-read limit tries row out = rw (told-good (readOf s) _ _ _ e)
+
+  module _ (limit tries : ℕ) (row out : List ℕ) where
+    pub page-no-room : length out < h .atoms → record { told = small 8; buffer = out } ≡ pageIn (bookIn s) limit tries row out
+    unfolding pageIn
+    page-no-room l = sym (lt-yes _ _ _ _ (rw (shape-atoms s h e) l))
+
+    module _ (l : h .atoms ≤ length out) {room : ℕ} (f : room ≡ ifEq (h .atoms) 0 1 (length out / h .atoms)) where
+      room-is : room ≡ roomIn (bookIn s) (length out)
+      unfolding roomIn
+      room-is = f ∙ ap (λ (a : ℕ). ifEq a 0 1 (length out / a)) (sym (shape-atoms s h e))
+
+      pub page-room : Room (bookIn s) 0 room (record { tally = record { tries = tries; sets = 0; halt = Going }; out = out })
+      page-room =
+          room-start (bookIn s) 0 room tries out (rw room-is (room-some (bookIn s) (length out) (rw (shape-atoms s h e) l)))
+          (rw room-is (rooms-fit (bookIn s) (length out)))
+
+      page-walked : {t : Tally} {w : List ℕ} {r : PageTold} → record { tally = t; out = w }
+          ≡ run (bookIn s) (record { pass = 0; room = room; limit = limit })
+          (record { tally = record { tries = tries; sets = 0; halt = Going }; out = out }) (eventsFrom (bookIn s) tries (setIn row))
+          → r ≡ pageToldBy (t .halt) (record { tally = t; out = [] }) → record { told = r; buffer = w } ≡ pageIn (bookIn s) limit tries row out
+      unfolding pageIn
+      page-walked {t} {w} g k =
+          rw (k ∙ page-any-buffer (t .halt) t [] w)
+          (sym (lt-no _ _ _ _ (rw (shape-atoms s h e) l) ∙ ap pagedBy (rw (← room-is) (sym g))))
+
+      abbrev w : Wanted
+      w = record { pass = 0; room = room; limit = limit }
+
+      abbrev start : State
+      start = record { tally = record { tries = tries; sets = 0; halt = Going }; out = out }
+
+      module _ {c : Colouring} (empty : c ≡ nothing) {t : Tally} {o : List ℕ} {r : PageTold}
+          (k : r ≡ pageToldBy (t .halt) (record { tally = t; out = [] })) where
+        pub page-first : tries ≡ 0 → record { tally = t; out = o } ≡ run (bookIn s) w start (events (bookIn s) c)
+            → record { told = r; buffer = o } ≡ pageIn (bookIn s) limit tries row out
+        page-first z g =
+            page-walked (walk-from (bookIn s) w start empty g ∙ ap (run (bookIn s) w start) (sym (first-events (bookIn s) tries (setIn row) z))) k
+
+        pub page-later : (tries ≡ 0 → ⊥) → record { tally = t; out = o } ≡ run (bookIn s) w start (rest (bookIn s) c (setIn row))
+            → record { told = r; buffer = o } ≡ pageIn (bookIn s) limit tries row out
+        page-later n g =
+            page-walked (g ∙ ap (λ (x : Colouring). run (bookIn s) w start (rest (bookIn s) x (setIn row))) empty
+            ∙ ap (run (bookIn s) w start) (sym (later-events (bookIn s) tries (setIn row) (omega arith)))) k

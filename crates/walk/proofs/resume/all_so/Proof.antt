@@ -1,0 +1,68 @@
+use native.Mathlib.Omega.{arith}
+use mathlib.Core.Path.{_≡_}
+use mathlib.Core.Bool.{true}
+use mathlib.Core.List.{map}
+use Prim.Native.Nat.{_-_, _≤_}
+use lib.ListN.{length, take}
+use borrow.Author.Tests.{not-true, not-false}
+use Rattle.meaning.specs.Sets.{every}
+use Rattle.meaning.specs.Books.{atomNo}
+use Rattle.walk.proofs.Agreeing.{so, so-none, so-next, so-fails, so-all}
+use borrow.Author.Needs.{needs}
+use Rattle.walk.proofs.resume.all_so.Statement.{statement}
+use Rattle.walk.proofs.resume.all_so.Tie as tie
+
+abbrev Inv-loop : tie.InvT-loop
+Inv-loop part row inside i₀ i = (i ≤ length part) × (every (so inside row) (take i (map atomNo part)) ≡ true)
+
+abbrev μ-loop : tie.MeasureT-loop
+μ-loop part row inside i₀ i = length part - i
+
+loop-holds : tie.Need-loop-holds Inv-loop μ-loop
+loop-holds c = search (needs, so-none)
+
+shared-slice-read-in-row : tie.Need-shared-slice-read-in-row Inv-loop μ-loop
+shared-slice-read-in-row c = search needs
+
+in-row-requires : tie.Need-in-row-requires Inv-loop μ-loop
+in-row-requires c κs = search needs
+
+agrees-requires : tie.Need-agrees-requires Inv-loop μ-loop
+agrees-requires c κs = search needs
+
+returns : tie.Need-returns Inv-loop μ-loop
+returns c =
+    let l = c .before .before .before .before .before in
+    let s = l .before .before .before .args in
+    so-fails (s .inside) (s .row .now) (s .part .now) (l .loop .i) (omega arith) (c .before .before .in-row .ensures) (c .before .agrees .ensures)
+    (not-true _ (c .if1 .taken))
+
+add-i : tie.Need-add-i Inv-loop μ-loop
+add-i c = search needs
+
+loop-less : tie.Need-loop-less Inv-loop μ-loop
+loop-less c = search needs
+
+loop-again : tie.Need-loop-again Inv-loop μ-loop
+loop-again c = search (needs, so-next, not-false)
+
+returns-2 : tie.Need-returns-2 Inv-loop μ-loop
+returns-2 c =
+    let s = c .before .before .before .before .args in
+    so-all (s .inside) (s .row .now) (s .part .now) (c .before .loop .i) (omega arith) (c .before .loop .inv .1)
+
+pub all-so-spec : {M : Type 1} → statement M
+all-so-spec =
+    tie.close
+    (tie.spec
+    Inv-loop
+    μ-loop
+    loop-holds
+    shared-slice-read-in-row
+    in-row-requires
+    agrees-requires
+    returns
+    add-i
+    loop-less
+    loop-again
+    returns-2)

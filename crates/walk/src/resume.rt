@@ -1,0 +1,86 @@
+// The walk again from where a reading was found. Going down to it makes one closing a level and no
+// try: those tries were made when it was found.
+ghost use mathlib.Core.Path.{_≡_};
+ghost use mathlib.Core.List.{map};
+ghost use Prim.Native.Nat.{_<_};
+ghost use Rattle.meaning.specs.Sets.{every};
+ghost use Rattle.meaning.specs.Books.{atomNo};
+ghost use Rattle.meaning.specs.AnswerSet.{generating};
+ghost use Rattle.meaning.specs.Computed.{agree};
+ghost use Rattle.book.specs.Format.{bookIn, ReadAs};
+ghost use Rattle.walk.specs.Events.{rest};
+ghost use Rattle.walk.specs.Run.{State, run};
+ghost use Rattle.walk.specs.Page.{setIn};
+ghost use Rattle.walk.specs.Room.{Room};
+use crate::answer::agrees;
+use crate::bytes::in_row;
+use crate::colours::Picked;
+use crate::colours::clashes;
+use crate::colours::lowest_uncoloured;
+use crate::tally::Tally;
+use crate::walk::walk;
+use book::Shape;
+use book::negatives;
+use book::positives;
+use closing::close;
+use meaning::Colouring;
+use meaning::RuleNo;
+
+// Every atom of the part is in the row's set; or, where `inside` is false, none is.
+fn all_so(part: &[u8], row: &[u8], inside: bool) -> bool
+    ensures { λ r. ⌜ r ≡
+        every (λ a. agree inside (setIn (now (row .entry)) a)) (map atomNo (now (part .entry))) ⌝ }
+{
+    let mut i = 0;
+    while i < part.len() {
+        if !agrees(inside, in_row(row, part[i])) {
+            return false;
+        }
+        i += 1;
+    }
+    true
+}
+
+// The rule is one of those that generate the row's set.
+fn generates(book: &[u8], shape: Shape, r: RuleNo, row: &[u8]) -> bool
+    requires { ⌜ ReadAs (now book) shape × (r .0 < shape .rules) ⌝ }
+    ensures { λ g. ⌜ g ≡ generating (bookIn (now (book .entry))) (setIn (now (row .entry))) r ⌝ }
+{
+    if !all_so(positives(book, shape, r), row, true) {
+        return false;
+    }
+    all_so(negatives(book, shape, r), row, false)
+}
+
+// Walks on behind the reading of the last row, from the colouring c.
+pub fn resume(
+    book: &[u8],
+    shape: Shape,
+    c: Colouring,
+    last: &[u8],
+    pass: u32,
+    room: usize,
+    limit: u32,
+    t: Tally,
+    out: &mut [u8],
+) -> Tally
+    requires { ⌜ ReadAs (now book) shape
+        × Room (bookIn (now book)) pass room (record { tally = t; out = now out }) ⌝ }
+    ensures { λ r. ⌜ _≡_ {A = State} (record { tally = r; out = now (out .exit) })
+        (run (bookIn (now (book .entry))) (record { pass = pass; room = room; limit = limit })
+        (record { tally = t; out = now (out .entry) })
+        (rest (bookIn (now (book .entry))) c (setIn (now (last .entry))))) ⌝ }
+{
+    let d = close(book, shape, c);
+    if clashes(shape.rules, &d.on, &d.off) {
+        return t;
+    }
+    let Picked::Rule(r) = lowest_uncoloured(shape.rules, &d.on, &d.off) else {
+        return t;
+    };
+    if !generates(book, shape, r, last) {
+        return resume(book, shape, d.with_off(r), last, pass, room, limit, t, out);
+    }
+    let first = resume(book, shape, d.with_on(r), last, pass, room, limit, t, out);
+    walk(book, shape, d.with_off(r), pass, room, limit, first, out)
+}

@@ -1,0 +1,56 @@
+// The walk itself.
+ghost use mathlib.Core.Path.{_≡_};
+ghost use Rattle.book.specs.Format.{bookIn, ReadAs};
+ghost use Rattle.walk.specs.Events.{events};
+ghost use Rattle.walk.specs.Run.{State, run};
+ghost use Rattle.walk.specs.Room.{Room};
+use crate::colours::Picked;
+use crate::colours::clashes;
+use crate::colours::lowest_uncoloured;
+use crate::meet::meet;
+use crate::tally::Halt;
+use crate::tally::Tally;
+use book::Shape;
+use closing::close;
+use meaning::Colouring;
+
+// Walks on from the colouring c: one try, and after a choice first with the rule on, then with it
+// off, each from the colouring before the choice.
+pub fn walk(
+    book: &[u8],
+    shape: Shape,
+    c: Colouring,
+    pass: u32,
+    room: usize,
+    limit: u32,
+    t: Tally,
+    out: &mut [u8],
+) -> Tally
+    requires { ⌜ ReadAs (now book) shape
+        × Room (bookIn (now book)) pass room (record { tally = t; out = now out }) ⌝ }
+    ensures { λ r. ⌜ _≡_ {A = State} (record { tally = r; out = now (out .exit) })
+        (run (bookIn (now (book .entry))) (record { pass = pass; room = room; limit = limit })
+        (record { tally = t; out = now (out .entry) }) (events (bookIn (now (book .entry))) c)) ⌝ }
+{
+    let halt = t.halt;
+    let Halt::Going = halt else {
+        return t;
+    };
+    if limit <= t.tries {
+        return Tally {
+            tries: t.tries,
+            sets: t.sets,
+            halt: Halt::Limit,
+        };
+    }
+    let d = close(book, shape, c);
+    if clashes(shape.rules, &d.on, &d.off) {
+        return t.tried(t.sets, Halt::Going);
+    }
+    let Picked::Rule(r) = lowest_uncoloured(shape.rules, &d.on, &d.off) else {
+        return meet(book, shape, &d.on, pass, room, limit, t, out);
+    };
+    let forked = t.tried(t.sets, Halt::Going);
+    let first = walk(book, shape, d.with_on(r), pass, room, limit, forked, out);
+    walk(book, shape, d.with_off(r), pass, room, limit, first, out)
+}
