@@ -19,27 +19,28 @@ use Rattle.book.proofs.Places.{rule-keeps}
 
 -- a list of atoms that have a place in a table
 module _ (x : Atoms) where
-  every-table : (l : List AtomNo) → ((a : AtomNo) → List·Memᴰ a l → a .0 < 255) → every (atomsIn (atomTable x)) l ≡ every x l
+  pub every-table : (l : List AtomNo) → ((a : AtomNo) → List·Memᴰ a l → a .0 < 255) → every (atomsIn (atomTable x)) l ≡ every x l
   unfolding every
   every-table [] f = refl
   every-table (a ∷ l) f =
       rw (table-in x a (f a (List·Memᴰ·head refl)), every-table l (λ c m. f c (List·Memᴰ·tail m)))
 
-  some-table : (l : List AtomNo) → ((a : AtomNo) → List·Memᴰ a l → a .0 < 255) → some (atomsIn (atomTable x)) l ≡ some x l
+  pub some-table : (l : List AtomNo) → ((a : AtomNo) → List·Memᴰ a l → a .0 < 255) → some (atomsIn (atomTable x)) l ≡ some x l
   unfolding some
   some-table [] f = refl
   some-table (a ∷ l) f =
       rw (table-in x a (f a (List·Memᴰ·head refl)), some-table l (λ c m. f c (List·Memᴰ·tail m)))
 
--- rule r of a good book whose atom count is a byte, and a pair of sets of rules
-module _ (s : List ℕ) (h : Shape) (e : ReadAs s h) (n : h .atoms < 256) (r : RuleNo) (l : r .0 < h .rules) (c : Pair) where
-  pos-small : (a : AtomNo) → List·Memᴰ a (rule (bookIn s) r .pos) → a .0 < 255
+-- rule r of a good book whose atom count is a byte
+module _ (s : List ℕ) (h : Shape) (e : ReadAs s h) (n : h .atoms < 256) (r : RuleNo) (l : r .0 < h .rules) where
+  pub pos-small : (a : AtomNo) → List·Memᴰ a (rule (bookIn s) r .pos) → a .0 < 255
   pos-small a m = omega (arith, rule-keeps s h e r l .pos .below a m)
 
-  neg-small : (a : AtomNo) → List·Memᴰ a (rule (bookIn s) r .neg) → a .0 < 255
+  pub neg-small : (a : AtomNo) → List·Memᴰ a (rule (bookIn s) r .neg) → a .0 < 255
   neg-small a m = omega (arith, rule-keeps s h e r l .neg .below a m)
 
-  module _ (headed : List Bool) (f : headed ≡ atomTable (heads (bookIn s) (c .on))) where
+  -- a pair of sets of rules, and the heads of its on rules
+  module _ (c : Pair) (headed : List Bool) (f : headed ≡ atomTable (heads (bookIn s) (c .on))) where
     pub goes-on-mayOn : (lost : List Bool) → lost ≡ atomTable (allIn (bookIn s) (c .off))
         → (every (atomsIn headed) (rule (bookIn s) r .pos) && every (atomsIn lost) (rule (bookIn s) r .neg)) ≡ mayOn (bookIn s) c r
     unfolding mayOn

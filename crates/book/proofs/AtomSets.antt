@@ -52,15 +52,15 @@ table-of : (l : List Bool) (x : Atoms) → length l ≡ 255 → ((n : ℕ) → n
 table-of l x e f =
     ext-getD false l (atomTable x) (e ∙ sym (table-length x)) (λ n h. f n (rw e at h) ∙ sym (table-at x n (rw e at h)))
 
-table-same : (x y : Atoms) → ((a : AtomNo) → x a ≡ y a) → atomTable x ≡ atomTable y
+pub table-same : (x y : Atoms) → ((a : AtomNo) → x a ≡ y a) → atomTable x ≡ atomTable y
 table-same x y f = table-of (atomTable x) y (table-length x) (λ n h. table-at x n h ∙ f (atomNo n))
 
-table-filled : (v : Bool) → replicate 255 v ≡ atomTable (λ a. v)
+pub table-filled : (v : Bool) → replicate 255 v ≡ atomTable (λ a. v)
 unfolding atomTable tableFrom
 table-filled v = refl
 
 -- one store of v at atom a gives y, which is x but for what it says of a
-table-set : (x y : Atoms) (a : AtomNo) (v : Bool) → a .0 < 255 → y a ≡ v → ((c : AtomNo) → (c .0 ≡ a .0 → ⊥) → x c ≡ y c)
+pub table-set : (x y : Atoms) (a : AtomNo) (v : Bool) → a .0 < 255 → y a ≡ v → ((c : AtomNo) → (c .0 ≡ a .0 → ⊥) → x c ≡ y c)
     → set (atomTable x) (a .0) v ≡ atomTable y
 table-set x y a v h e f =
     table-of (set (atomTable x) (a .0) v) y (simp length-set (table-length x)) (λ n k. stored n k (ℕ-discrete n (a .0)))
@@ -69,7 +69,7 @@ table-set x y a v h e f =
     stored n k (yes p) = rw p (getD-set-same (atomTable x) (a .0) v false (rw table-length h) ∙ sym e)
     stored n k (no q) = getD-set-other (atomTable x) (a .0) n v false q ∙ table-at x n k ∙ f (atomNo n) q
 
-other-atom : (a c : AtomNo) → (c .0 ≡ a .0 → ⊥) → sameAtom a c ≡ false
+pub other-atom : (a c : AtomNo) → (c .0 ≡ a .0 → ⊥) → sameAtom a c ≡ false
 unfolding sameAtom
 other-atom a c n = ne-eqb (a .0) (c .0) (λ e. n (sym e))
 

@@ -18,7 +18,7 @@ use crate::rules::positives;
 use meaning::RuleNo;
 
 // Every atom of the part is in the table.
-fn every_in(part: &[u8], table: &[bool; 255]) -> bool
+pub fn every_in(part: &[u8], table: &[bool; 255]) -> bool
     requires { ⌜ Below 255 (now part) ⌝ }
     ensures { λ b. ⌜ b ≡ every (atomsIn (now (table .entry))) (map atomNo (now (part .entry))) ⌝ }
 {
@@ -33,7 +33,7 @@ fn every_in(part: &[u8], table: &[bool; 255]) -> bool
 }
 
 // Some atom of the part is in the table.
-fn some_in(part: &[u8], table: &[bool; 255]) -> bool
+pub fn some_in(part: &[u8], table: &[bool; 255]) -> bool
     requires { ⌜ Below 255 (now part) ⌝ }
     ensures { λ b. ⌜ b ≡ some (atomsIn (now (table .entry))) (map atomNo (now (part .entry))) ⌝ }
 {

@@ -10,9 +10,13 @@ mod refusal;
 mod rules;
 mod tables;
 
+pub use conditions::every_in;
 pub use conditions::goes_on;
 pub use conditions::is_blocked;
 pub use conditions::is_starved;
+pub use conditions::some_in;
+pub use number::u16_at;
+pub use number::wide;
 pub use reader::Read;
 pub use reader::Shape;
 pub use reader::read_book;

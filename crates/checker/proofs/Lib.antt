@@ -1,4 +1,4 @@
--- The laws of checking that need no code. Read in this order.
+-- First the laws of checking that need no code, then those by which the checker's functions are proved. Read in this order.
 pub mod Steps
 pub mod Bytes
 pub mod Branches
@@ -10,3 +10,10 @@ pub mod Places
 pub mod Refusals
 pub mod Told
 pub mod Cases
+pub mod Lists
+pub mod Conditions
+pub mod StepChecked
+pub mod StepsRun
+pub mod BranchWalked
+pub mod WitnessChecked
+pub mod PaperChecked

@@ -6,3 +6,4 @@ pub mod Witness
 pub mod Check
 pub mod Rows
 pub mod Places
+pub mod Parts

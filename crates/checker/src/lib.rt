@@ -1,6 +1,19 @@
 // The checker: whoever wrote the paper, if it is accepted then the book has an answer set and the
 // claimed atom is in all of them. Stands on book and meaning only.
+//
+// `check` reads the book, then the paper's trailer, its branches and its witness. A branch is run
+// step by step (`run_steps`) up to its end or its split; a step is checked against the colouring as
+// it stands, with no closing. What each part promises is in specs/.
 
 mod answer;
+mod branch;
+mod condition;
+mod list;
+mod paper;
+mod run;
+mod step;
+mod trailer;
+mod witness;
 
 pub use answer::Checked;
+pub use paper::check;

@@ -19,8 +19,8 @@ use Rattle.walk.specs.Find.{Answered as Found, findOf}
 use Rattle.walk.specs.Find.{told as findTold}
 use Rattle.walk.specs.Page.{Paged, pageOf}
 use Rattle.walk.specs.Page.{told as pageTold}
-use Rattle.walk.specs.declared.find.Found.{Found as FoundAnswer}
-use Rattle.walk.specs.declared.page.Page.{Page}
+use Rattle.walk.specs.declared.kth.Found.{Found as FoundAnswer}
+use Rattle.walk.specs.declared.page_answer.Page.{Page}
 use Rattle.walk.proofs.Told.{found-one, page-one}
 use Rattle.writer.specs.Name.{Answered as Named, nameOf}
 use Rattle.writer.specs.Name.{told as nameTold}

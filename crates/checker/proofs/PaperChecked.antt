@@ -1,0 +1,106 @@
+-- The whole check, one law for each answer: the book's refusals, then the paper's length, mark and trailer, then its steps and its witness.
+-- Each is the definition with the tests before it decided. Document 01, "Numbers given back".
+use mathlib.Core.Path.{_≡_, refl, sym, _∙_, ap}
+use mathlib.Core.List.{List}
+use Prim.Native.Nat.{ℕ, suc, _+_, _-_, _≤_, _<_}
+use native.Mathlib.Omega.{arith}
+use lib.ListN.{length, getD}
+use Rattle.meaning.specs.declared.colouring.Colouring.{Colouring}
+use Rattle.meaning.specs.Books.{atomNo, Book}
+use Rattle.meaning.specs.Claim.{Claim, named}
+use Rattle.meaning.specs.Written.{nothing, pair}
+use Rattle.meaning.proofs.Choice.{lt-yes, lt-no, eq-yes, eq-no}
+use Rattle.meaning.proofs.Written.{pair-nothing}
+use Rattle.book.specs.declared.reader.Shape.{Shape}
+use Rattle.book.specs.Numbers.{shape, refused as book-refused}
+use Rattle.book.specs.Format.{u16At, Reading, good, bad, readOf, toldOf, bookOf, bookIn, ReadAs}
+use Rattle.checker.specs.Numbers.{certain, refused}
+use Rattle.checker.specs.Branches.{Walked, done, stopped, BranchTo}
+use Rattle.checker.specs.Witness.{fine, wrong, witnessOf}
+use Rattle.checker.specs.Check.{witnessTold, branchTold, stepsTold, trailerTold, paperOf, checkReading, checkOf}
+
+-- ---- the steps and the witness, where the first branch, from the empty colouring, has come to x
+
+module _ (b : Book) (k : Claim) (s : List ℕ) (a w from : ℕ) (c : Colouring) (x : Walked) (e : c ≡ nothing)
+    (p : BranchTo b k s from 0 (pair c) x) where
+  steps-are : stepsTold b k s a w from ≡ branchTold b s a w from x
+  unfolding stepsTold
+  steps-are = ap (branchTold b s a w from) (sym (rw (ap pair e ∙ pair-nothing) at (p (suc from) (omega arith))))
+
+  pub steps-stopped : (i at : ℕ) → x ≡ stopped i at → stepsTold b k s a w from ≡ refused i at
+  unfolding branchTold
+  steps-stopped i at q = steps-are ∙ rw q
+
+  pub steps-gap : (at : ℕ) → x ≡ done at → (at ≡ from → ⊥) → stepsTold b k s a w from ≡ refused 26 at
+  unfolding branchTold
+  steps-gap at q n = steps-are ∙ rw q (eq-no _ _ _ _ n)
+
+  module _ (at : ℕ) (q : x ≡ done at) (h : at ≡ from) where
+    pub witness-wrong : (place : ℕ) → witnessOf b s from w ≡ wrong place → stepsTold b k s a w from ≡ refused 27 place
+    unfolding branchTold witnessTold
+    witness-wrong place t = steps-are ∙ rw (q, t) (eq-yes _ _ _ _ h)
+
+    pub witness-fine : witnessOf b s from w ≡ fine → stepsTold b k s a w from ≡ certain a
+    unfolding branchTold witnessTold
+    witness-fine t = steps-are ∙ rw (q, t) (eq-yes _ _ _ _ h)
+
+-- ---- the length, the mark and the trailer
+
+module _ (b : Book) (s : List ℕ) where
+  pub paper-short : length s < 6 → paperOf b s ≡ refused 20 0
+  unfolding paperOf
+  paper-short h = lt-yes _ _ _ _ h
+
+  pub paper-long : 60000 < length s → paperOf b s ≡ refused 20 0
+  unfolding paperOf
+  paper-long h = lt-no _ _ _ _ (omega arith) ∙ lt-yes _ _ _ _ h
+
+  module _ (h : 6 ≤ length s) (g : length s ≤ 60000) where
+    pub mark-first : (getD s (length s - 2) 0 ≡ 0x50 → ⊥) → paperOf b s ≡ refused 21 (length s - 2)
+    unfolding paperOf
+    mark-first n = lt-no _ _ _ _ h ∙ lt-no _ _ _ _ g ∙ eq-no _ _ _ _ n
+
+    module _ (m : getD s (length s - 2) 0 ≡ 0x50) where
+      pub mark-second : (getD s (length s - 1) 0 ≡ 0x46 → ⊥) → paperOf b s ≡ refused 21 (length s - 2)
+      unfolding paperOf
+      mark-second n = lt-no _ _ _ _ h ∙ lt-no _ _ _ _ g ∙ eq-yes _ _ _ _ m ∙ eq-no _ _ _ _ n
+
+      -- w and from are the trailer's numbers, as the code has them
+      module _ (n : getD s (length s - 1) 0 ≡ 0x46) (w from : ℕ) (e : w ≡ getD s (length s - 5) 0) (q : from ≡ u16At s (length s - 4)) where
+        trailer-read : paperOf b s ≡ trailerTold b s (getD s (length s - 6) 0) w from
+        unfolding paperOf
+        trailer-read = lt-no _ _ _ _ h ∙ lt-no _ _ _ _ g ∙ eq-yes _ _ _ _ m ∙ eq-yes _ _ _ _ n ∙ rw (e, q)
+
+        pub trailer-wrong : (from + w + 6 ≡ length s → ⊥) → paperOf b s ≡ refused 22 (length s - 4)
+        unfolding trailerTold
+        trailer-wrong z = trailer-read ∙ eq-no _ _ _ _ z
+
+        module _ (z : from + w + 6 ≡ length s) where
+          pub atom-out : b .atoms ≤ getD s (length s - 6) 0 → paperOf b s ≡ refused 23 (length s - 6)
+          unfolding trailerTold
+          atom-out l = trailer-read ∙ eq-yes _ _ _ _ z ∙ lt-no _ _ _ _ l
+
+          pub atom-in : getD s (length s - 6) 0 < b .atoms
+              → paperOf b s ≡ stepsTold b (named (atomNo (getD s (length s - 6) 0))) s (getD s (length s - 6) 0) w from
+          unfolding trailerTold
+          atom-in l = trailer-read ∙ eq-yes _ _ _ _ z ∙ lt-yes _ _ _ _ l
+
+-- ---- the book
+
+reading-refused : (x : Reading) (p : List ℕ) (i at : ℕ) → toldOf x ≡ book-refused i at → checkReading x p ≡ refused i at
+unfolding toldOf checkReading
+reading-refused (good n k index l) p i at e = let z : _≡_ {A = ℕ} 0 1 = cc in absurd (omega arith)
+reading-refused (bad j place) p i at e = cc
+
+pub check-refused : (s p : List ℕ) (i at : ℕ) → toldOf (readOf s) ≡ book-refused i at → checkOf s p ≡ refused i at
+unfolding checkOf
+check-refused s p i at e = reading-refused (readOf s) p i at e
+
+reading-good : (x : Reading) (p : List ℕ) (n k index : ℕ) → toldOf x ≡ shape n k index → checkReading x p ≡ paperOf (bookOf x) p
+unfolding toldOf checkReading bookOf
+reading-good (good n k index l) p i j m e = refl
+reading-good (bad j place) p n k index e = let z : _≡_ {A = ℕ} 0 1 = cc in absurd (omega arith)
+
+pub check-good : (s p : List ℕ) (h : Shape) → ReadAs s h → checkOf s p ≡ paperOf (bookIn s) p
+unfolding checkOf bookIn
+check-good s p h e = reading-good (readOf s) p _ _ _ e

@@ -1,0 +1,127 @@
+-- A branch comes to what its steps and then its end or its split come to; a split to what its first branch comes to, or else its second.
+-- The bytes left fall round the cycle.
+use borrow.Author.Needs.{needs}
+use native.Mathlib.Omega.{arith}
+use Prim.Native.Nat.{ℕ, _+_, _-_, _<_}
+use lib.ListN.{length}
+use mathlib.Core.Path.{_≡_}
+use borrow.Fn.Kinds.{In}
+use borrow.Fn.PlainCycle.{Measures, is, falls, and}
+use Rattle.book.proofs.Places.{shape-count}
+use Rattle.checker.proofs.BranchWalked.{ends-done, run-from, run-leads, run-room, run-ends, run-bad, run-fails, run-splits}
+use Rattle.checker.proofs.BranchWalked.{split-bad, split-fails, split-done}
+use Rattle.checker.proofs.branch.branch.Reads as branch
+use Rattle.checker.proofs.branch.branch.Kinds as branch-kinds
+use Rattle.checker.proofs.branch.+branch+split.Lts-branch as branch-lts
+use Rattle.checker.proofs.branch.split.Reads as split
+use Rattle.checker.proofs.branch.split.Kinds as split-kinds
+use Rattle.checker.proofs.branch.+branch+split.Lts-split as split-lts
+use Rattle.checker.proofs.run.run_steps.Reads as run-steps-reads
+use Rattle.meaning.proofs.colouring.Colouring.with_off.Reads as with-off-reads
+use Rattle.meaning.proofs.colouring.Colouring.with_on.Reads as with-on-reads
+use Rattle.checker.proofs.branch.+branch+split.{statement}
+use Rattle.checker.proofs.branch.+branch+split.Tie.{close}
+
+-- the bytes left, twice, and one more for a branch: they fall from a branch to its split, and from a split to each of its branches
+abbrev μ-branch : Measures 2 branch-kinds.ps ℕ
+μ-branch κs a = a .1 .1 .1 .0 .from - a .1 .1 .1 .1 .0 + (a .1 .1 .1 .0 .from - a .1 .1 .1 .1 .0) + 1
+
+abbrev μ-split : Measures 2 split-kinds.ps ℕ
+μ-split κs a = a .1 .1 .1 .0 .from - a .1 .1 .1 .1 .0 + (a .1 .1 .1 .0 .from - a .1 .1 .1 .1 .0)
+
+abbrev branch-at : ℕ → In 2 branch-kinds.ps
+branch-at t = and 2 branch-kinds.ps (is 2 branch-kinds.ps μ-branch t) branch.Pre
+
+abbrev branch-below : ℕ → In 2 branch-kinds.ps
+branch-below t = and 2 branch-kinds.ps (falls 2 branch-kinds.ps _<_ μ-branch t) branch.Pre
+
+abbrev split-at : ℕ → In 2 split-kinds.ps
+split-at t = and 2 split-kinds.ps (is 2 split-kinds.ps μ-split t) split.Pre
+
+abbrev split-below : ℕ → In 2 split-kinds.ps
+split-below t = and 2 split-kinds.ps (falls 2 split-kinds.ps _<_ μ-split t) split.Pre
+
+abbrev branch-calls : ℕ → branch-lts.Claims
+branch-calls t = (run-steps-reads.Asked, run-steps-reads.Learnt, split-below t, split.Post)
+
+abbrev split-calls : ℕ → split-lts.Claims
+split-calls t = (with-on-reads.Asked, with-on-reads.Learnt, branch-below t, branch.Post, with-off-reads.Asked, with-off-reads.Learnt)
+
+-- ---- branch
+
+branch-add-t13 : (t : ℕ) → branch-lts.Need-add-t13 (branch-calls t) (branch-at t) branch.Post
+branch-add-t13 t c = let h = run-room (c .before .before .run-steps .ensures) (c .enum-told .given .1) in search needs
+
+branch-split-requires : (t : ℕ) → branch-lts.Need-split-requires (branch-calls t) (branch-at t) branch.Post
+branch-split-requires t c κs =
+    let k = c .before .before .before .before in
+    let (f, e) = run-splits (k .run-steps .ensures) (c .before .before .stop .given .1) in
+    let h = run-from (k .run-steps .ensures) in
+    (omega arith, (k .before .before .before .pre .1, f, e))
+
+branch-returns : (t : ℕ) → branch-lts.Need-returns (branch-calls t) (branch-at t) branch.Post
+branch-returns t c = run-ends (c .before .before .run-steps .ensures) (c .enum-told .given .1)
+
+branch-returns-2 : (t : ℕ) → branch-lts.Need-returns-2 (branch-calls t) (branch-at t) branch.Post
+branch-returns-2 t c = run-leads (c .before .before .before .before .before .run-steps .ensures) (c .split .ensures)
+
+branch-returns-3 : (t : ℕ) → branch-lts.Need-returns-3 (branch-calls t) (branch-at t) branch.Post
+branch-returns-3 t c = run-bad (c .before .before .run-steps .ensures) (c .enum-told2 .given .1)
+
+branch-returns-4 : (t : ℕ) → branch-lts.Need-returns-4 (branch-calls t) (branch-at t) branch.Post
+branch-returns-4 t c = run-fails (c .before .before .run-steps .ensures) (c .enum-told3 .given .1)
+
+-- ---- split
+
+on-long : (t : ℕ) (s : split-lts.Start (split-calls t) (split-at t) split.Post) → length (s .args .c .on) ≡ 255
+on-long t s = search needs
+
+off-long : (t : ℕ) (s : split-lts.Start (split-calls t) (split-at t) split.Post) → length (s .args .c .off) ≡ 255
+off-long t s = search needs
+
+split-with-on-requires : (t : ℕ) → split-lts.Need-with-on-requires (split-calls t) (split-at t) split.Post
+split-with-on-requires t c κs = omega (arith, shape-count _ _ (c .before .before .pre .1 .0 .read), c .before .before .pre .1 .1 .0)
+
+split-branch-requires : (t : ℕ) → split-lts.Need-branch-requires (split-calls t) (split-at t) split.Post
+split-branch-requires t c κs = (omega (arith, c .before .before .before .pre .1 .1 .1), c .before .before .before .pre .1 .0)
+
+split-with-off-requires : (t : ℕ) → split-lts.Need-with-off-requires (split-calls t) (split-at t) split.Post
+split-with-off-requires t c κs =
+    let start = c .before .before .before .before .before .before .before in
+    omega (arith, shape-count _ _ (start .pre .1 .0 .read), start .pre .1 .1 .0)
+
+split-branch-requires-2 : (t : ℕ) → split-lts.Need-branch-requires-2 (split-calls t) (split-at t) split.Post
+split-branch-requires-2 t c κs =
+    let (h, g) = ends-done (c .before .before .before .before .branch .ensures .1) (c .before .before .next .given .1) in
+    (omega arith, c .before .before .before .before .before .before .before .before .pre .1 .0)
+
+split-returns : (t : ℕ) → split-lts.Need-returns (split-calls t) (split-at t) split.Post
+split-returns t c =
+    let start = c .before .before .before .before .before .before .before .before .before in
+    split-done _ _ _ _ _ _ _ _ _ (start .pre .1 .1) (start .pre .1 .2)
+    (omega (arith, shape-count _ _ (start .pre .1 .0 .read))) (on-long t start)
+    (c .before .before .before .before .before .before .with-on .ensures) (c .before .before .before .before .before .branch .ensures)
+    _ (c .before .before .before .next .given .1) (off-long t start) _ (c .before .with-off .ensures) _ (c .branch2 .ensures)
+
+split-returns-2 : (t : ℕ) → split-lts.Need-returns-2 (split-calls t) (split-at t) split.Post
+split-returns-2 t c =
+    let start = c .before .before .before .before .before .before .before in
+    split-bad _ _ _ _ _ _ _ _ _ (start .pre .1 .1) (start .pre .1 .2)
+    (omega (arith, shape-count _ _ (start .pre .1 .0 .read))) (on-long t start)
+    (c .before .before .before .before .with-on .ensures) (c .before .before .before .branch .ensures) _ (c .before .place .given .1)
+
+split-returns-3 : (t : ℕ) → split-lts.Need-returns-3 (split-calls t) (split-at t) split.Post
+split-returns-3 t c =
+    let start = c .before .before .before .before .before .before .before in
+    split-fails _ _ _ _ _ _ _ _ _ (start .pre .1 .1) (start .pre .1 .2)
+    (omega (arith, shape-count _ _ (start .pre .1 .0 .read))) (on-long t start)
+    (c .before .before .before .before .with-on .ensures) (c .before .before .before .branch .ensures) _ (c .before .place2 .given .1)
+
+pub +branch+split-spec : {M : Type 1} → statement M
++branch+split-spec = close μ-branch μ-split
+    (λ t. branch-lts.spec (branch-calls t) (branch-at t) branch.Post (λ c κs. search needs) (λ c. search needs) (branch-add-t13 t)
+    (λ c. search needs) (branch-split-requires t) (λ c. search needs) (λ c. search needs) (branch-returns t) (branch-returns-2 t)
+    (branch-returns-3 t) (branch-returns-4 t))
+    (λ t. split-lts.spec (split-calls t) (split-at t) split.Post (λ c. search needs) (split-with-on-requires t) (split-branch-requires t)
+    (λ c. search needs) (split-with-off-requires t) (split-branch-requires-2 t) (λ c. search needs) (λ c. search needs) (split-returns t)
+    (split-returns-2 t) (split-returns-3 t))

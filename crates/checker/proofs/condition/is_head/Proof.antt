@@ -1,0 +1,53 @@
+-- No rule of the set below r has the atom as head, until one is found.
+use borrow.Author.Needs.{needs}
+use native.Mathlib.Omega.{arith}
+use mathlib.Core.Path.{_≡_, sym}
+use mathlib.Core.Logic.{⊎-elim}
+use mathlib.Core.Bool.{false, _&&_}
+use Prim.Native.Nat.{_-_, _≤_}
+use Rattle.meaning.specs.Sets.{someBelow}
+use Rattle.meaning.specs.Books.{ruleNo, sameAtom, rule}
+use Rattle.meaning.specs.Written.{of}
+use Rattle.meaning.proofs.Sets.{none-next, none-end}
+use Rattle.book.specs.Format.{bookIn}
+use Rattle.book.proofs.Places.{shape-count, shape-in}
+use Rattle.checker.proofs.Conditions.{head-here, head-other, head-out, head-none}
+use Rattle.checker.proofs.condition.is_head.Statement.{statement}
+use Rattle.checker.proofs.condition.is_head.Tie as tie
+
+abbrev Inv-loop : tie.InvT-loop
+Inv-loop book shape a set r₀ r = (r ≤ shape .rules)
+    × (someBelow r (λ n. of set (ruleNo n) && sameAtom (rule (bookIn book) (ruleNo n) .head) a) ≡ false)
+
+abbrev μ-loop : tie.MeasureT-loop
+μ-loop book shape a set r₀ r = shape .rules - r
+
+loop-holds : tie.Need-loop-holds Inv-loop μ-loop
+unfolding someBelow
+loop-holds c = search needs
+
+returns : tie.Need-returns Inv-loop μ-loop
+returns c =
+    let start = c .before .before .before .before .before .before .before .before .before .before .before in
+    sym (head-here _ _ _ _ (c .before .before .before .before .before .before .before .before .before .loop .r) _
+    (c .before .before .before .before .before .before .wide .ensures .0) (c .before .before .before .head .ensures)
+    (shape-in _ _ (start .pre) (ruleNo (c .before .before .before .before .before .before .before .before .before .loop .r))
+    (omega arith)) (c .before .before .before .before .if2 .taken) (c .if3 .taken))
+
+loop-again : tie.Need-loop-again Inv-loop μ-loop
+loop-again c = (
+  omega arith,
+  none-next _ _ (⊎-elim (λ w. head-other _ _ _ _ (c .before .before .before .before .before .loop .r) _
+      (c .before .before .wide .ensures .0) (w .1 .ensures) (w .4 .left)) (λ w. head-out _ _ _ _ _
+      (c .before .before .wide .ensures .0) (w .left)) (c .if2 .came)) (c .before .before .before .before .before .loop .inv .1),
+)
+
+returns-2 : tie.Need-returns-2 Inv-loop μ-loop
+returns-2 c =
+    sym (head-none _ _ _ _ (shape-count _ _ (c .before .before .before .before .pre)) (none-end _ _ _ (omega arith) (omega arith)
+    (c .before .before .loop .inv .1)))
+
+pub is-head-spec : {M : Type 1} → statement M
+is-head-spec =
+    tie.close (tie.spec Inv-loop μ-loop loop-holds (λ c κs. search needs) (λ c. search needs) (λ c κs. search needs) returns
+    (λ c. search needs) (λ c. search needs) loop-again returns-2)

@@ -1,0 +1,53 @@
+-- The first i numbers are below R, and whether the list ascends is what the rest says from `least` on.
+use borrow.Author.Needs.{needs}
+use native.Mathlib.Omega.{arith}
+use mathlib.Core.Path.{_≡_, sym, _∙_}
+use mathlib.Core.Bool.{true}
+use Prim.Native.Nat.{_-_, _≤_}
+use lib.Dec.{ltb}
+use lib.ListN.{length, take, drop}
+use Rattle.meaning.specs.Sets.{every, ascending}
+use Rattle.checker.proofs.Lists.{rising, rising-all, rising-next, proper-out, proper-stops, proper-next, proper-end}
+use Rattle.checker.proofs.list.is_proper.Statement.{statement}
+use Rattle.checker.proofs.list.is_proper.Tie as tie
+
+abbrev Inv-loop : tie.InvT-loop
+Inv-loop list rules least₀ i₀ least i = (i ≤ length list) × (every (λ n. ltb n rules) (take i list) ≡ true)
+    × (ascending list ≡ rising least (drop i list))
+
+abbrev μ-loop : tie.MeasureT-loop
+μ-loop list rules least₀ i₀ least i = length list - i
+
+loop-holds : tie.Need-loop-holds Inv-loop μ-loop
+unfolding every
+loop-holds c = let e = rising-all (c .args .list .now) in search needs
+
+returns : tie.Need-returns Inv-loop μ-loop
+returns c =
+    sym (proper-out (c .before .before .before .before .args .list .now) (c .before .before .before .loop .i) _ (omega arith)
+    (omega arith))
+
+returns-2 : tie.Need-returns-2 Inv-loop μ-loop
+returns-2 c =
+    sym (proper-stops (c .before .before .before .before .before .args .list .now) _ (c .before .before .before .before .loop .i) _
+    (c .before .before .before .before .loop .inv .2) (omega arith) (omega arith))
+
+loop-again : tie.Need-loop-again Inv-loop μ-loop
+loop-again c =
+    let start = c .before .before .before .before .before in (
+      omega arith,
+      proper-next (start .args .list .now) (c .before .before .before .before .loop .i) _ (omega arith) (omega arith)
+          (c .before .before .before .before .loop .inv .1),
+      c .before .before .before .before .loop .inv .2 ∙ rising-next (start .args .list .now) _
+          (c .before .before .before .before .loop .i) (omega arith) (omega arith),
+    )
+
+returns-3 : tie.Need-returns-3 Inv-loop μ-loop
+returns-3 c =
+    sym (proper-end (c .before .before .args .list .now) _ (c .before .loop .i) _ (c .before .loop .inv .2) (omega arith)
+    (c .before .loop .inv .1))
+
+pub is-proper-spec : {M : Type 1} → statement M
+is-proper-spec =
+    tie.close (tie.spec Inv-loop μ-loop loop-holds (λ c. search needs) returns returns-2 (λ c. search needs) (λ c. search needs)
+    (λ c. search needs) loop-again returns-3)

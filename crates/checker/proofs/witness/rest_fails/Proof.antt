@@ -1,0 +1,60 @@
+-- Every rule below r is listed or fails, until one is neither.
+use borrow.Author.Needs.{needs}
+use native.Mathlib.Omega.{arith}
+use mathlib.Core.Path.{_≡_, sym, _∙_}
+use mathlib.Core.Logic.{⊎-elim}
+use mathlib.Core.Bool.{true, _||_}
+use Prim.Native.Nat.{_-_, _≤_}
+use borrow.Author.Tests.{not-true, not-false}
+use Rattle.meaning.specs.Sets.{everyBelow}
+use Rattle.meaning.specs.Books.{ruleNo, rule}
+use Rattle.meaning.specs.Paper.{fails}
+use Rattle.meaning.specs.Written.{of}
+use Rattle.meaning.proofs.Tests.{neither, first, other}
+use Rattle.meaning.proofs.Sets.{all-next}
+use Rattle.book.specs.Format.{bookIn}
+use Rattle.book.specs.Tables.{atomsIn}
+use Rattle.book.proofs.AtomSets.{of-place}
+use Rattle.book.proofs.Places.{shape-count, shape-in}
+use Rattle.checker.proofs.WitnessChecked.{rest-stops, rest-end}
+use Rattle.checker.proofs.witness.rest_fails.Statement.{statement}
+use Rattle.checker.proofs.witness.rest_fails.Tie as tie
+
+abbrev Inv-loop : tie.InvT-loop
+Inv-loop book shape listed headed r₀ r = (r ≤ shape .rules)
+    × (everyBelow r (λ n. of listed (ruleNo n) || fails (atomsIn headed) (rule (bookIn book) (ruleNo n))) ≡ true)
+
+abbrev μ-loop : tie.MeasureT-loop
+μ-loop book shape listed headed r₀ r = shape .rules - r
+
+loop-holds : tie.Need-loop-holds Inv-loop μ-loop
+unfolding everyBelow
+loop-holds c = search needs
+
+returns : tie.Need-returns Inv-loop μ-loop
+returns c =
+    let start = c .before .before .before .before .before .before .before .before .before in
+    sym (rest-stops _ _ (ruleNo (c .before .before .before .before .before .before .before .loop .r)) (shape-in _ _ (start .pre)
+    (ruleNo (c .before .before .before .before .before .before .before .loop .r)) (omega arith))
+    (neither (of-place _ _ (c .before .before .before .before .before .before .before .loop .r) _
+    (c .before .before .before .before .wide .ensures .0) (not-true _ (c .before .before .if2 .taken)))
+    (sym (c .before .fails-in .ensures) ∙ not-true _ (c .if3 .taken))))
+
+loop-again : tie.Need-loop-again Inv-loop μ-loop
+loop-again c =
+    let start = c .before .before .before .before .before .before .before in (
+      omega arith,
+      all-next _ _ (⊎-elim (λ w. other (of (start .args .listed .now)
+          (ruleNo (c .before .before .before .before .before .loop .r))) (sym (w .1 .ensures) ∙ not-false _ (w .2 .left)))
+          (λ w. first _ (of-place _ _ (c .before .before .before .before .before .loop .r) _ (c .before .before .wide .ensures .0)
+          (not-false _ (w .left)))) (c .if2 .came)) (c .before .before .before .before .before .loop .inv .1),
+    )
+
+returns-2 : tie.Need-returns-2 Inv-loop μ-loop
+returns-2 c =
+    sym (rest-end _ _ _ (omega (arith, shape-count _ _ (c .before .before .before .before .pre))) (c .before .before .loop .inv .1))
+
+pub rest-fails-spec : {M : Type 1} → statement M
+rest-fails-spec =
+    tie.close (tie.spec Inv-loop μ-loop loop-holds (λ c κs. search needs) (λ c. search needs) (λ c κs. search needs) returns
+    (λ c. search needs) (λ c. search needs) loop-again returns-2)

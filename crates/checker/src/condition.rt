@@ -1,0 +1,117 @@
+// The conditions of the steps that speak of one rule or of the claim, on the colouring as it
+// stands. Tables of atoms are made for the step, so that a condition asks of an atom in one step.
+ghost use mathlib.Core.Path.{_≡_};
+ghost use mathlib.Core.Bool.{_&&_};
+ghost use Prim.Native.Nat.{_≤_, _<_};
+ghost use Rattle.meaning.specs.Sets.{some, someBelow};
+ghost use Rattle.meaning.specs.Books.{ruleNo, rule};
+ghost use Rattle.meaning.specs.Colours.{heads, mayOn, uncoloured};
+ghost use Rattle.meaning.specs.Claim.{named, ended};
+ghost use Rattle.meaning.specs.Written.{of};
+ghost use Rattle.book.specs.Format.{bookIn, ReadAs};
+ghost use Rattle.checker.specs.Parts.{lent};
+use book::Shape;
+use book::goes_on;
+use book::head;
+use book::heads_of;
+use book::is_blocked;
+use book::lost_in;
+use book::wide;
+use meaning::AtomNo;
+use meaning::RuleNo;
+
+// 41: each positive atom is the head of an on rule, and for each negative atom all rules with that
+// head are off.
+pub fn may_go_on<'a>(
+    book: &[u8],
+    shape: Shape,
+    r: RuleNo,
+    on: &'a [bool; 255],
+    off: &'a [bool; 255],
+) -> bool
+    requires { ⌜ ReadAs (now book) shape × (r .0 < shape .rules) ⌝ }
+    ensures { λ b. ⌜ b ≡
+        mayOn (bookIn (now (book .entry))) (lent (now (on .entry)) (now (off .entry))) r ⌝ }
+{
+    let mut headed = [false; 255];
+    heads_of(book, shape, on, &mut headed);
+    let mut lost = [false; 255];
+    lost_in(book, shape, off, &mut lost);
+    goes_on(book, shape, r, &headed, &lost)
+}
+
+// 42: some negative atom is the head of an on rule.
+pub fn may_go_off(book: &[u8], shape: Shape, r: RuleNo, on: &[bool; 255]) -> bool
+    requires { ⌜ ReadAs (now book) shape × (r .0 < shape .rules) ⌝ }
+    ensures { λ b. ⌜ b ≡ some (heads (bookIn (now (book .entry))) (of (now (on .entry))))
+        (rule (bookIn (now (book .entry))) r .neg) ⌝ }
+{
+    let mut headed = [false; 255];
+    heads_of(book, shape, on, &mut headed);
+    is_blocked(book, shape, r, &headed)
+}
+
+// 53: the rule has no colour.
+pub fn is_uncoloured<'a>(r: RuleNo, on: &'a [bool; 255], off: &'a [bool; 255]) -> bool
+    requires { ⌜ r .0 < 255 ⌝ }
+    ensures { λ b. ⌜ b ≡ uncoloured (lent (now (on .entry)) (now (off .entry))) r ⌝ }
+{
+    let i = wide(r.0);
+    if on[i] {
+        return false;
+    }
+    !off[i]
+}
+
+// Some rule is in both sets.
+fn is_clashing<'a>(rules: usize, on: &'a [bool; 255], off: &'a [bool; 255]) -> bool
+    requires { ⌜ rules ≤ 255 ⌝ }
+    ensures { λ b. ⌜ b ≡ someBelow rules
+        (λ n. of (now (on .entry)) (ruleNo n) && of (now (off .entry)) (ruleNo n)) ⌝ }
+{
+    let mut i = 0;
+    while i < rules {
+        if on[i] {
+            if off[i] {
+                return true;
+            }
+        }
+        i += 1;
+    }
+    false
+}
+
+// The atom is the head of a rule of the set.
+fn is_head(book: &[u8], shape: Shape, a: AtomNo, set: &[bool; 255]) -> bool
+    requires { ⌜ ReadAs (now book) shape ⌝ }
+    ensures { λ b. ⌜ b ≡ heads (bookIn (now (book .entry))) (of (now (set .entry))) a ⌝ }
+{
+    let mut r: u8 = 0;
+    while r < shape.rules {
+        if set[wide(r)] {
+            if head(book, shape, RuleNo(r)).0 == a.0 {
+                return true;
+            }
+        }
+        r += 1;
+    }
+    false
+}
+
+// 45: some rule is in both sets, or an on rule has the claimed atom as head.
+pub fn is_ended<'a>(
+    book: &[u8],
+    shape: Shape,
+    a: AtomNo,
+    on: &'a [bool; 255],
+    off: &'a [bool; 255],
+) -> bool
+    requires { ⌜ ReadAs (now book) shape ⌝ }
+    ensures { λ b. ⌜ b ≡
+        ended (bookIn (now (book .entry))) (named a) (lent (now (on .entry)) (now (off .entry))) ⌝ }
+{
+    if is_clashing(wide(shape.rules), on, off) {
+        return true;
+    }
+    is_head(book, shape, a, on)
+}
