@@ -54,7 +54,8 @@ module _ (inside : Bool) (row part : List ℕ) where
   so-none = refl
 
   module _ (i : ℕ) where
-    so-at : {v w : Bool} → w ≡ setIn row (atomNo (getD part i 0)) → v ≡ agree inside w → so inside row (getD (map atomNo part) i (atomNo 0)) ≡ v
+    so-at : {v w : Bool} → w ≡ setIn row (atomNo (getD part i 0)) → v ≡ agree inside w
+        → so inside row (getD (map atomNo part) i (atomNo 0)) ≡ v
     unfolding so
     so-at e f = rw (List·getD-map atomNo part i 0, ← e) (sym f)
 

@@ -62,7 +62,8 @@ pub room-start : (b : Book) (pass room tries : ℕ) (out : List ℕ) → 1 ≤ r
     → Room b pass room (record { tally = record { tries = tries; sets = 0; halt = Going }; out = out })
 room-start b pass room tries out h k = record { some = h; counts = omega arith; wanting = λ g. omega arith; fits = k }
 
-pub walk-from : (b : Book) (w : Wanted) (s : State) {c d : Colouring} {u : State} → c ≡ d → u ≡ run b w s (events b c) → u ≡ run b w s (events b d)
+pub walk-from : (b : Book) (w : Wanted) (s : State) {c d : Colouring} {u : State} → c ≡ d → u ≡ run b w s (events b c)
+    → u ≡ run b w s (events b d)
 walk-from b w s e f = f ∙ ap (λ (x : Colouring). run b w s (events b x)) e
 
 -- ---- find
@@ -93,16 +94,19 @@ module _ (s : List ℕ) (h : Shape) (e : ReadAs s h) where
       find-no-room l = sym (find-read ∙ eq-no _ _ _ _ n ∙ lt-yes _ _ _ _ (rw (shape-atoms s h e) l))
 
       pub find-walked : h .atoms ≤ length answer → {t : Tally} {out : List ℕ} {r : Told}
-          → record { tally = t; out = out } ≡ run (bookIn s) (record { pass = k - 1; room = 1; limit = limit }) (startOf answer) (events (bookIn s) nothing)
+          → record { tally = t; out = out }
+          ≡ run (bookIn s) (record { pass = k - 1; room = 1; limit = limit }) (startOf answer) (events (bookIn s) nothing)
           → r ≡ toldBy (t .halt) (record { tally = t; out = [] }) limit → record { told = r; buffer = out } ≡ findOf s k limit answer
       unfolding findIn
       find-walked l {t} {out} f g =
           rw (g ∙ any-buffer (t .halt) t limit [] out)
-          (sym (find-read ∙ eq-no _ _ _ _ n ∙ lt-no _ _ _ _ (rw (shape-atoms s h e) l) ∙ ap (λ (u : State). answeredBy u limit) (sym f)))
+          (sym (find-read ∙ eq-no _ _ _ _ n ∙ lt-no _ _ _ _ (rw (shape-atoms s h e) l)
+          ∙ ap (λ (u : State). answeredBy u limit) (sym f)))
 
 -- ---- page
 
-page-any-buffer : (h : Halt) (t : Tally) (o p : List ℕ) → pageToldBy h (record { tally = t; out = o }) ≡ pageToldBy h (record { tally = t; out = p })
+page-any-buffer : (h : Halt) (t : Tally) (o p : List ℕ)
+    → pageToldBy h (record { tally = t; out = o }) ≡ pageToldBy h (record { tally = t; out = p })
 unfolding pageToldBy
 page-any-buffer Going t o p = refl
 page-any-buffer Full t o p = refl
@@ -136,7 +140,8 @@ module _ (s : List ℕ) (h : Shape) (e : ReadAs s h) where
       page-walked : {t : Tally} {w : List ℕ} {r : PageTold} → record { tally = t; out = w }
           ≡ run (bookIn s) (record { pass = 0; room = room; limit = limit })
           (record { tally = record { tries = tries; sets = 0; halt = Going }; out = out }) (eventsFrom (bookIn s) tries (setIn row))
-          → r ≡ pageToldBy (t .halt) (record { tally = t; out = [] }) → record { told = r; buffer = w } ≡ pageIn (bookIn s) limit tries row out
+          → r ≡ pageToldBy (t .halt) (record { tally = t; out = [] })
+          → record { told = r; buffer = w } ≡ pageIn (bookIn s) limit tries row out
       unfolding pageIn
       page-walked {t} {w} g k =
           rw (k ∙ page-any-buffer (t .halt) t [] w)
@@ -153,7 +158,8 @@ module _ (s : List ℕ) (h : Shape) (e : ReadAs s h) where
         pub page-first : tries ≡ 0 → record { tally = t; out = o } ≡ run (bookIn s) w start (events (bookIn s) c)
             → record { told = r; buffer = o } ≡ pageIn (bookIn s) limit tries row out
         page-first z g =
-            page-walked (walk-from (bookIn s) w start empty g ∙ ap (run (bookIn s) w start) (sym (first-events (bookIn s) tries (setIn row) z))) k
+            page-walked (walk-from (bookIn s) w start empty g
+            ∙ ap (run (bookIn s) w start) (sym (first-events (bookIn s) tries (setIn row) z))) k
 
         pub page-later : (tries ≡ 0 → ⊥) → record { tally = t; out = o } ≡ run (bookIn s) w start (rest (bookIn s) c (setIn row))
             → record { told = r; buffer = o } ≡ pageIn (bookIn s) limit tries row out

@@ -38,8 +38,8 @@ module _ (s : List ℕ) (h : Shape) (e : ReadAs s h) (small : h .atoms < 256) wh
       (λ g. table-past (heads (bookIn s) r) a g ∙ sym (no-head r a g))
       (lt-or-le (a .0) 255))
 
-  pub test-found : (x : Atoms) (off : List Bool) {marks least : List Bool} {v : Bool} → of off ≡ barred (bookIn s) x → marks ≡ support (bookIn s) (of off)
-      → least ≡ atomTable (heads (bookIn s) (of marks)) → bookIn s .atoms ≡ h .atoms
+  pub test-found : (x : Atoms) (off : List Bool) {marks least : List Bool} {v : Bool} → of off ≡ barred (bookIn s) x
+      → marks ≡ support (bookIn s) (of off) → least ≡ atomTable (heads (bookIn s) (of marks)) → bookIn s .atoms ≡ h .atoms
       → v ≡ everyBelow (h .atoms) (λ n. agree (atomsIn least (atomNo n)) (x (atomNo n))) → v ≡ isAnswerSet (bookIn s) x
   unfolding isAnswerSet leastModel
   test-found x off {marks = marks} p q f n g =

@@ -19,12 +19,12 @@ use Rattle.walk.specs.Page.{setIn}
 
 -- ---- one row
 
-row-from-length : (i n : ℕ) (x : Atoms) → length (rowFrom i n x) ≡ n
+pub row-from-length : (i n : ℕ) (x : Atoms) → length (rowFrom i n x) ≡ n
 unfolding rowFrom
 row-from-length i zero x = refl
 row-from-length i (suc n) x = rw (row-from-length (suc i) n x)
 
-row-from-at : (i n : ℕ) (x : Atoms) (j : ℕ) → j < n → getD (rowFrom i n x) j 0 ≡ ifb (x (atomNo (i + j))) 1 0
+pub row-from-at : (i n : ℕ) (x : Atoms) (j : ℕ) → j < n → getD (rowFrom i n x) j 0 ≡ ifb (x (atomNo (i + j))) 1 0
 unfolding rowFrom
 row-from-at i zero x j h = absurd (omega arith)
 row-from-at i (suc n) x zero h = rw add-zero

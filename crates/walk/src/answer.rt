@@ -15,7 +15,8 @@ use meaning::RuleNo;
 // Writes the rules with a negative atom in the set over whatever the array held.
 fn bar(book: &[u8], shape: Shape, set: &[bool; 255], out: &mut [bool; 255])
     requires { ⌜ ReadAs (now book) shape ⌝ }
-    ensures { λ _. ⌜ of (now (out .exit)) ≡ barred (bookIn (now (book .entry))) (atomsIn (now (set .entry))) ⌝ }
+    ensures { λ _. ⌜ of (now (out .exit)) ≡
+        barred (bookIn (now (book .entry))) (atomsIn (now (set .entry))) ⌝ }
 {
     *out = [false; 255];
     let mut r: u8 = 0;
@@ -38,7 +39,8 @@ pub fn agrees(one: bool, other: bool) -> bool
 
 // The two sets have the same atoms below the count.
 fn same_atoms(atoms: u8, set: &[bool; 255], least: &[bool; 255]) -> bool
-    ensures { λ r. ⌜ r ≡ everyBelow atoms (λ n. agree (atomsIn (now (least .entry)) (atomNo n)) (atomsIn (now (set .entry)) (atomNo n))) ⌝ }
+    ensures { λ r. ⌜ r ≡ everyBelow atoms (λ n.
+        agree (atomsIn (now (least .entry)) (atomNo n)) (atomsIn (now (set .entry)) (atomNo n))) ⌝ }
 {
     let mut a: u8 = 0;
     while a < atoms {

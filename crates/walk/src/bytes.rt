@@ -21,7 +21,8 @@ fn byte(inside: bool) -> u8
 // Writes the set's row from byte `at` on; the other bytes stay.
 pub fn write_row(atoms: u8, set: &[bool; 255], at: usize, out: &mut [u8])
     requires { ⌜ at + atoms ≤ length (now out) ⌝ }
-    ensures { λ _. ⌜ now (out .exit) ≡ writeAt at (rowFrom 0 atoms (atomsIn (now (set .entry)))) (now (out .entry)) ⌝ }
+    ensures { λ _. ⌜ now (out .exit) ≡
+        writeAt at (rowFrom 0 atoms (atomsIn (now (set .entry)))) (now (out .entry)) ⌝ }
 {
     let mut a: u8 = 0;
     while a < atoms {

@@ -35,7 +35,8 @@ pub fn clashes<'a>(rules: u8, on: &'a [bool; 255], off: &'a [bool; 255]) -> bool
 // The lowest rule that is in neither set.
 pub fn lowest_uncoloured<'a>(rules: u8, on: &'a [bool; 255], off: &'a [bool; 255]) -> Picked
     ensures { λ r. ⌜ ((b : Book) → count b ≡ rules →
-        picked r ≡ lowest b (uncoloured (record { on = of (now (on .entry)); off = of (now (off .entry)) }))) ⌝ }
+        picked r ≡ lowest b
+        (uncoloured (record { on = of (now (on .entry)); off = of (now (off .entry)) }))) ⌝ }
 {
     let mut i: u8 = 0;
     while i < rules {

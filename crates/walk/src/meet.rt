@@ -28,7 +28,8 @@ pub fn meet(
     requires { ⌜ ReadAs (now book) shape × (t .tries < limit) × (t .halt ≡ Going)
         × Room (bookIn (now book)) pass room (record { tally = t; out = now out }) ⌝ }
     ensures { λ r. ⌜ _≡_ {A = State} (record { tally = r; out = now (out .exit) })
-        (readingMet (bookIn (now (book .entry))) (record { pass = pass; room = room; limit = limit })
+        (readingMet (bookIn (now (book .entry)))
+        (record { pass = pass; room = room; limit = limit })
         (record { tally = t; out = now (out .entry) })
         (heads (bookIn (now (book .entry))) (of (now (on .entry))))) ⌝ }
 {

@@ -51,6 +51,7 @@ pub fn walk(
         return meet(book, shape, &d.on, pass, room, limit, t, out);
     };
     let forked = t.tried(t.sets, Halt::Going);
-    let first = walk(book, shape, d.with_on(r), pass, room, limit, forked, out);
+    let chosen = d.with_on(r);
+    let first = walk(book, shape, chosen, pass, room, limit, forked, out);
     walk(book, shape, d.with_off(r), pass, room, limit, first, out)
 }

@@ -1,3 +1,4 @@
+-- Two answers agree, by cases of the first.
 use Rattle.meaning.specs.Computed.{agree}
 use Rattle.walk.proofs.answer.agrees.Statement.{statement}
 use Rattle.walk.proofs.answer.agrees.Tie as tie
@@ -11,4 +12,5 @@ unfolding agree
 returns-2 c = rw (c .if1 .left)
 
 pub agrees-spec : {M : Type 1} → statement M
-agrees-spec = tie.close (tie.spec returns returns-2)
+agrees-spec =
+    tie.close (tie.spec returns returns-2)

@@ -1,11 +1,12 @@
-use native.Mathlib.Omega.{arith}
+-- Two tables compared: the atoms below a agree.
 use mathlib.Core.Path.{_≡_}
 use mathlib.Core.Bool.{true}
 use Prim.Native.Nat.{_-_, _≤_}
+use native.Mathlib.Omega.{arith}
 use borrow.Author.Tests.{not-true, not-false}
+use borrow.Author.Needs.{needs}
 use Rattle.meaning.specs.Sets.{everyBelow}
 use Rattle.walk.proofs.Agreeing.{agreeing, none-differ, agree-next, agree-fails, agree-all}
-use borrow.Author.Needs.{needs}
 use Rattle.walk.proofs.answer.same_atoms.Statement.{statement}
 use Rattle.walk.proofs.answer.same_atoms.Tie as tie
 
@@ -18,29 +19,12 @@ abbrev μ-loop : tie.MeasureT-loop
 loop-holds : tie.Need-loop-holds Inv-loop μ-loop
 loop-holds c = search (needs, none-differ)
 
-cast-at : tie.Need-cast-at Inv-loop μ-loop
-cast-at c = search needs
-
-element-copy-out-agrees : tie.Need-element-copy-out-agrees Inv-loop μ-loop
-element-copy-out-agrees c = search needs
-
-element-copy-out-agrees-2 : tie.Need-element-copy-out-agrees-2 Inv-loop μ-loop
-element-copy-out-agrees-2 c = search needs
-
-agrees-requires : tie.Need-agrees-requires Inv-loop μ-loop
-agrees-requires c κs = search needs
-
 returns : tie.Need-returns Inv-loop μ-loop
 returns c =
     let l = c .before .before .before .before .before in
     let s = l .before .args in
-    agree-fails (s .least .now) (s .set .now) (l .loop .a) (s .atoms) (omega arith) (c .before .agrees .ensures) (not-true _ (c .if1 .taken))
-
-add-a : tie.Need-add-a Inv-loop μ-loop
-add-a c = search needs
-
-loop-less : tie.Need-loop-less Inv-loop μ-loop
-loop-less c = search needs
+    agree-fails (s .least .now) (s .set .now) (l .loop .a) (s .atoms) (omega arith) (c .before .agrees .ensures)
+    (not-true _ (c .if1 .taken))
 
 loop-again : tie.Need-loop-again Inv-loop μ-loop
 loop-again c = search (needs, agree-next, not-false)
@@ -52,17 +36,5 @@ returns-2 c =
 
 pub same-atoms-spec : {M : Type 1} → statement M
 same-atoms-spec =
-    tie.close
-    (tie.spec
-    Inv-loop
-    μ-loop
-    loop-holds
-    cast-at
-    element-copy-out-agrees
-    element-copy-out-agrees-2
-    agrees-requires
-    returns
-    add-a
-    loop-less
-    loop-again
-    returns-2)
+    tie.close (tie.spec Inv-loop μ-loop loop-holds (λ c. search needs) (λ c. search needs) (λ c. search needs)
+    (λ c κs. search needs) returns (λ c. search needs) (λ c. search needs) loop-again returns-2)

@@ -1,3 +1,4 @@
+-- The byte of one atom, by cases.
 use Rattle.meaning.specs.Choice.{ifb}
 use Rattle.walk.proofs.bytes.byte.Statement.{statement}
 use Rattle.walk.proofs.bytes.byte.Tie as tie
@@ -11,4 +12,5 @@ unfolding ifb
 returns-2 c = rw (c .if1 .left)
 
 pub byte-spec : {M : Type 1} → statement M
-byte-spec = tie.close (tie.spec returns returns-2)
+byte-spec =
+    tie.close (tie.spec returns returns-2)

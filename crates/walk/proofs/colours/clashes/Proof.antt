@@ -1,10 +1,11 @@
+-- The search for a rule in both sets: none of those below i is.
 use mathlib.Core.Path.{_≡_}
 use mathlib.Core.Logic.{⊎-elim}
 use mathlib.Core.Bool.{false}
 use Prim.Native.Nat.{_-_, _≤_}
+use borrow.Author.Needs.{needs}
 use Rattle.meaning.specs.Sets.{someBelow}
 use Rattle.walk.proofs.Searches.{inBoth, none-zero, clash-next-on, clash-next-off, clash-found, clash-none}
-use borrow.Author.Needs.{needs}
 use Rattle.walk.proofs.colours.clashes.Statement.{statement}
 use Rattle.walk.proofs.colours.clashes.Tie as tie
 
@@ -17,23 +18,8 @@ abbrev μ-loop : tie.MeasureT-loop
 loop-holds : tie.Need-loop-holds Inv-loop μ-loop
 loop-holds c = search (needs, none-zero)
 
-cast-at : tie.Need-cast-at Inv-loop μ-loop
-cast-at c = search needs
-
-element-copy-out-if1 : tie.Need-element-copy-out-if1 Inv-loop μ-loop
-element-copy-out-if1 c = search needs
-
-element-copy-out-if2 : tie.Need-element-copy-out-if2 Inv-loop μ-loop
-element-copy-out-if2 c = search needs
-
 returns : tie.Need-returns Inv-loop μ-loop
 returns c = search (needs, clash-found)
-
-add-i : tie.Need-add-i Inv-loop μ-loop
-add-i c = search needs
-
-loop-less : tie.Need-loop-less Inv-loop μ-loop
-loop-less c = search needs
 
 loop-again : tie.Need-loop-again Inv-loop μ-loop
 loop-again c = ⊎-elim (λ w. search (needs, clash-next-off)) (λ w. search (needs, clash-next-on)) (c .if1 .came)
@@ -43,16 +29,5 @@ returns-2 c = search (needs, clash-none)
 
 pub clashes-spec : {M : Type 1} → statement M
 clashes-spec =
-    tie.close
-    (tie.spec
-    Inv-loop
-    μ-loop
-    loop-holds
-    cast-at
-    element-copy-out-if1
-    element-copy-out-if2
-    returns
-    add-i
-    loop-less
-    loop-again
-    returns-2)
+    tie.close (tie.spec Inv-loop μ-loop loop-holds (λ c. search needs) (λ c. search needs) (λ c. search needs)
+    returns (λ c. search needs) (λ c. search needs) loop-again returns-2)

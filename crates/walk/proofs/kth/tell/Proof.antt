@@ -1,19 +1,8 @@
-use Rattle.walk.specs.Find.{toldBy}
+-- What a tally tells, case by case.
 use borrow.Author.Needs.{needs}
+use Rattle.walk.specs.Find.{toldBy}
 use Rattle.walk.proofs.kth.tell.Statement.{statement}
 use Rattle.walk.proofs.kth.tell.Tie as tie
-
-enum-told : tie.Need-enum-told
-enum-told c = search needs
-
-enum-told-2 : tie.Need-enum-told-2
-enum-told-2 c = search needs
-
-enum-told-3 : tie.Need-enum-told-3
-enum-told-3 c = search needs
-
-enum-told-4 : tie.Need-enum-told-4
-enum-told-4 c = search needs
 
 returns : tie.Need-returns
 unfolding toldBy
@@ -33,5 +22,5 @@ returns-4 c = rw (c .enum-told4 .given .1)
 
 pub tell-spec : {M : Type 1} → statement M
 tell-spec =
-    tie.close
-    (tie.spec enum-told enum-told-2 enum-told-3 enum-told-4 returns returns-2 returns-3 returns-4)
+    tie.close (tie.spec (λ c. search needs) (λ c. search needs) (λ c. search needs) (λ c. search needs) returns
+    returns-2 returns-3 returns-4)

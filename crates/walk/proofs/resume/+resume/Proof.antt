@@ -1,9 +1,13 @@
+-- Resuming meets its contract: each return is one way of the laws in Walking, with what the calls on that way said. The measure is the
+-- number of rules without a colour.
 use mathlib.Core.Path.{_≡_, sym, _∙_, ap}
 use mathlib.Core.Bool.{false}
-use Prim.Native.Nat.{_≤_}
+use Prim.Native.Nat.{ℕ, _≤_, _<_}
 use native.Mathlib.Omega.{arith}
 use borrow.Author.Needs.{needs}
 use borrow.Author.Tests.{not-true, not-false}
+use borrow.Fn.Kinds.{In}
+use borrow.Fn.PlainCycle.{Measures, is, falls, and}
 use Rattle.meaning.specs.declared.RuleNo.{RuleNo}
 use Rattle.meaning.specs.declared.colouring.Colouring.{Colouring}
 use Rattle.meaning.specs.Books.{Book, count}
@@ -18,9 +22,6 @@ use Rattle.closing.specs.Left.{left, chosen}
 use Rattle.walk.specs.Picked.{picked}
 use Rattle.walk.proofs.Events.{fork-falls}
 use Rattle.walk.proofs.Walking.{resume-clash, resume-reading, resume-off, resume-on, room-run}
-use Prim.Native.Nat.{ℕ, _<_}
-use borrow.Fn.Kinds.{In}
-use borrow.Fn.PlainCycle.{Measures, is, falls, and}
 use Rattle.walk.proofs.resume.resume.Reads as resume
 use Rattle.walk.proofs.resume.resume.Kinds as resume-kinds
 use Rattle.walk.proofs.resume.+resume.Lts-resume as resume-lts
@@ -44,123 +45,140 @@ abbrev resume-below : ℕ → In 3 resume-kinds.ps
 resume-below t = and 3 resume-kinds.ps (falls 3 resume-kinds.ps _<_ μ-resume t) resume.Pre
 
 abbrev calls : ℕ → resume-lts.Claims
-calls t = (close-reads.Asked, close-reads.Learnt, clashes-reads.Asked, clashes-reads.Learnt, lowest-uncoloured-reads.Asked, lowest-uncoloured-reads.Learnt, generates-reads.Asked, generates-reads.Learnt, with-off-reads.Asked, with-off-reads.Learnt, resume-below t, resume.Post, with-on-reads.Asked, with-on-reads.Learnt, walk-reads.Asked, walk-reads.Learnt)
+calls t = (
+  close-reads.Asked,
+  close-reads.Learnt,
+  clashes-reads.Asked,
+  clashes-reads.Learnt,
+  lowest-uncoloured-reads.Asked,
+  lowest-uncoloured-reads.Learnt,
+  generates-reads.Asked,
+  generates-reads.Learnt,
+  with-off-reads.Asked,
+  with-off-reads.Learnt,
+  resume-below t,
+  resume.Post,
+  with-on-reads.Asked,
+  with-on-reads.Learnt,
+  walk-reads.Asked,
+  walk-reads.Learnt,
+)
 
 sized-at : (t : ℕ) (c : resume-lts.Start (calls t) (resume-at t) resume.Post) → Sized (c .args .c)
 sized-at t c = search needs
 
-few-at : (t : ℕ) (c : resume-lts.Start (calls t) (resume-at t) resume.Post) → count (bookIn (c .args .book .now)) ≤ 255
-few-at t c = omega (arith, shape-count _ _ (c .pre .1 .0))
+-- after the closing
+module _ (t : ℕ) (c : resume-lts.After-close (calls t) (resume-at t) resume.Post) where
+  abbrev start : resume-lts.Start (calls t) (resume-at t) resume.Post
+  start = c .before .before .before .before
 
--- after the closing gave no contradiction
+  abbrev b : Book
+  b = bookIn (start .args .book .now)
+
+  rules : count b ≡ start .args .shape .rules
+  rules = shape-count _ _ (start .pre .1 .0)
+
+  few : count b ≤ 255
+  few = omega (arith, rules)
+
+  sized : Sized (start .args .c)
+  sized = sized-at t start
+
+-- after it gave no contradiction
 calm : (t : ℕ) (c : resume-lts.Else1 (calls t) (resume-at t) resume.Post)
-    → clashing (bookIn (c .before .before .before .before .before .before .before .before .before .args .book .now)) (pair (c .before .before .before .before .before .close .result)) ≡ false
-calm t c = sym (c .before .clashes .ensures _ (shape-count _ _ (c .before .before .before .before .before .before .before .before .before .pre .1 .0))) ∙ c .if1 .left
+    → let k = c .before .before .before .before .before in clashing (b t k) (pair (k .close .result)) ≡ false
+calm t c = sym (c .before .clashes .ensures _ (rules t (c .before .before .before .before .before))) ∙ c .if1 .left
 
 -- where the way forks
 module _ (t : ℕ) (c : resume-lts.After-known-told (calls t) (resume-at t) resume.Post) where
-  abbrev b : Book
-  b = bookIn (c .before .before .before .before .before .before .before .before .before .before .before .before .before .before .before .before .args .book .now)
-
-  abbrev d : Colouring
-  d = c .before .before .before .before .before .before .before .before .before .before .before .before .close .result
+  abbrev closed : resume-lts.After-close (calls t) (resume-at t) resume.Post
+  closed = c .before .before .before .before .before .before .before .before .before .before .before .before
 
   abbrev r : RuleNo
   r = c .before .r .given .0 .0
 
-  chosen-rule : lowest b (uncoloured (pair d)) ≡ one r
-  chosen-rule = sym (c .before .before .before .lowest-uncoloured .ensures b (shape-count _ _ (c .before .before .before .before .before .before .before .before .before .before .before .before .before .before .before .before .pre .1 .0))) ∙ ap picked (c .before .r .given .1)
+  chosen-rule : lowest (b t closed) (uncoloured (pair (closed .close .result))) ≡ one r
+  chosen-rule = sym (c .before .before .before .lowest-uncoloured .ensures _ (rules t closed)) ∙ ap picked (c .before .r .given .1)
+
+  clear : clashing (b t closed) (pair (closed .close .result)) ≡ false
+  clear = calm t (c .before .before .before .before .before .before .before)
 
   low : r .0 < 255
-  low = omega (arith, lowest-one b _ r chosen-rule .0, few-at t (c .before .before .before .before .before .before .before .before .before .before .before .before .before .before .before .before))
+  low = omega (arith, lowest-one _ _ r chosen-rule .0, few t closed)
 
-  falling : (x : Side) {y : Colouring} → y ≡ chosen x r d → left b y < t
+  falling : (x : Side) {y : Colouring} → y ≡ chosen x r (closed .close .result) → left (b t closed) y < t
   falling x e =
-      let g = fork-falls b (few-at t (c .before .before .before .before .before .before .before .before .before .before .before .before .before .before .before .before)) _ (sized-at t (c .before .before .before .before .before .before .before .before .before .before .before .before .before .before .before .before)) d (c .before .before .before .before .before .before .before .before .before .before .before .before .close .ensures) x r chosen-rule in
-      rw e (omega (arith, c .before .before .before .before .before .before .before .before .before .before .before .before .before .before .before .before .pre .0))
-
-resume-close-requires : (t : ℕ) → resume-lts.Need-close-requires (calls t) (resume-at t) resume.Post
-resume-close-requires t c κs = search needs
-
-resume-clashes-requires : (t : ℕ) → resume-lts.Need-clashes-requires (calls t) (resume-at t) resume.Post
-resume-clashes-requires t c κs = search needs
+      let g = fork-falls _ (few t closed) _ (sized t closed) _ (closed .close .ensures) x r chosen-rule in
+      rw e (omega (arith, start t closed .pre .0))
 
 resume-returns : (t : ℕ) → resume-lts.Need-returns (calls t) (resume-at t) resume.Post
 resume-returns t c =
-    resume-clash _ _ _ _ _ (few-at t (c .before .before .before .before .before .before .before .before .before)) (sized-at t (c .before .before .before .before .before .before .before .before .before)) _ (c .before .before .before .before .before .close .ensures)
-    (sym (c .before .clashes .ensures _ (shape-count _ _ (c .before .before .before .before .before .before .before .before .before .pre .1 .0))) ∙ c .if1 .taken)
-
-resume-lowest-uncoloured-requires : (t : ℕ) → resume-lts.Need-lowest-uncoloured-requires (calls t) (resume-at t) resume.Post
-resume-lowest-uncoloured-requires t c κs = search needs
-
-resume-enum-known-r : (t : ℕ) → resume-lts.Need-enum-known-r (calls t) (resume-at t) resume.Post
-resume-enum-known-r t c = search needs
-
-resume-enum-told : (t : ℕ) → resume-lts.Need-enum-told (calls t) (resume-at t) resume.Post
-resume-enum-told t c = search needs
+    let k = c .before .before .before .before .before in
+    resume-clash _ _ _ _ _ (few t k) (sized t k) _ (k .close .ensures) (sym (c .before .clashes .ensures _ (rules t k)) ∙ c .if1 .taken)
 
 resume-returns-2 : (t : ℕ) → resume-lts.Need-returns-2 (calls t) (resume-at t) resume.Post
 resume-returns-2 t c =
-    let none = sym (c .before .before .lowest-uncoloured .ensures _ (shape-count _ _ (c .before .before .before .before .before .before .before .before .before .before .before .before .before .before .before .pre .1 .0))) ∙ ap picked (c .enum-told .given .1) in
-    resume-reading _ _ _ _ _ (few-at t (c .before .before .before .before .before .before .before .before .before .before .before .before .before .before .before)) (sized-at t (c .before .before .before .before .before .before .before .before .before .before .before .before .before .before .before)) _ (c .before .before .before .before .before .before .before .before .before .before .before .close .ensures) (calm t (c .before .before .before .before .before .before)) none
+    let h = c .before .before .before .before .before .before in
+    let k = h .before .before .before .before .before in
+    let none = sym (c .before .before .lowest-uncoloured .ensures _ (rules t k)) ∙ ap picked (c .enum-told .given .1) in
+    resume-reading _ _ _ _ _ (few t k) (sized t k) _ (k .close .ensures) (calm t h) none
 
 resume-generates-requires : (t : ℕ) → resume-lts.Need-generates-requires (calls t) (resume-at t) resume.Post
-resume-generates-requires t c κs = (c .before .before .before .before .before .before .before .before .before .before .before .before .before .before .before .before .pre .1 .0, in-shape _ _ (c .before .before .before .before .before .before .before .before .before .before .before .before .before .before .before .before .pre .1 .0) _ (lowest-one _ _ _ (chosen-rule t c) .0))
+resume-generates-requires t c κs =
+    let s = start t (closed t c) .pre .1 in
+    (s .0, in-shape _ _ (s .0) _ (lowest-one _ _ _ (chosen-rule t c) .0))
 
 resume-with-off-requires : (t : ℕ) → resume-lts.Need-with-off-requires (calls t) (resume-at t) resume.Post
 resume-with-off-requires t c κs = low t (c .before .before)
 
 resume-resume-requires : (t : ℕ) → resume-lts.Need-resume-requires (calls t) (resume-at t) resume.Post
-resume-resume-requires t c κs = (falling t (c .before .before .before .before) offSide (c .before .with-off .ensures), (c .before .before .before .before .before .before .before .before .before .before .before .before .before .before .before .before .before .before .before .before .pre .1 .0, c .before .before .before .before .before .before .before .before .before .before .before .before .before .before .before .before .before .before .before .before .pre .1 .1))
-
-resume-same-length : (t : ℕ) → resume-lts.Need-same-length (calls t) (resume-at t) resume.Post
-resume-same-length t c = search needs
+resume-resume-requires t c κs =
+    let f = c .before .before .before .before in
+    let s = start t (closed t f) .pre .1 in
+    (falling t f offSide (c .before .with-off .ensures), (s .0, s .1))
 
 resume-returns-3 : (t : ℕ) → resume-lts.Need-returns-3 (calls t) (resume-at t) resume.Post
 resume-returns-3 t c =
-    resume-off _ _ _ _ _ (few-at t (c .before .before .before .before .before .before .before .before .before .before .before .before .before .before .before .before .before .before .before .before .before .before .before)) (sized-at t (c .before .before .before .before .before .before .before .before .before .before .before .before .before .before .before .before .before .before .before .before .before .before .before)) _ (c .before .before .before .before .before .before .before .before .before .before .before .before .before .before .before .before .before .before .before .close .ensures) (calm t (c .before .before .before .before .before .before .before .before .before .before .before .before .before .before)) _ (chosen-rule t (c .before .before .before .before .before .before .before))
-    (sym (c .before .before .before .before .before .before .generates .ensures) ∙ not-true _ (c .before .before .before .before .before .if2 .taken)) (c .before .before .before .before .with-off .ensures) (c .before .before .resume .ensures)
+    let y = c .before .before .before .before in
+    let f = y .before .before .before in
+    let k = closed t f in
+    resume-off _ _ _ _ _ (few t k) (sized t k) _ (k .close .ensures) (clear t f) _ (chosen-rule t f)
+    (sym (y .before .before .generates .ensures) ∙ not-true _ (y .before .if2 .taken)) (y .with-off .ensures)
+    (c .before .before .resume .ensures)
 
 resume-with-on-requires : (t : ℕ) → resume-lts.Need-with-on-requires (calls t) (resume-at t) resume.Post
 resume-with-on-requires t c κs = low t (c .before .before)
 
 resume-resume-requires-2 : (t : ℕ) → resume-lts.Need-resume-requires-2 (calls t) (resume-at t) resume.Post
-resume-resume-requires-2 t c κs = (falling t (c .before .before .before .before) onSide (c .before .with-on .ensures), (c .before .before .before .before .before .before .before .before .before .before .before .before .before .before .before .before .before .before .before .before .pre .1 .0, c .before .before .before .before .before .before .before .before .before .before .before .before .before .before .before .before .before .before .before .before .pre .1 .1))
+resume-resume-requires-2 t c κs =
+    let f = c .before .before .before .before in
+    let s = start t (closed t f) .pre .1 in
+    (falling t f onSide (c .before .with-on .ensures), (s .0, s .1))
 
 resume-with-off-requires-2 : (t : ℕ) → resume-lts.Need-with-off-requires-2 (calls t) (resume-at t) resume.Post
 resume-with-off-requires-2 t c κs = low t (c .before .before .before .before .before .before .before)
 
 resume-walk-requires : (t : ℕ) → resume-lts.Need-walk-requires (calls t) (resume-at t) resume.Post
-resume-walk-requires t c κs = (c .before .before .before .before .before .before .before .before .before .before .before .before .before .before .before .before .before .before .before .before .before .before .before .before .before .pre .1 .0, room-run (c .before .before .before .before .before .before .before .before .before .before .before .before .before .before .before .before .before .before .before .before .before .before .before .before .before .pre .1 .1) _ _ (c .before .before .before .before .resume2 .ensures))
-
-resume-same-length-2 : (t : ℕ) → resume-lts.Need-same-length-2 (calls t) (resume-at t) resume.Post
-resume-same-length-2 t c = search needs
+resume-walk-requires t c κs =
+    let y = c .before .before .before .before in
+    let s = start t (closed t (y .before .before .before .before .before)) .pre .1 in
+    (s .0, room-run (s .1) _ _ (y .resume2 .ensures))
 
 resume-returns-4 : (t : ℕ) → resume-lts.Need-returns-4 (calls t) (resume-at t) resume.Post
 resume-returns-4 t c =
-    resume-on _ _ _ _ _ (few-at t (c .before .before .before .before .before .before .before .before .before .before .before .before .before .before .before .before .before .before .before .before .before .before .before .before .before .before .before .before)) (sized-at t (c .before .before .before .before .before .before .before .before .before .before .before .before .before .before .before .before .before .before .before .before .before .before .before .before .before .before .before .before)) _ (c .before .before .before .before .before .before .before .before .before .before .before .before .before .before .before .before .before .before .before .before .before .before .before .before .close .ensures) (calm t (c .before .before .before .before .before .before .before .before .before .before .before .before .before .before .before .before .before .before .before)) _ (chosen-rule t (c .before .before .before .before .before .before .before .before .before .before .before .before))
-    (sym (c .before .before .before .before .before .before .before .before .before .before .before .generates .ensures) ∙ not-false _ (c .before .before .before .before .before .before .before .before .before .before .if2 .left)) (c .before .before .before .before .before .before .before .before .before .with-on .ensures) (c .before .before .before .before .before .before .before .resume2 .ensures)
-    (c .before .before .before .before .with-off2 .ensures) (c .before .before .walk .ensures)
+    let z = c .before .before .before .before in
+    let w = z .before .before .before in
+    let y = w .before .before in
+    let f = y .before .before .before in
+    let k = closed t f in
+    resume-on _ _ _ _ _ (few t k) (sized t k) _ (k .close .ensures) (clear t f) _ (chosen-rule t f)
+    (sym (y .before .before .generates .ensures) ∙ not-false _ (y .before .if2 .left)) (y .with-on .ensures) (w .resume2 .ensures)
+    (z .with-off2 .ensures) (c .before .before .walk .ensures)
 
 pub +resume-spec : {M : Type 1} → statement M
-+resume-spec = close μ-resume λ t. resume-lts.spec (calls t)
-    (resume-at t)
-    resume.Post
-    (resume-close-requires t)
-    (resume-clashes-requires t)
-    (resume-returns t)
-    (resume-lowest-uncoloured-requires t)
-    (resume-enum-known-r t)
-    (resume-enum-told t)
-    (resume-returns-2 t)
-    (resume-generates-requires t)
-    (resume-with-off-requires t)
-    (resume-resume-requires t)
-    (resume-same-length t)
-    (resume-returns-3 t)
-    (resume-with-on-requires t)
-    (resume-resume-requires-2 t)
-    (resume-with-off-requires-2 t)
-    (resume-walk-requires t)
-    (resume-same-length-2 t)
++resume-spec = close μ-resume λ t. resume-lts.spec (calls t) (resume-at t) resume.Post
+    (λ c κs. search needs) (λ c κs. search needs) (resume-returns t) (λ c κs. search needs) (λ c. search needs)
+    (λ c. search needs) (resume-returns-2 t) (resume-generates-requires t) (resume-with-off-requires t)
+    (resume-resume-requires t) (λ c. search needs) (resume-returns-3 t) (resume-with-on-requires t)
+    (resume-resume-requires-2 t) (resume-with-off-requires-2 t) (resume-walk-requires t) (λ c. search needs)
     (resume-returns-4 t)

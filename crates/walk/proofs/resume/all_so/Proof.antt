@@ -1,14 +1,15 @@
-use native.Mathlib.Omega.{arith}
+-- A part of a body gone through: its first i atoms are as is asked.
 use mathlib.Core.Path.{_≡_}
 use mathlib.Core.Bool.{true}
 use mathlib.Core.List.{map}
 use Prim.Native.Nat.{_-_, _≤_}
+use native.Mathlib.Omega.{arith}
 use lib.ListN.{length, take}
 use borrow.Author.Tests.{not-true, not-false}
+use borrow.Author.Needs.{needs}
 use Rattle.meaning.specs.Sets.{every}
 use Rattle.meaning.specs.Books.{atomNo}
 use Rattle.walk.proofs.Agreeing.{so, so-none, so-next, so-fails, so-all}
-use borrow.Author.Needs.{needs}
 use Rattle.walk.proofs.resume.all_so.Statement.{statement}
 use Rattle.walk.proofs.resume.all_so.Tie as tie
 
@@ -21,27 +22,12 @@ abbrev μ-loop : tie.MeasureT-loop
 loop-holds : tie.Need-loop-holds Inv-loop μ-loop
 loop-holds c = search (needs, so-none)
 
-shared-slice-read-in-row : tie.Need-shared-slice-read-in-row Inv-loop μ-loop
-shared-slice-read-in-row c = search needs
-
-in-row-requires : tie.Need-in-row-requires Inv-loop μ-loop
-in-row-requires c κs = search needs
-
-agrees-requires : tie.Need-agrees-requires Inv-loop μ-loop
-agrees-requires c κs = search needs
-
 returns : tie.Need-returns Inv-loop μ-loop
 returns c =
     let l = c .before .before .before .before .before in
     let s = l .before .before .before .args in
-    so-fails (s .inside) (s .row .now) (s .part .now) (l .loop .i) (omega arith) (c .before .before .in-row .ensures) (c .before .agrees .ensures)
-    (not-true _ (c .if1 .taken))
-
-add-i : tie.Need-add-i Inv-loop μ-loop
-add-i c = search needs
-
-loop-less : tie.Need-loop-less Inv-loop μ-loop
-loop-less c = search needs
+    so-fails (s .inside) (s .row .now) (s .part .now) (l .loop .i) (omega arith) (c .before .before .in-row .ensures)
+    (c .before .agrees .ensures) (not-true _ (c .if1 .taken))
 
 loop-again : tie.Need-loop-again Inv-loop μ-loop
 loop-again c = search (needs, so-next, not-false)
@@ -53,16 +39,5 @@ returns-2 c =
 
 pub all-so-spec : {M : Type 1} → statement M
 all-so-spec =
-    tie.close
-    (tie.spec
-    Inv-loop
-    μ-loop
-    loop-holds
-    shared-slice-read-in-row
-    in-row-requires
-    agrees-requires
-    returns
-    add-i
-    loop-less
-    loop-again
-    returns-2)
+    tie.close (tie.spec Inv-loop μ-loop loop-holds (λ c. search needs) (λ c κs. search needs) (λ c κs. search needs)
+    returns (λ c. search needs) (λ c. search needs) loop-again returns-2)

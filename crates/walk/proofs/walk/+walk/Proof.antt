@@ -1,8 +1,12 @@
+-- The walk meets its contract: each return is one way of the laws in Walking, with what the calls on that way said. The measure is the
+-- number of rules without a colour.
 use mathlib.Core.Path.{_≡_, sym, _∙_, ap}
 use mathlib.Core.Bool.{false}
-use Prim.Native.Nat.{_≤_}
+use Prim.Native.Nat.{ℕ, _≤_, _<_}
 use native.Mathlib.Omega.{arith}
 use borrow.Author.Needs.{needs}
+use borrow.Fn.Kinds.{In}
+use borrow.Fn.PlainCycle.{Measures, is, falls, and}
 use Rattle.meaning.specs.declared.RuleNo.{RuleNo}
 use Rattle.meaning.specs.declared.colouring.Colouring.{Colouring}
 use Rattle.meaning.specs.Books.{Book, count}
@@ -15,11 +19,9 @@ use Rattle.book.specs.Format.{bookIn}
 use Rattle.book.proofs.Places.{shape-count}
 use Rattle.closing.specs.Left.{left, chosen}
 use Rattle.walk.specs.Picked.{picked}
+use Rattle.walk.specs.declared.tally.Halt.the-variants.{Going}
 use Rattle.walk.proofs.Events.{fork-falls}
 use Rattle.walk.proofs.Walking.{walk-ended, walk-stops, walk-clash, walk-reading, walk-fork, room-tried, room-run, halted-told}
-use Prim.Native.Nat.{ℕ, _<_}
-use borrow.Fn.Kinds.{In}
-use borrow.Fn.PlainCycle.{Measures, is, falls, and}
 use Rattle.walk.proofs.walk.walk.Reads as walk
 use Rattle.walk.proofs.walk.walk.Kinds as walk-kinds
 use Rattle.walk.proofs.walk.+walk.Lts-walk as walk-lts
@@ -43,43 +45,74 @@ abbrev walk-below : ℕ → In 2 walk-kinds.ps
 walk-below t = and 2 walk-kinds.ps (falls 2 walk-kinds.ps _<_ μ-walk t) walk.Pre
 
 abbrev calls : ℕ → walk-lts.Claims
-calls t = (close-reads.Asked, close-reads.Learnt, clashes-reads.Asked, clashes-reads.Learnt, tried-reads.Asked, tried-reads.Learnt, lowest-uncoloured-reads.Asked, lowest-uncoloured-reads.Learnt, meet-reads.Asked, meet-reads.Learnt, with-on-reads.Asked, with-on-reads.Learnt, walk-below t, walk.Post, with-off-reads.Asked, with-off-reads.Learnt)
+calls t = (
+  close-reads.Asked,
+  close-reads.Learnt,
+  clashes-reads.Asked,
+  clashes-reads.Learnt,
+  tried-reads.Asked,
+  tried-reads.Learnt,
+  lowest-uncoloured-reads.Asked,
+  lowest-uncoloured-reads.Learnt,
+  meet-reads.Asked,
+  meet-reads.Learnt,
+  with-on-reads.Asked,
+  with-on-reads.Learnt,
+  walk-below t,
+  walk.Post,
+  with-off-reads.Asked,
+  with-off-reads.Learnt,
+)
 
 sized-at : (t : ℕ) (c : walk-lts.Start (calls t) (walk-at t) walk.Post) → Sized (c .args .c)
 sized-at t c = search needs
 
-few-at : (t : ℕ) (c : walk-lts.Start (calls t) (walk-at t) walk.Post) → count (bookIn (c .args .book .now)) ≤ 255
-few-at t c = omega (arith, shape-count _ _ (c .pre .1 .0))
+-- after the closing
+module _ (t : ℕ) (c : walk-lts.After-close (calls t) (walk-at t) walk.Post) where
+  abbrev start : walk-lts.Start (calls t) (walk-at t) walk.Post
+  start = c .before .before .before .before .before .before .before
 
--- after the closing gave no contradiction
+  abbrev b : Book
+  b = bookIn (start .args .book .now)
+
+  rules : count b ≡ start .args .shape .rules
+  rules = shape-count _ _ (start .pre .1 .0)
+
+  few : count b ≤ 255
+  few = omega (arith, rules)
+
+  sized : Sized (start .args .c)
+  sized = sized-at t start
+
+  going : start .args .t .halt ≡ Going
+  going = c .before .before .before .enum-told .given .1
+
+-- after it gave no contradiction
 calm : (t : ℕ) (c : walk-lts.Else2 (calls t) (walk-at t) walk.Post)
-    → clashing (bookIn (c .before .before .before .before .before .before .before .before .before .before .before .before .args .book .now)) (pair (c .before .before .before .before .before .close .result)) ≡ false
-calm t c = sym (c .before .clashes .ensures _ (shape-count _ _ (c .before .before .before .before .before .before .before .before .before .before .before .before .pre .1 .0))) ∙ c .if2 .left
+    → let k = c .before .before .before .before .before in clashing (b t k) (pair (k .close .result)) ≡ false
+calm t c = sym (c .before .clashes .ensures _ (rules t (c .before .before .before .before .before))) ∙ c .if2 .left
 
 -- where the walk forks
 module _ (t : ℕ) (c : walk-lts.After-known-told (calls t) (walk-at t) walk.Post) where
-  abbrev b : Book
-  b = bookIn (c .before .before .before .before .before .before .before .before .before .before .before .before .before .before .before .before .before .before .before .args .book .now)
-
-  abbrev d : Colouring
-  d = c .before .before .before .before .before .before .before .before .before .before .before .before .close .result
+  abbrev closed : walk-lts.After-close (calls t) (walk-at t) walk.Post
+  closed = c .before .before .before .before .before .before .before .before .before .before .before .before
 
   abbrev r : RuleNo
   r = c .before .r .given .0 .0
 
-  chosen-rule : lowest b (uncoloured (pair d)) ≡ one r
-  chosen-rule = sym (c .before .before .before .lowest-uncoloured .ensures b (shape-count _ _ (c .before .before .before .before .before .before .before .before .before .before .before .before .before .before .before .before .before .before .before .pre .1 .0))) ∙ ap picked (c .before .r .given .1)
+  chosen-rule : lowest (b t closed) (uncoloured (pair (closed .close .result))) ≡ one r
+  chosen-rule = sym (c .before .before .before .lowest-uncoloured .ensures _ (rules t closed)) ∙ ap picked (c .before .r .given .1)
+
+  clear : clashing (b t closed) (pair (closed .close .result)) ≡ false
+  clear = calm t (c .before .before .before .before .before .before .before)
 
   low : r .0 < 255
-  low = omega (arith, lowest-one b _ r chosen-rule .0, few-at t (c .before .before .before .before .before .before .before .before .before .before .before .before .before .before .before .before .before .before .before))
+  low = omega (arith, lowest-one _ _ r chosen-rule .0, few t closed)
 
-  falling : (x : Side) {y : Colouring} → y ≡ chosen x r d → left b y < t
+  falling : (x : Side) {y : Colouring} → y ≡ chosen x r (closed .close .result) → left (b t closed) y < t
   falling x e =
-      let g = fork-falls b (few-at t (c .before .before .before .before .before .before .before .before .before .before .before .before .before .before .before .before .before .before .before)) _ (sized-at t (c .before .before .before .before .before .before .before .before .before .before .before .before .before .before .before .before .before .before .before)) d (c .before .before .before .before .before .before .before .before .before .before .before .before .close .ensures) x r chosen-rule in
-      rw e (omega (arith, c .before .before .before .before .before .before .before .before .before .before .before .before .before .before .before .before .before .before .before .pre .0))
-
-walk-enum-told : (t : ℕ) → walk-lts.Need-enum-told (calls t) (walk-at t) walk.Post
-walk-enum-told t c = search needs
+      let g = fork-falls _ (few t closed) _ (sized t closed) _ (closed .close .ensures) x r chosen-rule in
+      rw e (omega (arith, start t closed .pre .0))
 
 walk-returns : (t : ℕ) → walk-lts.Need-returns (calls t) (walk-at t) walk.Post
 walk-returns t c = walk-ended _ _ _ _ (halted-told _ (c .match .keys2))
@@ -87,92 +120,57 @@ walk-returns t c = walk-ended _ _ _ _ (halted-told _ (c .match .keys2))
 walk-returns-2 : (t : ℕ) → walk-lts.Need-returns-2 (calls t) (walk-at t) walk.Post
 walk-returns-2 t c = walk-stops _ _ _ _ (c .before .before .enum-told .given .1) (c .if1 .taken)
 
-walk-close-requires : (t : ℕ) → walk-lts.Need-close-requires (calls t) (walk-at t) walk.Post
-walk-close-requires t c κs = search needs
-
-walk-clashes-requires : (t : ℕ) → walk-lts.Need-clashes-requires (calls t) (walk-at t) walk.Post
-walk-clashes-requires t c κs = search needs
-
-walk-tried-requires : (t : ℕ) → walk-lts.Need-tried-requires (calls t) (walk-at t) walk.Post
-walk-tried-requires t c κs = search needs
-
 walk-returns-3 : (t : ℕ) → walk-lts.Need-returns-3 (calls t) (walk-at t) walk.Post
 walk-returns-3 t c =
-    walk-clash _ _ _ _ (c .before .before .before .before .before .before .before .before .before .enum-told .given .1) (c .before .before .before .before .before .before .before .if1 .left) (few-at t (c .before .before .before .before .before .before .before .before .before .before .before .before .before)) (sized-at t (c .before .before .before .before .before .before .before .before .before .before .before .before .before)) _ (c .before .before .before .before .before .before .close .ensures)
-    (sym (c .before .before .clashes .ensures _ (shape-count _ _ (c .before .before .before .before .before .before .before .before .before .before .before .before .before .pre .1 .0))) ∙ c .before .if2 .taken) (c .tried .ensures)
-
-walk-lowest-uncoloured-requires : (t : ℕ) → walk-lts.Need-lowest-uncoloured-requires (calls t) (walk-at t) walk.Post
-walk-lowest-uncoloured-requires t c κs = search needs
-
-walk-enum-known-r : (t : ℕ) → walk-lts.Need-enum-known-r (calls t) (walk-at t) walk.Post
-walk-enum-known-r t c = search needs
-
-walk-enum-told-2 : (t : ℕ) → walk-lts.Need-enum-told-2 (calls t) (walk-at t) walk.Post
-walk-enum-told-2 t c = search needs
-
-walk-meet-requires : (t : ℕ) → walk-lts.Need-meet-requires (calls t) (walk-at t) walk.Post
-walk-meet-requires t c κs = search needs
-
-walk-same-length : (t : ℕ) → walk-lts.Need-same-length (calls t) (walk-at t) walk.Post
-walk-same-length t c = search needs
+    let h = c .before .before in
+    let k = h .before .before .before .before in
+    walk-clash _ _ _ _ (going t k) (k .before .if1 .left) (few t k) (sized t k) _ (k .close .ensures)
+    (sym (h .clashes .ensures _ (rules t k)) ∙ c .before .if2 .taken) (c .tried .ensures)
 
 walk-returns-4 : (t : ℕ) → walk-lts.Need-returns-4 (calls t) (walk-at t) walk.Post
 walk-returns-4 t c =
-    let none = sym (c .before .before .before .before .before .before .before .before .lowest-uncoloured .ensures _ (shape-count _ _ (c .before .before .before .before .before .before .before .before .before .before .before .before .before .before .before .before .before .before .before .before .before .before .before .before .pre .1 .0))) ∙ ap picked (c .before .before .before .before .before .before .enum-told2 .given .1) in
-    walk-reading _ _ _ _ (c .before .before .before .before .before .before .before .before .before .before .before .before .before .before .before .before .before .before .before .before .enum-told .given .1) (c .before .before .before .before .before .before .before .before .before .before .before .before .before .before .before .before .before .before .if1 .left) (few-at t (c .before .before .before .before .before .before .before .before .before .before .before .before .before .before .before .before .before .before .before .before .before .before .before .before)) (sized-at t (c .before .before .before .before .before .before .before .before .before .before .before .before .before .before .before .before .before .before .before .before .before .before .before .before)) _ (c .before .before .before .before .before .before .before .before .before .before .before .before .before .before .before .before .before .close .ensures)
-    (calm t (c .before .before .before .before .before .before .before .before .before .before .before .before)) none (c .before .before .meet .ensures)
-
-walk-tried-requires-2 : (t : ℕ) → walk-lts.Need-tried-requires-2 (calls t) (walk-at t) walk.Post
-walk-tried-requires-2 t c κs = search needs
+    let m = c .before .before in
+    let p = m .before .before .before .before .before .before in
+    let h = p .before .before .before .before in
+    let k = h .before .before .before .before .before in
+    let none = sym (p .lowest-uncoloured .ensures _ (rules t k)) ∙ ap picked (m .before .before .before .before .enum-told2 .given .1) in
+    walk-reading _ _ _ _ (going t k) (k .before .if1 .left) (few t k) (sized t k) _ (k .close .ensures) (calm t h) none (m .meet .ensures)
 
 walk-with-on-requires : (t : ℕ) → walk-lts.Need-with-on-requires (calls t) (walk-at t) walk.Post
 walk-with-on-requires t c κs = low t (c .before)
 
 walk-walk-requires : (t : ℕ) → walk-lts.Need-walk-requires (calls t) (walk-at t) walk.Post
-walk-walk-requires t c κs = (
-  falling t (c .before .before .before) onSide (c .before .with-on .ensures),
-  (c .before .before .before .before .before .before .before .before .before .before .before .before .before .before .before .before .before .before .before .before .before .before .pre .1 .0, room-tried (c .before .before .before .before .before .before .before .before .before .before .before .before .before .before .before .before .before .before .before .before .before .before .pre .1 .1) (c .before .before .before .before .before .before .before .before .before .before .before .before .before .before .before .before .before .before .enum-told .given .1) (c .before .before .tried2 .ensures)),
-)
+walk-walk-requires t c κs =
+    let f = c .before .before .before in
+    let k = closed t f in
+    let s = start t k .pre .1 in
+    (falling t f onSide (c .before .with-on .ensures), (s .0, room-tried (s .1) (going t k) (c .before .before .tried2 .ensures)))
 
 walk-with-off-requires : (t : ℕ) → walk-lts.Need-with-off-requires (calls t) (walk-at t) walk.Post
 walk-with-off-requires t c κs = low t (c .before .before .before .before .before .before)
 
 walk-walk-requires-2 : (t : ℕ) → walk-lts.Need-walk-requires-2 (calls t) (walk-at t) walk.Post
-walk-walk-requires-2 t c κs = (
-  falling t (c .before .before .before .before .before .before .before .before) offSide (c .before .with-off .ensures),
-  (c .before .before .before .before .before .before .before .before .before .before .before .before .before .before .before .before .before .before .before .before .before .before .before .before .before .before .before .pre .1 .0, room-run (room-tried (c .before .before .before .before .before .before .before .before .before .before .before .before .before .before .before .before .before .before .before .before .before .before .before .before .before .before .before .pre .1 .1) (c .before .before .before .before .before .before .before .before .before .before .before .before .before .before .before .before .before .before .before .before .before .before .before .enum-told .given .1) (c .before .before .before .before .before .before .before .tried2 .ensures)) _ _ (c .before .before .before .before .walk .ensures)),
-)
-
-walk-same-length-2 : (t : ℕ) → walk-lts.Need-same-length-2 (calls t) (walk-at t) walk.Post
-walk-same-length-2 t c = search needs
+walk-walk-requires-2 t c κs =
+    let w = c .before .before .before .before in
+    let u = w .before .before .before in
+    let k = closed t (u .before) in
+    let s = start t k .pre .1 in
+    let forked = room-tried (s .1) (going t k) (u .tried2 .ensures) in
+    (falling t (u .before) offSide (c .before .with-off .ensures), (s .0, room-run forked _ _ (w .walk .ensures)))
 
 walk-returns-5 : (t : ℕ) → walk-lts.Need-returns-5 (calls t) (walk-at t) walk.Post
 walk-returns-5 t c =
-    walk-fork _ _ _ _ (c .before .before .before .before .before .before .before .before .before .before .before .before .before .before .before .before .before .before .before .before .before .before .before .before .before .before .enum-told .given .1) (c .before .before .before .before .before .before .before .before .before .before .before .before .before .before .before .before .before .before .before .before .before .before .before .before .if1 .left) (few-at t (c .before .before .before .before .before .before .before .before .before .before .before .before .before .before .before .before .before .before .before .before .before .before .before .before .before .before .before .before .before .before)) (sized-at t (c .before .before .before .before .before .before .before .before .before .before .before .before .before .before .before .before .before .before .before .before .before .before .before .before .before .before .before .before .before .before)) _ (c .before .before .before .before .before .before .before .before .before .before .before .before .before .before .before .before .before .before .before .before .before .before .before .close .ensures)
-    (calm t (c .before .before .before .before .before .before .before .before .before .before .before .before .before .before .before .before .before .before)) _ (chosen-rule t (c .before .before .before .before .before .before .before .before .before .before .before)) (c .before .before .before .before .before .before .before .before .before .before .tried2 .ensures) (c .before .before .before .before .before .before .before .before .before .with-on .ensures) (c .before .before .before .before .before .before .before .walk .ensures) (c .before .before .before .before .with-off .ensures)
-    (c .before .before .walk2 .ensures)
+    let v = c .before .before .before .before in
+    let w = v .before .before .before in
+    let x = w .before .before in
+    let f = x .before .before in
+    let k = closed t f in
+    walk-fork _ _ _ _ (going t k) (k .before .if1 .left) (few t k) (sized t k) _ (k .close .ensures) (clear t f) _ (chosen-rule t f)
+    (x .before .tried2 .ensures) (x .with-on .ensures) (w .walk .ensures) (v .with-off .ensures) (c .before .before .walk2 .ensures)
 
 pub +walk-spec : {M : Type 1} → statement M
-+walk-spec = close μ-walk λ t. walk-lts.spec (calls t)
-    (walk-at t)
-    walk.Post
-    (walk-enum-told t)
-    (walk-returns t)
-    (walk-returns-2 t)
-    (walk-close-requires t)
-    (walk-clashes-requires t)
-    (walk-tried-requires t)
-    (walk-returns-3 t)
-    (walk-lowest-uncoloured-requires t)
-    (walk-enum-known-r t)
-    (walk-enum-told-2 t)
-    (walk-meet-requires t)
-    (walk-same-length t)
-    (walk-returns-4 t)
-    (walk-tried-requires-2 t)
-    (walk-with-on-requires t)
-    (walk-walk-requires t)
-    (walk-with-off-requires t)
-    (walk-walk-requires-2 t)
-    (walk-same-length-2 t)
-    (walk-returns-5 t)
++walk-spec = close μ-walk λ t. walk-lts.spec (calls t) (walk-at t) walk.Post
+    (λ c. search needs) (walk-returns t) (walk-returns-2 t) (λ c κs. search needs) (λ c κs. search needs)
+    (λ c κs. search needs) (walk-returns-3 t) (λ c κs. search needs) (λ c. search needs) (λ c. search needs)
+    (λ c κs. search needs) (λ c. search needs) (walk-returns-4 t) (λ c κs. search needs) (walk-with-on-requires t)
+    (walk-walk-requires t) (walk-with-off-requires t) (walk-walk-requires-2 t) (λ c. search needs) (walk-returns-5 t)
