@@ -1,0 +1,82 @@
+// `find K L ROOM BOOK`: the K-th reading, within L tries, in a buffer of ROOM bytes. Answers
+// `set TRIES a b c`, `fewer TRIES SETS`, `limit L` or `refused NUMBER [PLACE]`.
+use book::Read;
+use book::read_book;
+use listing::print_set;
+use talk::Number;
+use talk::first_word;
+use talk::other_words;
+use talk::print;
+use talk::print_number;
+use talk::print_refusal;
+use talk::read_bytes;
+use talk::read_number;
+use walk::Found;
+use walk::find;
+
+// Writes the atoms of the set that stands in the answer of a good book.
+fn print_answer(book: &[u8], answer: &[u8]) {
+    let Read::Good(shape) = read_book(book) else {
+        return;
+    };
+    let atoms = shape.atoms as usize;
+    if atoms <= answer.len() {
+        print_set(&answer[..atoms]);
+    }
+}
+
+// Asks the engine, and writes what it answers.
+fn tell_found(book: &[u8], k: u32, limit: u32, answer: &mut [u8]) {
+    match find(book, k, limit, answer) {
+        Found::Set(tries) => {
+            print(b"set ");
+            print_number(tries as u64);
+            print_answer(book, answer);
+        }
+        Found::Fewer(tries, sets) => {
+            print(b"fewer ");
+            print_number(tries as u64);
+            print(b" ");
+            print_number(sets as u64);
+        }
+        Found::Stopped(tries) => {
+            print(b"limit ");
+            print_number(tries as u64);
+        }
+        Found::Book(why) => print_refusal(why.number(), why.place()),
+        Found::NoRoom => print(b"refused 8"),
+        Found::NotLeast => print(b"refused 10"),
+        Found::NoNumber => print(b"refused 15"),
+    }
+    print(b"\n");
+}
+
+// Lends the engine so many bytes, and gives whether there are as many.
+fn find_within(book: &[u8], k: u32, limit: u32, size: usize, room: &mut [u8]) -> bool {
+    if room.len() < size {
+        return false;
+    }
+    tell_found(book, k, limit, &mut room[..size]);
+    true
+}
+
+// Answers the command where its words are right, and gives whether they are.
+pub fn answer_find(words: &[u8], book: &mut [u8], room: &mut [u8]) -> bool {
+    let Number::Value(k) = read_number(first_word(words)) else {
+        return false;
+    };
+    let words = other_words(words);
+    let Number::Value(limit) = read_number(first_word(words)) else {
+        return false;
+    };
+    let words = other_words(words);
+    let Number::Value(size) = read_number(first_word(words)) else {
+        return false;
+    };
+    let decoded = read_bytes(other_words(words), book);
+    if !decoded.good {
+        return false;
+    }
+    let n = decoded.count;
+    find_within(&book[..n], k, limit, size as usize, room)
+}

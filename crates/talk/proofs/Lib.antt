@@ -1,0 +1,3 @@
+-- The laws of what is taken from a line.
+pub mod Parting
+pub mod Turns

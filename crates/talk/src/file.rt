@@ -1,0 +1,78 @@
+// Reading a whole file.
+ghost use Rattle.io.specs.Counts.{Counts};
+use crate::output::print;
+use crate::output::print_name;
+
+// Whether a file was read, and how many of its bytes stand at the start of the buffer.
+pub struct Taken {
+    pub good: bool,
+    pub count: usize,
+}
+
+// Writes `bad file: NAME: WHY` and the line end.
+fn complain(path: &[u8], why: &[u8]) {
+    print(b"bad file: ");
+    print_name(path);
+    print(b": ");
+    print(why);
+    print(b"\n");
+}
+
+// Says in a line why the file cannot be opened.
+fn complain_of_opening(path: &[u8]) {
+    let error = os::errno();
+    if error == libc::ENOENT {
+        complain(path, b"there is no such file");
+    } else if error == libc::EACCES {
+        complain(path, b"it may not be read");
+    } else {
+        complain(path, b"it cannot be opened");
+    }
+}
+
+// Reads a file from its start until it ends or the buffer is full. Where it cannot be read a line
+// says so, and nothing counts as read.
+fn read_file(path: &[u8], out: &mut [u8]) -> Taken
+    ensures { λ r. ⌜ Counts (r .count) (now (out .exit)) ⌝ }
+{
+    let fd = os::open_read(path);
+    if fd < 0 {
+        complain_of_opening(path);
+        return Taken {
+            good: false,
+            count: 0,
+        };
+    }
+    let n = io::read_full(fd, out);
+    // `read_full` stops at an error as at the end; one more read tells the two apart.
+    let mut more = [0u8; 1];
+    let got = libc::read(fd, &mut more);
+    libc::close(fd);
+    if got < 0 {
+        complain(path, b"it cannot be read");
+        return Taken {
+            good: false,
+            count: 0,
+        };
+    }
+    Taken {
+        good: true,
+        count: n,
+    }
+}
+
+// Reads the file that an argument of the program names. The first argument has number 1.
+pub fn read_argument(i: usize, out: &mut [u8]) -> Taken
+    ensures { λ r. ⌜ Counts (r .count) (now (out .exit)) ⌝ }
+{
+    let mut path = io::buffer();
+    let n = os::arg(i, &mut path);
+    if os::errno() == libc::ENAMETOOLONG {
+        print(b"bad file: its name is too long\n");
+        return Taken {
+            good: false,
+            count: 0,
+        };
+    }
+    read_file(&path[..n], out)
+}
