@@ -2,27 +2,28 @@
 -- repeats these until nothing is added"; blueprint C2). The tables and the marks are those of the pair at the start of a pass.
 use mathlib.Core.Path.{_≡_, refl, sym, _∙_, ap}
 use mathlib.Core.Logic.{⊎-elim}
-use mathlib.Core.Bool.{Bool, true, false, not, _&&_, _||_}
+use mathlib.Core.Bool.{Bool, false, not}
 use mathlib.Core.List.{List}
-use Prim.Native.Nat.{ℕ, _≤_, _<_, _+_, _-_}
+use Prim.Native.Nat.{_≤_, _-_}
 use lib.ListN.{length}
 use borrow.Author.Tests.{not-true}
 use Rattle.meaning.specs.declared.RuleNo.{RuleNo}
 use Rattle.meaning.specs.declared.colouring.Colouring.{Colouring}
 use Rattle.meaning.specs.Sets.{_∈_, _∉_, every, some}
-use Rattle.meaning.specs.Books.{Rules, Book, count, rule, InBook}
-use Rattle.meaning.specs.Colours.{Pair, heads, allIn, mayOn, blocked, starved, Under, Within, Closed}
-use Rattle.meaning.specs.Written.{of, pair}
+use Rattle.meaning.specs.Books.{Book, count, rule, InBook}
+use Rattle.meaning.specs.Colours.{Pair, heads, allIn, mayOn, blocked, starved, Under, Upheld, Within, Closed}
+use Rattle.meaning.specs.Written.{of}
 use Rattle.meaning.specs.Computed.{support, close}
 use Rattle.meaning.proofs.Tests.{both, left, right, either, first, other, absent}
-use Rattle.meaning.proofs.Rules.{within-on, within-off, within-both, mayOn-mono, blocked-mono, starved-mono}
-use Rattle.meaning.proofs.Written.{Sized, Untouched}
+use Rattle.meaning.proofs.Sets.{every-mono}
+use Rattle.meaning.proofs.Rules.{within-on, within-off, within-both, allIn-mono, blocked-mono}
+use Rattle.meaning.proofs.Written.{Sized}
 use Rattle.meaning.proofs.Support.{support-is, outside, unsupported-any, length-support}
 use Rattle.meaning.proofs.Additions.{Reached, reached-start, reached-more, reached-closing, closed-without-starved}
 use Rattle.meaning.proofs.Closing.{closing-computed}
 use Rattle.book.specs.Tables.{atomTable, atomsIn}
-use Rattle.closing.specs.Growing.{Grown, Pass}
-use Rattle.closing.specs.Conditions.{onByTables, goingOn, offByTables, goingOff}
+use Rattle.closing.specs.Growing.{Pass}
+use Rattle.closing.specs.Conditions.{onWith, goingOn, offByTables, goingOff}
 use Rattle.closing.proofs.Good.{Asks}
 
 -- the pair that two lists stand for
@@ -57,25 +58,32 @@ module _ (b : Book) (asks : Asks b) {on₀ off₀ : List Bool} where
   module _ {on off marks headed lost : List Bool} (s : Closes b on₀ off₀ on off marks headed lost) where
     -- ---- what the tables and the marks say of the pair
 
-    by-on : (r : RuleNo) → InBook b r → onByTables b headed lost r ≡ mayOn b (pairOf on off) r
-    by-on r h = asks .on r h (pairOf on off) headed (s .heads-table) lost (s .lost-table)
+    by-lost : (r : RuleNo) → InBook b r → every (atomsIn lost) (rule b r .neg) ≡ every (allIn b (of off)) (rule b r .neg)
+    by-lost r h = rw (s .lost-table) (asks .neg r h (allIn b (of off)))
 
     by-blocked : (r : RuleNo) → InBook b r → some (atomsIn headed) (rule b r .neg) ≡ blocked b (pairOf on off) r
     by-blocked r h = asks .blocked r h (pairOf on off) headed (s .heads-table)
 
     -- a rule without a mark is off in every closed pair above
     unmarked-off : (d : Pair) → Within b (pairOf on off) d → Closed b d → (r : RuleNo) → InBook b r → r ∉ of marks → r ∈ d .off
-    unmarked-off d w k r h n = outside b k (of marks)
-        (λ q g m p. rw (s .supported) (support-is b (of off) (asks .few) .good q g (absent (within-off b w q g) m) (rw (s .supported) at p))) r h n
+    unmarked-off d w k r h n = outside b k (of marks) upheld r h n
+      where
+        upheld : Upheld b (d .off) (of marks)
+        upheld q g m p =
+            rw (s .supported) (support-is b (of off) (asks .few) .good q g (absent (within-off b w q g) m) (rw (s .supported) at p))
 
     -- ---- a pass keeps to the closing
 
-    pub closes-on : {m headed' : List Bool} {more : Bool} → Pass b (goingOn b headed lost) (count b) on m more
+    on-goes : (d : Pair) → Within b (pairOf on off) d → Closed b d → Under b (goingOn b lost .goes (d .on)) (d .on)
+    unfolding goingOn onWith mayOn
+    on-goes d w k r h a = k .goes-on r h (both (left (every (heads b (d .on)) _) _ a)
+        (every-mono (allIn-mono b (within-off b w)) _ (sym (by-lost r h) ∙ right (every (heads b (d .on)) (rule b r .pos)) _ a)))
+
+    pub closes-on : {m headed' : List Bool} {more : Bool} → Pass b (goingOn b lost) (count b) on m more
         → headed' ≡ atomTable (heads b (of m)) → Closes b on₀ off₀ m off marks headed' lost
-    unfolding goingOn
     closes-on p e = record {
       reached = reached-more b (s .reached) (within-both b (λ r h. p .grown .above r) (λ r h k. k)) (λ d w k. within-both b
-          (p .grown .forced (d .on) (λ r h a. k .goes-on r h (mayOn-mono b w r (sym (by-on r h) ∙ a))) (within-on b w)) (within-off b w));
+          (p .grown .forced (d .on) (on-goes d w k) (within-on b w)) (within-off b w));
       on-long = p .grown .long ∙ s .on-long;
       off-long = s .off-long;
       on-outside = λ r h. p .grown .outside r h ∙ s .on-outside r h;
@@ -108,9 +116,10 @@ module _ (b : Book) (asks : Asks b) {on₀ off₀ : List Bool} where
 
     -- ---- a pass that adds nothing
 
-    rests-on : {m : List Bool} → Pass b (goingOn b headed lost) (count b) on m false → Under b (mayOn b (pairOf on off)) (of on)
-    unfolding goingOn
-    rests-on p r h m = p .none-rests refl r h (by-on r h ∙ m)
+    rests-on : {m : List Bool} → Pass b (goingOn b lost) (count b) on m false → Under b (mayOn b (pairOf on off)) (of on)
+    unfolding goingOn onWith mayOn
+    rests-on p r h m = p .none-rests refl r h (both (left (every (heads b (of on)) _) _ m)
+        (by-lost r h ∙ right (every (heads b (of on)) (rule b r .pos)) _ m))
 
     rests-blocked : {m : List Bool} → Pass b (goingOff b headed marks) (count b) off m false → Under b (blocked b (pairOf on off)) (of off)
     unfolding goingOff offByTables
@@ -125,7 +134,7 @@ module _ (b : Book) (asks : Asks b) {on₀ off₀ : List Bool} where
 
 pub closes-end : (b : Book) → Asks b → (c : Colouring) → Sized c → {on off marks headed lost : List Bool}
     → Closes b (c .on) (c .off) on off marks headed lost
-    → {on' headed' : List Bool} → Pass b (goingOn b headed lost) (count b) on on' false → headed' ≡ atomTable (heads b (of on'))
+    → {on' headed' : List Bool} → Pass b (goingOn b lost) (count b) on on' false → headed' ≡ atomTable (heads b (of on'))
     → {off' lost' marks' : List Bool} → Pass b (goingOff b headed' marks) (count b) off off' false
     → lost' ≡ atomTable (allIn b (of off')) → marks' ≡ support b (of off')
     → record { on = on'; off = off'; marks = marks' } ≡ close b c

@@ -2,14 +2,13 @@
 -- and that the counters go with the marks when a counter falls and when a rule is marked (blueprint, "Counters for V").
 use mathlib.Core.Path.{_≡_, refl, sym, _∙_, ap}
 use mathlib.Core.Logic.{_⊎_, inl, inr, ⊎-elim}
-use mathlib.Core.Bool.{Bool, true, false, _||_}
-use mathlib.Core.List.{List, [], _∷_, map}
+use mathlib.Core.Bool.{Bool, true, false}
+use mathlib.Core.List.{List, [], _∷_}
 use Prim.Native.Nat.{ℕ, zero, suc, _+_, _-_, _≤_, _<_}
 use native.Mathlib.Nat.{not-suc-le-zero}
-use native.Mathlib.Numerals.{add-one}
 use native.Mathlib.Omega.{arith}
 use lib.Dec.{eqb}
-use lib.ListN.{length, getD, set, take, replicate, length-set, length-replicate}
+use lib.ListN.{length, getD, set, take, replicate, length-set}
 use lib.Seq.{getD-set-same, getD-set-other}
 use borrow.Author.Tests.{eqb-true, eqb-false}
 use Rattle.meaning.specs.declared.AtomNo.{AtomNo}
@@ -17,15 +16,17 @@ use Rattle.meaning.specs.declared.RuleNo.{RuleNo}
 use Rattle.meaning.specs.Sets.{_∈_, _∉_, every}
 use Rattle.meaning.specs.Books.{Atoms, Rules, atomNo, ruleNo, Book, count, rule, InBook}
 use Rattle.meaning.specs.Written.{of}
-use Rattle.meaning.specs.Colours.{heads, plus}
+use Rattle.meaning.specs.Colours.{heads, Under}
 use Rattle.meaning.proofs.Choice.{b-yes, b-no}
-use Rattle.meaning.proofs.Tests.{either, first, other, decided, clash, refuted, same}
-use Rattle.meaning.proofs.Written.{of-none, of-set}
+use Rattle.meaning.proofs.Tests.{first, decided}
+use Rattle.meaning.proofs.Written.{of-set}
 use Rattle.meaning.proofs.Sets.{every-mono, every-here, every-all-next, every-all-end}
-use Rattle.meaning.proofs.Rules.{among-one, one-among, heads-of, heads-by, heads-mono}
+use Rattle.meaning.proofs.Rules.{heads-mono}
 use Rattle.book.specs.Tables.{atomsIn, Below}
 use Rattle.book.specs.Writing.{atomBytes}
+use Rattle.book.proofs.AtomSets.{table-in}
 use Rattle.closing.proofs.Good.{bytes-length}
+use Rattle.closing.proofs.Headed.{headed-none, headed-set}
 use Rattle.closing.specs.Counters.{stillMissing, Counted}
 
 -- ---- the search for the next missing atom
@@ -63,17 +64,17 @@ module _ (x : Atoms) (l : List ℕ) where
       → P (stillMissing x l (suc k))
   still-cases P k f g = ⊎-elim (λ m. rw (still-there k m) (f m)) (λ n. rw (still-here k n) (g n)) (decided (x (nextOf l (suc k))))
 
-  pub still-le : (k : ℕ) → stillMissing x l k ≤ k
+  still-le : (k : ℕ) → stillMissing x l k ≤ k
   still-le zero = rw still-none (omega arith)
   still-le (suc k) = still-cases (λ m. m ≤ suc k) k (λ m. omega (arith, still-le k)) (λ n. omega arith)
 
   -- it stands at an atom that is missing
-  pub still-at : (k : ℕ) → (stillMissing x l k ≡ 0) ⊎ (nextOf l (stillMissing x l k) ∉ x)
+  still-at : (k : ℕ) → (stillMissing x l k ≡ 0) ⊎ (nextOf l (stillMissing x l k) ∉ x)
   still-at zero = inl still-none
   still-at (suc k) = still-cases (λ m. (m ≡ 0) ⊎ (nextOf l m ∉ x)) k (λ m. still-at k) (λ n. inr n)
 
 -- sets that agree on the atoms below 255 have the same atoms missing
-pub still-same : (x y : Atoms) → ((a : AtomNo) → a .0 < 255 → x a ≡ y a) → (l : List ℕ) → Below 255 l → (k : ℕ) → k ≤ length l
+still-same : (x y : Atoms) → ((a : AtomNo) → a .0 < 255 → x a ≡ y a) → (l : List ℕ) → Below 255 l → (k : ℕ) → k ≤ length l
     → stillMissing x l k ≡ stillMissing y l k
 unfolding stillMissing
 still-same x y f l low zero h = refl
@@ -92,7 +93,7 @@ module _ (x : Atoms) (l : List AtomNo) where
   next-atom k = rw (bytes-length l) (bytes-at l (length l - k))
 
   -- the atoms before it are there
-  pub still-before : (k : ℕ) → k ≤ length l → every x (take (length l - k) l) ≡ true
+  still-before : (k : ℕ) → k ≤ length l → every x (take (length l - k) l) ≡ true
       → every x (take (length l - stillMissing x (atomBytes l) k) l) ≡ true
   still-before zero h e = rw (still-none x (atomBytes l)) e
   still-before (suc k) h e = still-cases x (atomBytes l) (λ m. every x (take (length l - m) l) ≡ true) k
@@ -104,11 +105,11 @@ module _ (x : Atoms) (l : List AtomNo) where
           rw z at (every-all-next x l (length l - suc k) (atomNo 0) (omega arith) m e)
 
   -- nothing is missing
-  pub still-done : (k : ℕ) → k ≤ length l → every x (take (length l - k) l) ≡ true → stillMissing x (atomBytes l) k ≡ 0 → every x l ≡ true
+  still-done : (k : ℕ) → k ≤ length l → every x (take (length l - k) l) ≡ true → stillMissing x (atomBytes l) k ≡ 0 → every x l ≡ true
   still-done k h e z = every-all-end x l (length l - stillMissing x (atomBytes l) k) (omega arith) (still-before k h e)
 
   -- something is
-  pub still-waits : (k : ℕ) → k ≤ length l → (stillMissing x (atomBytes l) k ≡ 0 → ⊥) → every x l ≡ false
+  still-waits : (k : ℕ) → k ≤ length l → (stillMissing x (atomBytes l) k ≡ 0 → ⊥) → every x l ≡ false
   still-waits k h n = ⊎-elim (λ z. absurd (n z))
       (λ m. every-here x l _ (atomNo 0) (omega (arith, still-le x (atomBytes l) k)) (rw next-atom at m)) (still-at x (atomBytes l) k)
 
@@ -121,31 +122,7 @@ set-cases P l i v d j h f g = ⊎-elim
     (λ e. let z = eqb-true j i e in rw (z, getD-set-same l i v d h) (f z))
     (λ e. let z = eqb-false j i e in rw (getD-set-other l i j v d z) (g z)) (decided (eqb j i))
 
--- a table without an atom
-table-none : (a : AtomNo) → a ∉ atomsIn (replicate 255 false)
-unfolding atomsIn of
-table-none a = of-none 255 (ruleNo (a .0))
-
 module _ (b : Book) where
-  -- the table of heads with one rule more
-  table-plus : (v : Rules) (r : RuleNo) → InBook b r → (table : List Bool) → length table ≡ 255
-      → ((a : AtomNo) → a .0 < 255 → atomsIn table a ≡ heads b v a) → rule b r .head .0 < 255
-      → (a : AtomNo) → a .0 < 255 → atomsIn (set table (rule b r .head .0) true) a ≡ heads b (plus v (r ∷ [])) a
-  unfolding atomsIn
-  table-plus v r h table long f low a k = set-cases (λ t. t ≡ heads b (plus v (r ∷ [])) a) table (rule b r .head .0) true false (a .0)
-      (rw long low) here (λ z. f a k ∙ there z)
-    where
-      here : a .0 ≡ rule b r .head .0 → true ≡ heads b (plus v (r ∷ [])) a
-      here z =
-          let y : rule b r .head ≡ a = λ i. record { 0 = sym z i } in
-          sym (rw y at (heads-of b (plus v (r ∷ [])) r h (other (v r) (one-among r))))
-
-      there : (a .0 ≡ rule b r .head .0 → ⊥) → heads b v a ≡ heads b (plus v (r ∷ [])) a
-      there n = same _ _ (heads-mono b (λ q k m. first _ m) a) (λ e.
-          let (q, k, m, z) = heads-by b _ a e in
-          ⊎-elim (λ p. rw z at (heads-of b v q k p))
-          (λ p. let y : q ≡ r = among-one p in absurd (n (sym (ap (λ (c : AtomNo). c .0) (rw y at z))))) (either (v q) _ m))
-
   -- ---- at first all are missing
 
   pub record AllMissing (n : ℕ) (missing : List ℕ) : Type 0 where
@@ -160,16 +137,16 @@ module _ (b : Book) where
   missing-next n {missing} l a h e = record {
     long = length-set missing n (length l) ∙ a .long;
     each = λ r k. set-cases (λ i. i ≡ length (rule b r .pos)) missing n (length l) 0 (r .0) (rw (a .long) h)
-        (λ z. let y : r ≡ ruleNo n = λ i. record { 0 = z i } in rw (y, e) (bytes-length (rule b (ruleNo n) .pos))) (λ z. a .each r (omega arith));
+        (λ z. let y : r ≡ ruleNo n = λ i. record { 0 = z i } in rw (y, e) (bytes-length (rule b (ruleNo n) .pos)))
+        (λ z. a .each r (omega arith));
   }
 
   pub missing-counted : (n : ℕ) {missing : List ℕ} → AllMissing n missing → count b ≤ n
       → Counted b (of (replicate 255 false)) missing (replicate 255 false)
   unfolding every
   missing-counted n {missing} a h = record {
-    long = (a .long, length-replicate 255 false);
-    table = λ c k. table-none c ∙ sym (refuted (λ e.
-        let (r, k, m, z) = heads-by b (of (replicate 255 false)) c e in clash m (of-none 255 r)));
+    long = a .long;
+    table = headed-none b;
     small = λ r k. omega (arith, a .each r (omega arith));
     there = λ r k. let e : length (rule b r .pos) - getD missing (r .0) 0 ≡ 0 = omega (arith, a .each r (omega arith)) in rw e;
   }
@@ -186,8 +163,11 @@ module _ (b : Book) where
     counted-room l z = rw (z, bytes-length) (c .small r h)
 
     module _ {l : List ℕ} (z : l ≡ atomBytes atoms) (low : Below 255 l) {m : ℕ} (e : m ≡ stillMissing (atomsIn supported) l before) where
+      by-table : (a : AtomNo) → a .0 < 255 → atomsIn supported a ≡ heads b v a
+      by-table a k = rw (c .table) (table-in (heads b v) a k)
+
       by-heads : m ≡ stillMissing (heads b v) (atomBytes atoms) before
-      by-heads = e ∙ still-same _ _ (c .table) l low before (counted-room l z) ∙ rw z
+      by-heads = e ∙ still-same _ _ by-table l low before (counted-room l z) ∙ rw z
 
       -- nothing is missing any more, or something is
       pub counted-done : m ≡ 0 → every (heads b v) atoms ≡ true
@@ -199,7 +179,7 @@ module _ (b : Book) where
       -- the counter falls to what is still missing
       pub counted-lower : r .0 < 255 → Counted b v (set missing (r .0) m) supported
       counted-lower in-table = record {
-        long = (length-set missing (r .0) m ∙ c .long .0, c .long .1);
+        long = length-set missing (r .0) m ∙ c .long;
         table = c .table;
         small = λ q k. set-cases (λ n. n ≤ length (rule b q .pos)) missing (r .0) m 0 (q .0) room (small q) (λ z. c .small q k);
         there = λ q k. set-cases (λ n. every (heads b v) (take (length (rule b q .pos) - n) (rule b q .pos)) ≡ true) missing (r .0) m 0
@@ -207,7 +187,7 @@ module _ (b : Book) where
       }
         where
           room : r .0 < length missing
-          room = rw (c .long .0) in-table
+          room = rw (c .long) in-table
 
           small : (q : RuleNo) → q .0 ≡ r .0 → m ≤ length (rule b q .pos)
           small q z =
@@ -223,9 +203,12 @@ module _ (b : Book) where
   pub counted-mark : (marks : List Bool) {missing : List ℕ} {supported : List Bool} → Counted b (of marks) missing supported
       → (r : RuleNo) → InBook b r → r .0 < length marks → (a : AtomNo) → a ≡ rule b r .head → a .0 < 255
       → Counted b (of (set marks (r .0) true)) missing (set supported (a .0) true)
-  counted-mark marks {supported = supported} c r h room a e low = rw (of-set marks r room, e) (record {
-    long = (c .long .0, length-set supported (rule b r .head .0) true ∙ c .long .1);
-    table = table-plus (of marks) r h supported (c .long .1) (c .table) (rw e at low);
+  counted-mark marks c r h room a e low = record {
+    long = c .long;
+    table = headed-set b marks (c .table) r h room a e low;
     small = c .small;
-    there = λ q k. every-mono (heads-mono b (λ q k m. first _ m)) _ (c .there q k);
-  })
+    there = λ q k. every-mono (heads-mono b grown) _ (c .there q k);
+  }
+    where
+      grown : Under b (of marks) (of (set marks (r .0) true))
+      grown q k m = rw (of-set marks r room) (first _ m)

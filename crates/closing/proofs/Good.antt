@@ -7,16 +7,15 @@ use native.Mathlib.Omega.{arith}
 use lib.ListN.{length}
 use Rattle.meaning.specs.declared.AtomNo.{AtomNo}
 use Rattle.meaning.specs.declared.RuleNo.{RuleNo}
-use Rattle.meaning.specs.Sets.{some}
-use Rattle.meaning.specs.Books.{Book, count, rule, InBook}
-use Rattle.meaning.specs.Colours.{Pair, heads, allIn, mayOn, blocked}
+use Rattle.meaning.specs.Sets.{every, some}
+use Rattle.meaning.specs.Books.{Atoms, Book, count, rule, InBook}
+use Rattle.meaning.specs.Colours.{Pair, heads, blocked}
 use Rattle.book.specs.declared.reader.Shape.{Shape}
 use Rattle.book.specs.Format.{bookIn, ReadAs}
 use Rattle.book.specs.Tables.{atomTable, atomsIn, Below}
-use Rattle.book.specs.Writing.{atomBytes}
+use Rattle.book.specs.Writing.{atomBytes, RuleFits}
 use Rattle.book.proofs.Places.{shape-count, shape-in, in-shape, rule-keeps, head-below, pos-below}
-use Rattle.book.proofs.Asked.{goes-on-mayOn, is-blocked-blocked}
-use Rattle.closing.specs.Conditions.{onByTables}
+use Rattle.book.proofs.Asked.{every-table, is-blocked-blocked}
 
 pub record Good (s : List ℕ) (h : Shape) : Type 0 where
   pub read : ReadAs s h
@@ -49,18 +48,21 @@ module _ {s : List ℕ} {h : Shape} (g : Good s h) where
     pub pos-few : (part : List ℕ) → part ≡ atomBytes (rule (bookIn s) r .pos) → length part ≤ 16
     pos-few part e = rw (e, bytes-length) (rule-keeps s h (g .read) r (in-shape s h (g .read) r l) .pos .short)
 
--- what the tables of a pair answer, asked of a rule of the book
+-- what a table answers, asked for the atoms of a rule of the book
 pub record Asks (b : Book) : Type 0 where
   pub few : count b ≤ 255
-  pub on : (r : RuleNo) → InBook b r → (c : Pair) (headed : List Bool) → headed ≡ atomTable (heads b (c .on))
-      → (lost : List Bool) → lost ≡ atomTable (allIn b (c .off)) → onByTables b headed lost r ≡ mayOn b c r
+  pub pos : (r : RuleNo) → InBook b r → (x : Atoms) → every (atomsIn (atomTable x)) (rule b r .pos) ≡ every x (rule b r .pos)
+  pub neg : (r : RuleNo) → InBook b r → (x : Atoms) → every (atomsIn (atomTable x)) (rule b r .neg) ≡ every x (rule b r .neg)
   pub blocked : (r : RuleNo) → InBook b r → (c : Pair) (headed : List Bool) → headed ≡ atomTable (heads b (c .on))
       → some (atomsIn headed) (rule b r .neg) ≡ blocked b c r
 
 pub good-asks : {s : List ℕ} {h : Shape} → Good s h → Asks (bookIn s)
-unfolding onByTables
 good-asks {s} {h} g = record {
   few = good-few g;
-  on = λ r l c headed e lost f. goes-on-mayOn s h (g .read) (g .atoms) r (in-shape s h (g .read) r l) c headed e lost f;
+  pos = λ r l x. every-table x _ (λ a m. omega (arith, g .atoms, keeps r l .pos .below a m));
+  neg = λ r l x. every-table x _ (λ a m. omega (arith, g .atoms, keeps r l .neg .below a m));
   blocked = λ r l c headed e. is-blocked-blocked s h (g .read) (g .atoms) r (in-shape s h (g .read) r l) c headed e;
 }
+  where
+    keeps : (r : RuleNo) → InBook (bookIn s) r → RuleFits (h .atoms) (rule (bookIn s) r)
+    keeps r l = rule-keeps s h (g .read) r (in-shape s h (g .read) r l)

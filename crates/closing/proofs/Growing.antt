@@ -10,7 +10,7 @@ use native.Mathlib.Numerals.{add-one}
 use native.Mathlib.Omega.{arith}
 use lib.ListN.{length, set, length-set}
 use Rattle.meaning.specs.declared.RuleNo.{RuleNo}
-use Rattle.meaning.specs.Sets.{_∈_, _∉_, _⊆_}
+use Rattle.meaning.specs.Sets.{_∈_}
 use Rattle.meaning.specs.Books.{Rules, ruleNo, among, Book, count, InBook}
 use Rattle.meaning.specs.Colours.{Under, plus}
 use Rattle.meaning.specs.Written.{of}

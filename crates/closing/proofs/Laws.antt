@@ -36,7 +36,8 @@ module _ (b : Book) (few : count b ≤ 255) (c : Colouring) (sized : Sized c) wh
     reading-stands = total-stands b (pair (close b c)) close-closed (lowest-total b _ full) (clashing-no b _ clear)
 
   -- no answer set above c is lost
-  pub close-keeps-answers : (x : Atoms) → AnswerSet b x → Within b (pair c) (colouringOf b x) → Within b (pair (close b c)) (colouringOf b x)
+  pub close-keeps-answers : (x : Atoms) → AnswerSet b x → Within b (pair c) (colouringOf b x)
+      → Within b (pair (close b c)) (colouringOf b x)
   close-keeps-answers = closing-keeps-answers b (close-is b few c sized)
 
   -- so with a contradiction there is none

@@ -1,5 +1,6 @@
 -- The laws of closing. Read in this order.
 pub mod Good
+pub mod Headed
 pub mod Growing
 pub mod Turns
 pub mod Counters

@@ -1,15 +1,13 @@
 -- The marks at rest are the support set: they were grown from nothing, so they are in every upheld set, and a pass that adds nothing has
 -- found an upheld one (document 01, "Support"; blueprint, "Counters for V": "at the end marked = V").
 use mathlib.Core.Path.{_≡_, refl, sym, _∙_, ap}
-use mathlib.Core.Bool.{Bool, true, false, not}
+use mathlib.Core.Bool.{Bool, false, not}
 use mathlib.Core.List.{List}
 use Prim.Native.Nat.{_≤_}
 use lib.ListN.{replicate, length-replicate}
 use borrow.Author.Tests.{not-true}
-use Rattle.meaning.specs.declared.RuleNo.{RuleNo}
-use Rattle.meaning.specs.Sets.{_∈_, _∉_, every}
-use Rattle.meaning.specs.Books.{Rules, Book, count, rule, InBook}
-use Rattle.meaning.specs.Colours.{heads, Under, Upheld, Support}
+use Rattle.meaning.specs.Books.{Rules, Book, count}
+use Rattle.meaning.specs.Colours.{Under, Upheld}
 use Rattle.meaning.specs.Written.{of}
 use Rattle.meaning.specs.Computed.{upheld, support}
 use Rattle.meaning.proofs.Tests.{both, left, right, clash}

@@ -1,23 +1,23 @@
 -- Laws of the three conditions (specs/Conditions): each way through a turn leaves what the condition says, and each condition only grows
 -- with the set (blueprint C1). The facts are those that the code has at its returns.
-use mathlib.Core.Path.{_≡_, sym, _∙_, ap}
+use mathlib.Core.Path.{_≡_, _∙_, ap}
 use mathlib.Core.Logic.{⊎-elim}
-use mathlib.Core.Bool.{Bool, true, false, not, _&&_, _||_}
+use mathlib.Core.Bool.{Bool, true, false, not, _&&_}
 use mathlib.Core.List.{List}
-use Prim.Native.Nat.{_<_}
 use lib.ListN.{getD, set}
 use Rattle.meaning.specs.declared.RuleNo.{RuleNo}
 use Rattle.meaning.specs.Sets.{_∈_, _∉_, every, some}
 use Rattle.meaning.specs.Books.{Rules, Book, rule, InBook}
-use Rattle.meaning.specs.Colours.{heads, allIn, Under}
+use Rattle.meaning.specs.Colours.{heads, allIn}
 use Rattle.meaning.specs.Written.{of}
 use Rattle.meaning.specs.Computed.{upheld}
 use Rattle.meaning.proofs.Tests.{both, left, right, not-first, not-second, either, first, other, neither, clash}
 use Rattle.meaning.proofs.Sets.{every-mono, some-mono}
 use Rattle.meaning.proofs.Rules.{heads-mono, allIn-mono}
-use Rattle.book.specs.Tables.{atomsIn}
+use Rattle.book.specs.Tables.{atomTable, atomsIn}
 use Rattle.closing.specs.Growing.{Condition, Turn, stays, added}
-use Rattle.closing.specs.Conditions.{marking, onByTables, goingOn, offByTables, goingOff}
+use Rattle.closing.specs.Conditions.{marking, onWith, goingOn, offByTables, goingOff}
+use Rattle.closing.proofs.Good.{Asks}
 use Rattle.closing.proofs.Growing.{Monotone}
 
 module _ (r : RuleNo) (l : List Bool) (more : Bool) where
@@ -45,13 +45,12 @@ module _ (r : RuleNo) (l : List Bool) (more : Bool) where
 
     -- ---- going on
 
-    module _ (headed lost : List Bool) where
-      pub on-stays : onByTables b headed lost r ≡ false → Turn (goingOn b headed lost) r l more l more
+    module _ (lost : List Bool) where
+      pub on-stays : r ∉ onWith b lost (of l) → Turn (goingOn b lost) r l more l more
       unfolding goingOn
       on-stays e = stays (λ n. e)
 
-      pub on-added : getD l (r .0) false ≡ false → onByTables b headed lost r ≡ true
-          → Turn (goingOn b headed lost) r l more (set l (r .0) true) true
+      pub on-added : getD l (r .0) false ≡ false → r ∈ onWith b lost (of l) → Turn (goingOn b lost) r l more (set l (r .0) true) true
       unfolding goingOn of
       on-added n e = added n e
 
@@ -83,6 +82,13 @@ module _ (r : RuleNo) (l : List Bool) (more : Bool) where
       unfolding goingOff
       off-starved n e = off-added n (other (offByTables b headed marks r) e)
 
+-- what goes_on answers by the table of the heads of the set
+pub on-asked : (b : Book) → Asks b → (l : List Bool) (r : RuleNo) → InBook b r → (headed : List Bool) → headed ≡ atomTable (heads b (of l))
+    → (lost : List Bool) {t : Bool} → t ≡ (every (atomsIn headed) (rule b r .pos) && every (atomsIn lost) (rule b r .neg))
+    → t ≡ onWith b lost (of l) r
+unfolding onWith
+on-asked b asks l r h headed e lost f = f ∙ rw (e, asks .pos r h (heads b (of l)))
+
 -- ---- the conditions only grow
 
 module _ (b : Book) where
@@ -90,9 +96,10 @@ module _ (b : Book) where
   unfolding marking upheld
   marking-mono off s t f r h m = both (left (not (off r)) _ m) (every-mono (heads-mono b f) _ (right (not (off r)) _ m))
 
-  pub going-on-mono : (headed lost : List Bool) → Monotone b (goingOn b headed lost)
-  unfolding goingOn
-  going-on-mono headed lost s t f r h m = m
+  pub going-on-mono : (lost : List Bool) → Monotone b (goingOn b lost)
+  unfolding goingOn onWith
+  going-on-mono lost s t f r h m = both
+      (every-mono (heads-mono b f) _ (left (every (heads b s) _) _ m)) (right (every (heads b s) (rule b r .pos)) _ m)
 
   pub going-off-mono : (headed marks : List Bool) → Monotone b (goingOff b headed marks)
   unfolding goingOff

@@ -1,7 +1,7 @@
 -- The conditions of the three kinds of pass, over what a pass has in hand: tables of atoms, marks, and the set that grows.
 --
 --   marking b off    "a rule that is not off, and whose positive atoms are all heads of rules in V, is in V"
---   goingOn b headed lost    each positive atom is in the one table and each negative atom in the other
+--   goingOn b lost   each positive atom is the head of a rule in the set, and each negative atom is in the table
 --   goingOff b headed marks  the rule is not marked, or some negative atom is in the table: then it must go at its turn. It may go too
 --                    if some positive atom has all its rules off by now: such a rule has no mark in the next pass, and need not be
 --                    looked for
@@ -9,7 +9,7 @@ use mathlib.Core.Bool.{Bool, not, _&&_, _||_}
 use mathlib.Core.List.{List}
 use Rattle.meaning.specs.Sets.{every, some}
 use Rattle.meaning.specs.Books.{Rules, Book, rule}
-use Rattle.meaning.specs.Colours.{allIn}
+use Rattle.meaning.specs.Colours.{heads, allIn}
 use Rattle.meaning.specs.Written.{of}
 use Rattle.meaning.specs.Computed.{upheld}
 use Rattle.book.specs.Tables.{atomsIn}
@@ -18,11 +18,11 @@ use Rattle.closing.specs.Growing.{Condition}
 unfoldable pub marking : Book → Rules → Condition
 marking b off = record { goes = upheld b off; must = upheld b off }
 
-unfoldable pub onByTables : Book → List Bool → List Bool → Rules
-onByTables b headed lost r = every (atomsIn headed) (rule b r .pos) && every (atomsIn lost) (rule b r .neg)
+unfoldable pub onWith : Book → List Bool → Rules → Rules
+onWith b lost s r = every (heads b s) (rule b r .pos) && every (atomsIn lost) (rule b r .neg)
 
-unfoldable pub goingOn : Book → List Bool → List Bool → Condition
-goingOn b headed lost = record { goes = λ s. onByTables b headed lost; must = λ s. onByTables b headed lost }
+unfoldable pub goingOn : Book → List Bool → Condition
+goingOn b lost = record { goes = onWith b lost; must = onWith b lost }
 
 unfoldable pub offByTables : Book → List Bool → List Bool → Rules
 offByTables b headed marks r = not (of marks r) || some (atomsIn headed) (rule b r .neg)

@@ -6,24 +6,22 @@
 use mathlib.Core.Path.{_≡_}
 use mathlib.Core.Bool.{Bool, true}
 use mathlib.Core.List.{List}
-use Prim.Native.Nat.{ℕ, zero, suc, _-_, _≤_, _<_}
+use Prim.Native.Nat.{ℕ, zero, suc, _-_, _≤_}
 use lib.ListN.{length, getD, take}
-use Rattle.meaning.specs.declared.AtomNo.{AtomNo}
 use Rattle.meaning.specs.declared.RuleNo.{RuleNo}
 use Rattle.meaning.specs.Sets.{every}
 use Rattle.meaning.specs.Books.{Atoms, Rules, atomNo, Book, rule, InBook}
 use Rattle.meaning.specs.Colours.{heads}
 use Rattle.meaning.specs.Choice.{ifb}
-use Rattle.book.specs.Tables.{atomsIn}
+use Rattle.book.specs.Tables.{atomTable}
 
 unfoldable pub stillMissing : Atoms → List ℕ → ℕ → ℕ
 stillMissing x l zero = zero
 stillMissing x l (suc k) = ifb (x (atomNo (getD l (length l - suc k) 0))) (stillMissing x l k) (suc k)
 
 pub record Counted (b : Book) (v : Rules) (missing : List ℕ) (supported : List Bool) : Type 0 where
-  pub long : (length missing ≡ 255) × (length supported ≡ 255)
-  -- the table has the heads of the marked rules
-  pub table : (a : AtomNo) → a .0 < 255 → atomsIn supported a ≡ heads b v a
+  pub long : length missing ≡ 255
+  pub table : supported ≡ atomTable (heads b v)
   pub small : (r : RuleNo) → InBook b r → getD missing (r .0) 0 ≤ length (rule b r .pos)
   -- the positive atoms before the missing ones are heads of marked rules
   pub there : (r : RuleNo) → InBook b r → every (heads b v) (take (length (rule b r .pos) - getD missing (r .0) 0) (rule b r .pos)) ≡ true

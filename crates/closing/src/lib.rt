@@ -11,7 +11,7 @@ use book::heads_of;
 use book::lost_in;
 use meaning::Colouring;
 use passes::grow_off;
-use passes::grow_on;
+use passes::pass_on;
 
 mod marking;
 mod passes;
@@ -33,7 +33,7 @@ pub fn close(book: &[u8], shape: Shape, c: Colouring) -> Colouring
     let mut lost = [false; 255];
     lost_in(book, shape, &off, &mut lost);
     loop {
-        let more_on = grow_on(book, shape, &lost, &mut on, &mut headed);
+        let more_on = pass_on(book, shape, &lost, &mut on, &mut headed);
         let more_off = grow_off(book, shape, &headed, &mut off, &mut lost, &mut marks);
         if !more_on {
             if !more_off {

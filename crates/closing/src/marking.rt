@@ -20,7 +20,8 @@ use meaning::RuleNo;
 // How many atoms are still missing, where the last `left` of them were.
 fn still_missing(atoms: &[u8], mut left: u8, supported: &[bool; 255]) -> u8
     requires { ⌜ (left ≤ length (now atoms)) × Below 255 (now atoms) ⌝ }
-    ensures { λ r. ⌜ r ≡ stillMissing (atomsIn (now (supported .entry))) (now (atoms .entry)) left ⌝ }
+    ensures { λ r. ⌜ r ≡
+        stillMissing (atomsIn (now (supported .entry))) (now (atoms .entry)) left ⌝ }
 {
     while 0 < left {
         let next = atoms[atoms.len() - left as usize];
@@ -35,7 +36,8 @@ fn still_missing(atoms: &[u8], mut left: u8, supported: &[bool; 255]) -> u8
 // At first every positive atom is missing.
 fn all_missing(book: &[u8], shape: Shape, missing: &mut [u8; 255])
     requires { ⌜ ReadAs (now book) shape × (length (now missing) ≡ 255) ⌝ }
-    ensures { λ _. ⌜ Counted (bookIn (now (book .entry))) (of (replicate 255 false)) (now (missing .exit)) (replicate 255 false) ⌝ }
+    ensures { λ _. ⌜ Counted (bookIn (now (book .entry))) (of (replicate 255 false))
+        (now (missing .exit)) (replicate 255 false) ⌝ }
 {
     let mut r: u8 = 0;
     while r < shape.rules {
@@ -61,7 +63,8 @@ fn try_rule(
     ensures { λ after. ⌜
         Turn (marking (bookIn (now (book .entry))) (of (now (off .entry)))) r
         (now (marks .entry)) more (now (marks .exit)) after
-        × Counted (bookIn (now (book .entry))) (of (now (marks .exit))) (now (missing .exit)) (now (supported .exit)) ⌝ }
+        × Counted (bookIn (now (book .entry))) (of (now (marks .exit)))
+        (now (missing .exit)) (now (supported .exit)) ⌝ }
 {
     let at = r.0 as usize;
     if marks[at] {
@@ -93,10 +96,12 @@ fn sweep(
     requires { ⌜ ReadAs (now book) shape × (length (now marks) ≡ 255)
         × Counted (bookIn (now book)) (of (now marks)) (now missing) (now supported) ⌝ }
     ensures { λ more. ⌜
-        Pass (bookIn (now (book .entry))) (marking (bookIn (now (book .entry))) (of (now (off .entry))))
+        Pass (bookIn (now (book .entry)))
+        (marking (bookIn (now (book .entry))) (of (now (off .entry))))
         (count (bookIn (now (book .entry))))
         (now (marks .entry)) (now (marks .exit)) more
-        × Counted (bookIn (now (book .entry))) (of (now (marks .exit))) (now (missing .exit)) (now (supported .exit)) ⌝ }
+        × Counted (bookIn (now (book .entry))) (of (now (marks .exit)))
+        (now (missing .exit)) (now (supported .exit)) ⌝ }
 {
     let mut more = false;
     let mut r: u8 = 0;
@@ -111,7 +116,8 @@ fn sweep(
 // are all heads of its rules, over whatever the marks held.
 pub fn support(book: &[u8], shape: Shape, off: &[bool; 255], marks: &mut [bool; 255])
     requires { ⌜ ReadAs (now book) shape ⌝ }
-    ensures { λ _. ⌜ now (marks .exit) ≡ support (bookIn (now (book .entry))) (of (now (off .entry))) ⌝ }
+    ensures { λ _. ⌜ now (marks .exit) ≡
+        support (bookIn (now (book .entry))) (of (now (off .entry))) ⌝ }
 {
     *marks = [false; 255];
     let mut missing = [0u8; 255];

@@ -7,32 +7,37 @@ ghost use Rattle.meaning.specs.Colours.{heads, allIn};
 ghost use Rattle.meaning.specs.Computed.{support};
 ghost use Rattle.meaning.specs.Written.{of};
 ghost use Rattle.book.specs.Format.{bookIn, ReadAs};
-ghost use Rattle.book.specs.Tables.{atomTable, atomsIn};
+ghost use Rattle.book.specs.Tables.{atomTable};
 ghost use Rattle.closing.specs.Growing.{Turn, Pass};
 ghost use Rattle.closing.specs.Conditions.{goingOn, goingOff};
 use crate::marking::support;
 use book::Shape;
 use book::goes_on;
-use book::heads_of;
+use book::head;
 use book::is_blocked;
 use book::is_starved;
 use book::lost_in;
+use book::positives;
+use book::some_in;
 use meaning::RuleNo;
 
-// One rule's turn to go on.
-fn try_on<'a>(
+// One rule's turn to go on. The table of the heads of on rules goes with it.
+fn try_on(
     book: &[u8],
     shape: Shape,
     r: RuleNo,
-    headed: &'a [bool; 255],
-    lost: &'a [bool; 255],
+    lost: &[bool; 255],
     on: &mut [bool; 255],
+    headed: &mut [bool; 255],
     more: bool,
 ) -> bool
-    requires { ⌜ ReadAs (now book) shape × (r .0 < shape .rules) ⌝ }
-    ensures { λ after. ⌜ Turn
-        (goingOn (bookIn (now (book .entry))) (now (headed .entry)) (now (lost .entry))) r
-        (now (on .entry)) more (now (on .exit)) after ⌝ }
+    requires { ⌜ ReadAs (now book) shape × (r .0 < shape .rules) × (length (now on) ≡ 255)
+        × (now headed ≡ atomTable (heads (bookIn (now book)) (of (now on)))) ⌝ }
+    ensures { λ after. ⌜
+        Turn (goingOn (bookIn (now (book .entry))) (now (lost .entry))) r
+        (now (on .entry)) more (now (on .exit)) after
+        × (now (headed .exit) ≡
+        atomTable (heads (bookIn (now (book .entry))) (of (now (on .exit))))) ⌝ }
 {
     let at = r.0 as usize;
     if on[at] {
@@ -42,33 +47,39 @@ fn try_on<'a>(
         return more;
     }
     on[at] = true;
+    let a = head(book, shape, r).0 as usize;
+    headed[a] = true;
     true
 }
 
-// Every rule's turn to go on, by the tables; whether one did.
-fn pass_on<'a>(
+// Every rule's turn to go on; whether one did.
+pub fn pass_on(
     book: &[u8],
     shape: Shape,
-    headed: &'a [bool; 255],
-    lost: &'a [bool; 255],
+    lost: &[bool; 255],
     on: &mut [bool; 255],
+    headed: &mut [bool; 255],
 ) -> bool
-    requires { ⌜ ReadAs (now book) shape × (length (now on) ≡ 255) ⌝ }
-    ensures { λ more. ⌜ Pass (bookIn (now (book .entry)))
-        (goingOn (bookIn (now (book .entry))) (now (headed .entry)) (now (lost .entry)))
-        (count (bookIn (now (book .entry)))) (now (on .entry)) (now (on .exit)) more ⌝ }
+    requires { ⌜ ReadAs (now book) shape × (length (now on) ≡ 255)
+        × (now headed ≡ atomTable (heads (bookIn (now book)) (of (now on)))) ⌝ }
+    ensures { λ more. ⌜
+        Pass (bookIn (now (book .entry))) (goingOn (bookIn (now (book .entry))) (now (lost .entry)))
+        (count (bookIn (now (book .entry)))) (now (on .entry)) (now (on .exit)) more
+        × (now (headed .exit) ≡
+        atomTable (heads (bookIn (now (book .entry))) (of (now (on .exit))))) ⌝ }
 {
     let mut more = false;
     let mut r: u8 = 0;
     while r < shape.rules {
-        more = try_on(book, shape, RuleNo(r), headed, lost, on, more);
+        more = try_on(book, shape, RuleNo(r), lost, on, headed, more);
         r += 1;
     }
     more
 }
 
-// One rule's turn to go off: it is not marked, or blocked, or starved. As long as no rule has gone
-// off since the marks were made every starved rule lacks its mark, and the search is left out.
+// One rule's turn to go off: it is not marked, or blocked, or starved. A rule that has its mark was
+// not starved when the marks were made, so only an atom that has lost a rule since, in this pass,
+// can have lost its last one, and only a rule that stands on such an atom is searched.
 fn try_off(
     book: &[u8],
     shape: Shape,
@@ -76,6 +87,7 @@ fn try_off(
     headed: &[bool; 255],
     marks: &[bool; 255],
     off: &mut [bool; 255],
+    dropped: &mut [bool; 255],
     more: bool,
 ) -> bool
     requires { ⌜ ReadAs (now book) shape × (r .0 < shape .rules) ⌝ }
@@ -92,12 +104,17 @@ fn try_off(
             if !more {
                 return more;
             }
+            if !some_in(positives(book, shape, r), dropped) {
+                return more;
+            }
             if !is_starved(book, shape, r, off) {
                 return more;
             }
         }
     }
     off[at] = true;
+    let a = head(book, shape, r).0 as usize;
+    dropped[a] = true;
     true
 }
 
@@ -114,35 +131,23 @@ fn pass_off(
         (goingOff (bookIn (now (book .entry))) (now (headed .entry)) (now (marks .entry)))
         (count (bookIn (now (book .entry)))) (now (off .entry)) (now (off .exit)) more ⌝ }
 {
+    let mut dropped = [false; 255];
     let mut more = false;
     let mut r: u8 = 0;
     while r < shape.rules {
-        more = try_off(book, shape, RuleNo(r), headed, marks, off, more);
+        more = try_off(
+            book,
+            shape,
+            RuleNo(r),
+            headed,
+            marks,
+            off,
+            &mut dropped,
+            more,
+        );
         r += 1;
     }
     more
-}
-
-// Rules go on, and the table of their heads is made again if one did.
-pub fn grow_on(
-    book: &[u8],
-    shape: Shape,
-    lost: &[bool; 255],
-    on: &mut [bool; 255],
-    headed: &mut [bool; 255],
-) -> bool
-    requires { ⌜ ReadAs (now book) shape × (length (now on) ≡ 255)
-        × (now headed ≡ atomTable (heads (bookIn (now book)) (of (now on)))) ⌝ }
-    ensures { λ more. ⌜ Pass (bookIn (now (book .entry)))
-        (goingOn (bookIn (now (book .entry))) (now (headed .entry)) (now (lost .entry)))
-        (count (bookIn (now (book .entry)))) (now (on .entry)) (now (on .exit)) more
-        × (now (headed .exit) ≡ atomTable (heads (bookIn (now (book .entry))) (of (now (on .exit))))) ⌝ }
-{
-    if !pass_on(book, shape, headed, lost, on) {
-        return false;
-    }
-    heads_of(book, shape, on, headed);
-    true
 }
 
 // Rules go off, and the table of lost atoms and the marks are made again if one did.

@@ -1,18 +1,14 @@
-use Rattle.meaning.specs.Books.{ruleNo, rule}
+-- The counters of the rules passed are the numbers of their positive atoms; when all rules are passed they go with marks on no rule.
+use Prim.Native.Nat.{_≤_, _-_}
 use native.Mathlib.Omega.{arith}
-use Rattle.closing.proofs.Good.{Good, good-in, pos-few}
-use Rattle.book.proofs.Places.{shape-count}
-use Rattle.book.specs.Format.{bookIn}
-use lib.ListN.{length}
-use Prim.Native.Nat.{_≤_, _<_, _-_}
-use mathlib.Core.Path.{_≡_, refl, sym, ap, _∙_}
-use Rattle.closing.proofs.Counters.{AllMissing, missing-start, missing-next, missing-counted}
 use borrow.Author.Needs.{needs}
+use Rattle.meaning.specs.Books.{ruleNo}
+use Rattle.book.specs.Format.{bookIn}
+use Rattle.book.proofs.Places.{shape-count}
+use Rattle.closing.proofs.Good.{Good, good-in, pos-few}
+use Rattle.closing.proofs.Counters.{AllMissing, missing-start, missing-next, missing-counted}
 use Rattle.closing.proofs.marking.all_missing.Statement.{statement}
 use Rattle.closing.proofs.marking.all_missing.Tie as tie
-use Rattle.closing.proofs.marking.all_missing.Reads as reads
-use Rattle.closing.proofs.marking.all_missing.Lts as lts
-use Rattle.book.proofs.positives.Reads as positives-reads
 
 abbrev Inv-loop : tie.InvT-loop
 Inv-loop book shape missing₀ r₀ missing r = (r ≤ shape .rules) × AllMissing (bookIn book) r missing
@@ -23,27 +19,12 @@ abbrev μ-loop : tie.MeasureT-loop
 loop-holds : tie.Need-loop-holds Inv-loop μ-loop
 loop-holds c = (search needs, missing-start _ _ (c .before .pre .1))
 
-positives-requires : tie.Need-positives-requires Inv-loop μ-loop
-positives-requires c κs = search needs
-
 cast-missing : tie.Need-cast-missing Inv-loop μ-loop
 cast-missing c =
     let k = c .before .before .before in
     let s = k .before .before in
     let g : Good (s .args .book .now) (s .args .shape) = search needs in
     omega (arith, pos-few g (ruleNo (k .loop .r)) (good-in g _ (omega arith)) _ (c .positives .ensures))
-
-cast-missing-2 : tie.Need-cast-missing-2 Inv-loop μ-loop
-cast-missing-2 c = search needs
-
-element-write-missing : tie.Need-element-write-missing Inv-loop μ-loop
-element-write-missing c = search needs
-
-add-r : tie.Need-add-r Inv-loop μ-loop
-add-r c = search needs
-
-loop-less : tie.Need-loop-less Inv-loop μ-loop
-loop-less c = search needs
 
 loop-again : tie.Need-loop-again Inv-loop μ-loop
 loop-again c =
@@ -58,16 +39,5 @@ returns c =
 
 pub all-missing-spec : {M : Type 1} → statement M
 all-missing-spec =
-    tie.close
-    (tie.spec
-    Inv-loop
-    μ-loop
-    loop-holds
-    positives-requires
-    cast-missing
-    cast-missing-2
-    element-write-missing
-    add-r
-    loop-less
-    loop-again
-    returns)
+    tie.close (tie.spec Inv-loop μ-loop loop-holds (λ c κs. search needs) cast-missing (λ c. search needs) (λ c. search needs) (λ
+    c. search needs) (λ c. search needs) loop-again returns)

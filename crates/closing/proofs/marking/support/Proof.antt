@@ -1,7 +1,9 @@
+-- The marks are grown from nothing, and the rules without a mark become fewer; a sweep that marks none has found the support set.
 use mathlib.Core.Path.{_∙_}
 use mathlib.Core.Bool.{false}
 use lib.ListN.{replicate, length-replicate}
 use borrow.Author.Tests.{not-true, not-false}
+use borrow.Author.Needs.{needs}
 use Rattle.meaning.specs.Written.{of}
 use Rattle.book.specs.Format.{bookIn}
 use Rattle.closing.specs.Growing.{Grown}
@@ -10,13 +12,8 @@ use Rattle.closing.specs.Counters.{Counted}
 use Rattle.closing.proofs.Growing.{room, grown-start, grown-more, pass-less}
 use Rattle.closing.proofs.Good.{Good, good-few}
 use Rattle.closing.proofs.Supporting.{marks-support}
-use borrow.Author.Needs.{needs}
 use Rattle.closing.proofs.marking.support.Statement.{statement}
 use Rattle.closing.proofs.marking.support.Tie as tie
-use Rattle.closing.proofs.marking.support.Reads as reads
-use Rattle.closing.proofs.marking.support.Lts as lts
-use Rattle.closing.proofs.marking.all_missing.Reads as all-missing-reads
-use Rattle.closing.proofs.marking.sweep.Reads as sweep-reads
 
 abbrev Inv-loop : tie.InvT-loop
 Inv-loop book shape off marks₀ missing₀ supported₀ marks missing supported =
@@ -24,9 +21,6 @@ Inv-loop book shape off marks₀ missing₀ supported₀ marks missing supported
 
 abbrev μ-loop : tie.MeasureT-loop
 μ-loop book shape off marks₀ missing₀ supported₀ marks missing supported = room (bookIn book) marks
-
-all-missing-requires : tie.Need-all-missing-requires Inv-loop μ-loop
-all-missing-requires c κs = search needs
 
 loop-holds : tie.Need-loop-holds Inv-loop μ-loop
 loop-holds c = (grown-start _, c .all-missing .ensures)
@@ -48,17 +42,10 @@ loop-less : tie.Need-loop-less Inv-loop μ-loop
 loop-less c = pass-less (rw (not-false (c .before .sweep .result) (c .if1 .left)) at (c .before .sweep .ensures .0))
 
 loop-again : tie.Need-loop-again Inv-loop μ-loop
-loop-again c = (grown-more (c .before .before .before .before .before .loop .inv .0) (c .before .sweep .ensures .0 .grown), c .before .sweep .ensures .1)
+loop-again c =
+    let k = c .before .before .before .before .before in
+    (grown-more (k .loop .inv .0) (c .before .sweep .ensures .0 .grown), c .before .sweep .ensures .1)
 
 pub support-spec : {M : Type 1} → statement M
 support-spec =
-    tie.close
-    (tie.spec
-    Inv-loop
-    μ-loop
-    all-missing-requires
-    loop-holds
-    sweep-requires
-    returns
-    loop-less
-    loop-again)
+    tie.close (tie.spec Inv-loop μ-loop (λ c κs. search needs) loop-holds sweep-requires returns loop-less loop-again)

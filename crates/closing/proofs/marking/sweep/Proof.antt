@@ -1,5 +1,7 @@
-use native.Mathlib.Omega.{arith}
+-- One turn after another makes a pass; the counters and the table go with the marks throughout.
 use Prim.Native.Nat.{_≤_, _-_}
+use native.Mathlib.Omega.{arith}
+use borrow.Author.Needs.{needs}
 use Rattle.meaning.specs.Written.{of}
 use Rattle.book.specs.Format.{bookIn}
 use Rattle.book.proofs.Places.{shape-count}
@@ -8,12 +10,8 @@ use Rattle.closing.specs.Conditions.{marking}
 use Rattle.closing.specs.Counters.{Counted}
 use Rattle.closing.proofs.Growing.{pass-start, pass-turn, pass-end}
 use Rattle.closing.proofs.Turns.{marking-mono}
-use borrow.Author.Needs.{needs}
 use Rattle.closing.proofs.marking.sweep.Statement.{statement}
 use Rattle.closing.proofs.marking.sweep.Tie as tie
-use Rattle.closing.proofs.marking.sweep.Reads as reads
-use Rattle.closing.proofs.marking.sweep.Lts as lts
-use Rattle.closing.proofs.marking.try_rule.Reads as try-rule-reads
 
 abbrev Inv-loop : tie.InvT-loop
 Inv-loop book shape off marks₀ missing₀ supported₀ more₀ r₀ marks missing supported more r =
@@ -25,15 +23,6 @@ abbrev μ-loop : tie.MeasureT-loop
 
 loop-holds : tie.Need-loop-holds Inv-loop μ-loop
 loop-holds c = (search needs, pass-start _, c .before .pre .2)
-
-try-rule-requires : tie.Need-try-rule-requires Inv-loop μ-loop
-try-rule-requires c κs = search needs
-
-add-r : tie.Need-add-r Inv-loop μ-loop
-add-r c = search needs
-
-loop-less : tie.Need-loop-less Inv-loop μ-loop
-loop-less c = search needs
 
 loop-again : tie.Need-loop-again Inv-loop μ-loop
 loop-again c =
@@ -53,5 +42,5 @@ returns c =
 
 pub sweep-spec : {M : Type 1} → statement M
 sweep-spec =
-    tie.close
-    (tie.spec Inv-loop μ-loop loop-holds try-rule-requires add-r loop-less loop-again returns)
+    tie.close (tie.spec Inv-loop μ-loop loop-holds (λ c κs. search needs) (λ c. search needs) (λ c. search needs) loop-again
+    returns)

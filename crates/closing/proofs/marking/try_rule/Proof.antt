@@ -1,36 +1,17 @@
+-- Each way out leaves the turn that the condition says, and counters and a table that go with the marks.
 use native.Mathlib.Omega.{arith}
+use borrow.Author.Needs.{needs}
 use Rattle.closing.proofs.Good.{Good, good-in, head-low, pos-low}
 use Rattle.closing.proofs.Turns.{turn-in, mark-off, mark-waits, mark-added}
 use Rattle.closing.proofs.Counters.{counted-room, counted-done, counted-waits, counted-lower, counted-mark}
-use borrow.Author.Needs.{needs}
 use Rattle.closing.proofs.marking.try_rule.Statement.{statement}
 use Rattle.closing.proofs.marking.try_rule.Tie as tie
-use Rattle.closing.proofs.marking.try_rule.Reads as reads
-use Rattle.closing.proofs.marking.try_rule.Lts as lts
-use Rattle.book.proofs.head.Reads as head-reads
-use Rattle.book.proofs.positives.Reads as positives-reads
-use Rattle.closing.proofs.marking.still_missing.Reads as still-missing-reads
-
-cast-at : tie.Need-cast-at
-cast-at c = search needs
-
-element-copy-out-if1 : tie.Need-element-copy-out-if1
-element-copy-out-if1 c = search needs
 
 returns : tie.Need-returns
 returns c = (turn-in _ _ _ _ (c .if1 .taken), c .before .before .before .before .pre .3)
 
-element-copy-out-if2 : tie.Need-element-copy-out-if2
-element-copy-out-if2 c = search needs
-
 returns-2 : tie.Need-returns-2
 returns-2 c = (mark-off _ _ _ _ _ (c .if2 .taken), c .before .before .before .before .before .before .pre .3)
-
-positives-requires : tie.Need-positives-requires
-positives-requires c κs = search needs
-
-element-copy-out-still-missing : tie.Need-element-copy-out-still-missing
-element-copy-out-still-missing c = search needs
 
 still-missing-requires : tie.Need-still-missing-requires
 still-missing-requires c κs =
@@ -39,9 +20,6 @@ still-missing-requires c κs =
     let i = good-in g (k .args .r) (k .pre .1) in
     let z = c .before .before .positives .ensures in
     (counted-room _ (k .pre .3) (k .args .r) i _ z, pos-low g (k .args .r) i _ z)
-
-element-write-missing : tie.Need-element-write-missing
-element-write-missing c = search needs
 
 returns-3 : tie.Need-returns-3
 returns-3 c =
@@ -54,15 +32,6 @@ returns-3 c =
       mark-waits _ _ _ _ _ (counted-waits _ (k .pre .3) (k .args .r) i z w m (c .if3 .taken)),
       counted-lower _ (k .pre .3) (k .args .r) i z w m (omega arith),
     )
-
-element-write-marks : tie.Need-element-write-marks
-element-write-marks c = search needs
-
-head-requires : tie.Need-head-requires
-head-requires c κs = search needs
-
-cast-a : tie.Need-cast-a
-cast-a c = search needs
 
 element-write-supported : tie.Need-element-write-supported
 element-write-supported c =
@@ -81,27 +50,14 @@ returns-4 c =
     let m = c .before .before .before .still-missing .ensures in
     let d = counted-done _ (k .pre .3) (k .args .r) i z w m (c .before .before .if3 .left) in
     let o = counted-lower _ (k .pre .3) (k .args .r) i z w m (omega arith) in
-    let h = c .before .head .ensures in (
-      mark-added _ _ _ _ _ (c .before .before .before .before .before .before .before .before .before .if1 .left) (c .before .before .before .before .before .before .before .if2 .left) d,
+    let h = c .before .head .ensures in
+    let f = c .before .before .before .before .before .before .before in (
+      mark-added _ _ _ _ _ (f .before .before .if1 .left) (f .if2 .left) d,
       counted-mark _ _ o (k .args .r) i (omega arith) _ h (head-low g (k .args .r) i _ h),
     )
 
 pub try-rule-spec : {M : Type 1} → statement M
 try-rule-spec =
-    tie.close
-    (tie.spec
-    cast-at
-    element-copy-out-if1
-    returns
-    element-copy-out-if2
-    returns-2
-    positives-requires
-    element-copy-out-still-missing
-    still-missing-requires
-    element-write-missing
-    returns-3
-    element-write-marks
-    head-requires
-    cast-a
-    element-write-supported
-    returns-4)
+    tie.close (tie.spec (λ c. search needs) (λ c. search needs) returns (λ c. search needs) returns-2 (λ c κs. search needs) (λ
+    c. search needs) still-missing-requires (λ c. search needs) returns-3 (λ c. search needs) (λ c κs. search needs)
+    (λ c. search needs) element-write-supported returns-4)

@@ -1,49 +1,40 @@
-use native.Mathlib.Omega.{arith}
+-- One turn after another makes a pass.
 use Prim.Native.Nat.{_≤_, _-_}
+use native.Mathlib.Omega.{arith}
+use borrow.Author.Needs.{needs}
 use Rattle.book.specs.Format.{bookIn}
 use Rattle.book.proofs.Places.{shape-count}
 use Rattle.closing.specs.Growing.{Pass}
 use Rattle.closing.specs.Conditions.{goingOff}
 use Rattle.closing.proofs.Growing.{pass-start, pass-turn, pass-end}
 use Rattle.closing.proofs.Turns.{going-off-mono}
-use borrow.Author.Needs.{needs}
 use Rattle.closing.proofs.passes.pass_off.Statement.{statement}
 use Rattle.closing.proofs.passes.pass_off.Tie as tie
-use Rattle.closing.proofs.passes.pass_off.Reads as reads
-use Rattle.closing.proofs.passes.pass_off.Lts as lts
-use Rattle.closing.proofs.passes.try_off.Reads as try-off-reads
 
 abbrev Inv-loop : tie.InvT-loop
-Inv-loop book shape headed marks off₀ more₀ r₀ off more r = (r ≤ shape .rules) × Pass (bookIn book) (goingOff (bookIn book) headed marks) r off₀ off more
+Inv-loop book shape headed marks off₀ dropped₀ more₀ r₀ off dropped more r =
+    (r ≤ shape .rules) × Pass (bookIn book) (goingOff (bookIn book) headed marks) r off₀ off more
 
 abbrev μ-loop : tie.MeasureT-loop
-μ-loop book shape headed marks off₀ more₀ r₀ off more r = shape .rules - r
+μ-loop book shape headed marks off₀ dropped₀ more₀ r₀ off dropped more r = shape .rules - r
 
 loop-holds : tie.Need-loop-holds Inv-loop μ-loop
 loop-holds c = (search needs, pass-start _)
 
-try-off-requires : tie.Need-try-off-requires Inv-loop μ-loop
-try-off-requires c κs = search needs
-
-add-r : tie.Need-add-r Inv-loop μ-loop
-add-r c = search needs
-
-loop-less : tie.Need-loop-less Inv-loop μ-loop
-loop-less c = search needs
-
 loop-again : tie.Need-loop-again Inv-loop μ-loop
 loop-again c =
-    let k = c .before .before .before .before in
+    let k = c .before .before .before .before .before in
     let e = shape-count _ (k .before .before .args .shape) (k .before .before .pre .0) in
     let f = k .loop .inv .1 .grown .long in
     (search needs, pass-turn (going-off-mono _ _ _) (k .loop .r) (omega arith) (omega arith) (k .loop .inv .1) (c .try-off .ensures))
 
 returns : tie.Need-returns Inv-loop μ-loop
 returns c =
-    let e = shape-count _ (c .before .before .before .before .args .shape) (c .before .before .before .before .pre .0) in
-    pass-end (c .before .before .loop .r) (omega arith) (omega arith) (c .before .before .loop .inv .1)
+    let k = c .before .before in
+    let e = shape-count _ (k .before .before .args .shape) (k .before .before .pre .0) in
+    pass-end (k .loop .r) (omega arith) (omega arith) (k .loop .inv .1)
 
 pub pass-off-spec : {M : Type 1} → statement M
 pass-off-spec =
-    tie.close
-    (tie.spec Inv-loop μ-loop loop-holds try-off-requires add-r loop-less loop-again returns)
+    tie.close (tie.spec Inv-loop μ-loop loop-holds (λ c κs. search needs) (λ c. search needs) (λ c. search needs) loop-again
+    returns)

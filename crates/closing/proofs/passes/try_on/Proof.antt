@@ -1,45 +1,44 @@
+-- The table has the heads of the on rules, so what goes_on answers by it is the condition itself; a rule that goes on adds its head.
 use mathlib.Core.Path.{sym, _∙_}
+use native.Mathlib.Omega.{arith}
 use borrow.Author.Tests.{not-true, not-false}
-use Rattle.closing.specs.Conditions.{onByTables}
-use Rattle.closing.proofs.Turns.{turn-in, on-stays, on-added}
 use borrow.Author.Needs.{needs}
+use Rattle.closing.proofs.Good.{Good, good-in, good-asks, head-low}
+use Rattle.closing.proofs.Headed.{headed-set}
+use Rattle.closing.proofs.Turns.{turn-in, on-asked, on-stays, on-added}
 use Rattle.closing.proofs.passes.try_on.Statement.{statement}
 use Rattle.closing.proofs.passes.try_on.Tie as tie
-use Rattle.closing.proofs.passes.try_on.Reads as reads
-use Rattle.closing.proofs.passes.try_on.Lts as lts
-use Rattle.book.proofs.goes_on.Reads as goes-on-reads
-
-cast-at : tie.Need-cast-at
-cast-at c = search needs
-
-element-copy-out-if1 : tie.Need-element-copy-out-if1
-element-copy-out-if1 c = search needs
 
 returns : tie.Need-returns
-returns c = turn-in _ _ _ _ (c .if1 .taken)
-
-goes-on-requires : tie.Need-goes-on-requires
-goes-on-requires c κs = search needs
+returns c = (turn-in _ _ _ _ (c .if1 .taken), c .before .before .before .before .pre .3)
 
 returns-2 : tie.Need-returns-2
-unfolding onByTables
-returns-2 c = on-stays _ _ _ _ _ _ (sym (c .before .goes-on .ensures) ∙ not-true _ (c .if2 .taken))
+returns-2 c =
+    let k = c .before .before .before .before .before .before .before in
+    let g : Good (k .args .book .now) (k .args .shape) = search needs in
+    let i = good-in g (k .args .r) (k .pre .1) in
+    let e = on-asked _ (good-asks g) _ (k .args .r) i _ (k .pre .3) _ (c .before .goes-on .ensures) in
+    (on-stays _ _ _ _ _ (sym e ∙ not-true _ (c .if2 .taken)), k .pre .3)
 
-element-write-on : tie.Need-element-write-on
-element-write-on c = search needs
+element-write-headed : tie.Need-element-write-headed
+element-write-headed c =
+    let k = c .before .before .before .before .before .before .before .before .before in
+    let g : Good (k .args .book .now) (k .args .shape) = search needs in
+    let i = good-in g (k .args .r) (k .pre .1) in
+    head-low g (k .args .r) i _ (c .before .head .ensures)
 
 returns-3 : tie.Need-returns-3
-unfolding onByTables
-returns-3 c = on-added _ _ _ _ _ _ (c .before .before .if1 .left) (sym (c .before .goes-on .ensures) ∙ not-false _ (c .if2 .left))
+returns-3 c =
+    let k = c .before .before .before .before .before .before .before .before .before in
+    let g : Good (k .args .book .now) (k .args .shape) = search needs in
+    let i = good-in g (k .args .r) (k .pre .1) in
+    let e = on-asked _ (good-asks g) _ (k .args .r) i _ (k .pre .3) _ (c .before .before .before .goes-on .ensures) in
+    let h = c .before .head .ensures in (
+      on-added _ _ _ _ _ (c .before .before .before .before .before .if1 .left) (sym e ∙ not-false _ (c .before .before .if2 .left)),
+      headed-set _ _ (k .pre .3) (k .args .r) i (omega arith) _ h (head-low g (k .args .r) i _ h),
+    )
 
 pub try-on-spec : {M : Type 1} → statement M
 try-on-spec =
-    tie.close
-    (tie.spec
-    cast-at
-    element-copy-out-if1
-    returns
-    goes-on-requires
-    returns-2
-    element-write-on
-    returns-3)
+    tie.close (tie.spec (λ c. search needs) (λ c. search needs) returns (λ c κs. search needs) returns-2 (λ c. search needs) (λ c
+    κs. search needs) (λ c. search needs) element-write-headed returns-3)
