@@ -1,5 +1,6 @@
 // The branches of a paper: "A branch is steps up to its 45 or its split, and a split is two
-// branches."
+// branches." A split colours a rule, so there are at most 255 of them one inside the other. What a
+// level holds is its colourings: about 5 KB, and under 1.5 MB for the deepest paper.
 ghost use mathlib.Core.Path.{_≡_};
 ghost use Prim.Native.Nat.{_+_};
 ghost use Rattle.meaning.specs.Claim.{named};

@@ -1,4 +1,5 @@
-// The walk itself.
+// The walk itself. "One try is one closing": the limit is tested before it, so that a call which
+// stops at the limit makes no further closing.
 ghost use mathlib.Core.Path.{_≡_};
 ghost use Rattle.book.specs.Format.{bookIn, ReadAs};
 ghost use Rattle.walk.specs.Events.{events};

@@ -27,24 +27,24 @@ loop-holds c = record { leads = here; on-long = search needs; off-long = search 
 with-on-requires : tie.Need-with-on-requires Inv-loop μ-loop
 with-on-requires c κs =
     let start = c .before .before .before .before .before .before .before .before .before .before in
-    let small : c .before .r .given .0 .0 .0 < count (bookIn (start .args .book .now)) = found-on
-    (c .before .before .before .check-step .ensures) (c .before .r .given .1) .0 in
+    let small : c .before .r .given .0 .0 .0 < count (bookIn (start .args .book .now)) =
+    found-on (c .before .before .before .check-step .ensures) (c .before .r .given .1) .0 in
     omega (arith, shape-count _ _ (start .pre .read))
 
 add-i : tie.Need-add-i Inv-loop μ-loop
 add-i c =
+    let turn = c .before .before .before .before .before .before .before .before in
     let start = c .before .before .before .before .before .before .before .before .before .before .before in
-    let room : c .before .before .before .before .before .before .before
-    .before .loop .i + 2 ≤ start .args .trailer .from = found-on (c .before .before .before .before .check-step .ensures)
-    (c .before .before .r .given .1) .1 in
+    let room : turn .loop .i + 2 ≤ start .args .trailer .from =
+    found-on (c .before .before .before .before .check-step .ensures) (c .before .before .r .given .1) .1 in
     search needs
 
 loop-less : tie.Need-loop-less Inv-loop μ-loop
 loop-less c =
+    let turn = c .before .before .before .before .before .before .before .before in
     let start = c .before .before .before .before .before .before .before .before .before .before .before in
-    let room : c .before .before .before .before .before .before .before
-    .before .loop .i + 2 ≤ start .args .trailer .from = found-on (c .before .before .before .before .check-step .ensures)
-    (c .before .before .r .given .1) .1 in
+    let room : turn .loop .i + 2 ≤ start .args .trailer .from =
+    found-on (c .before .before .before .before .check-step .ensures) (c .before .before .r .given .1) .1 in
     omega arith
 
 loop-again : tie.Need-loop-again Inv-loop μ-loop
@@ -57,24 +57,24 @@ loop-again c =
 with-off-requires : tie.Need-with-off-requires Inv-loop μ-loop
 with-off-requires c κs =
     let start = c .before .before .before .before .before .before .before .before .before .before in
-    let small : c .before .r2 .given .0 .0 .0 < count (bookIn (start .args .book .now)) = found-off
-    (c .before .before .before .check-step .ensures) (c .before .r2 .given .1) .0 in
+    let small : c .before .r2 .given .0 .0 .0 < count (bookIn (start .args .book .now)) =
+    found-off (c .before .before .before .check-step .ensures) (c .before .r2 .given .1) .0 in
     omega (arith, shape-count _ _ (start .pre .read))
 
 add-i-2 : tie.Need-add-i-2 Inv-loop μ-loop
 add-i-2 c =
+    let turn = c .before .before .before .before .before .before .before .before in
     let start = c .before .before .before .before .before .before .before .before .before .before .before in
-    let room : c .before .before .before .before .before .before .before
-    .before .loop .i + 2 ≤ start .args .trailer .from = found-off (c .before .before .before .before .check-step .ensures)
-    (c .before .before .r2 .given .1) .1 in
+    let room : turn .loop .i + 2 ≤ start .args .trailer .from =
+    found-off (c .before .before .before .before .check-step .ensures) (c .before .before .r2 .given .1) .1 in
     search needs
 
 loop-less-2 : tie.Need-loop-less-2 Inv-loop μ-loop
 loop-less-2 c =
+    let turn = c .before .before .before .before .before .before .before .before in
     let start = c .before .before .before .before .before .before .before .before .before .before .before in
-    let room : c .before .before .before .before .before .before .before
-    .before .loop .i + 2 ≤ start .args .trailer .from = found-off (c .before .before .before .before .check-step .ensures)
-    (c .before .before .r2 .given .1) .1 in
+    let room : turn .loop .i + 2 ≤ start .args .trailer .from =
+    found-off (c .before .before .before .before .check-step .ensures) (c .before .before .r2 .given .1) .1 in
     omega arith
 
 loop-again-2 : tie.Need-loop-again-2 Inv-loop μ-loop
@@ -86,26 +86,26 @@ loop-again-2 c =
 
 add-first : tie.Need-add-first Inv-loop μ-loop
 add-first c =
+    let turn = c .before .before .before .before .before .before .before in
     let start = c .before .before .before .before .before .before .before .before .before .before in
-    let room : c .before .before .before .before .before .before .before .loop .i + 2 + c
-    .before .m .given .0 .0 ≤ start .args .trailer .from = found-list (c .before .before .before .check-step .ensures)
-    (c .before .m .given .1) .0 in
+    let room : turn .loop .i + 2 + c .before .m .given .0 .0 ≤ start .args .trailer .from =
+    found-list (c .before .before .before .check-step .ensures) (c .before .m .given .1) .0 in
     search needs
 
 add-end : tie.Need-add-end Inv-loop μ-loop
 add-end c =
+    let turn = c .before .before .before .before .before .before .before in
     let start = c .before .before .before .before .before .before .before .before .before .before in
-    let room : c .before .before .before .before .before .before .before .loop .i + 2 + c
-    .before .m .given .0 .0 ≤ start .args .trailer .from = found-list (c .before .before .before .check-step .ensures)
-    (c .before .m .given .1) .0 in
+    let room : turn .loop .i + 2 + c .before .m .given .0 .0 ≤ start .args .trailer .from =
+    found-list (c .before .before .before .check-step .ensures) (c .before .m .given .1) .0 in
     search needs
 
 part-with-rules-end : tie.Need-part-with-rules-end Inv-loop μ-loop
 part-with-rules-end c =
+    let turn = c .before .before .before .before .before .before .before .before in
     let start = c .before .before .before .before .before .before .before .before .before .before .before in
-    let room : c .before .before .before .before .before .before .before .before .loop .i + 2 + c .before
-    .before .m .given .0 .0 ≤ start .args .trailer .from = found-list (c .before .before .before .before .check-step .ensures)
-    (c .before .before .m .given .1) .0 in
+    let room : turn .loop .i + 2 + c .before .before .m .given .0 .0 ≤ start .args .trailer .from =
+    found-list (c .before .before .before .before .check-step .ensures) (c .before .before .m .given .1) .0 in
     search needs
 
 with-rules-requires : tie.Need-with-rules-requires Inv-loop μ-loop
@@ -116,10 +116,11 @@ with-rules-requires c κs =
 
 loop-less-3 : tie.Need-loop-less-3 Inv-loop μ-loop
 loop-less-3 c =
+    let turn = c .before .before .before .before .before .before .before .before .before .before in
     let start = c .before .before .before .before .before .before .before .before .before .before .before .before .before in
-    let room : c .before .before .before .before .before .before .before .before .before .before .loop .i + 2 + c .before .before
-    .before .before .m .given .0 .0 ≤ start .args .trailer .from = found-list
-    (c .before .before .before .before .before .before .check-step .ensures) (c .before .before .before .before .m .given .1) .0 in
+    let room : turn .loop .i + 2 + c .before .before .before .before .m .given .0 .0 ≤ start .args .trailer .from =
+    found-list (c .before .before .before .before .before .before .check-step .ensures)
+    (c .before .before .before .before .m .given .1) .0 in
     omega arith
 
 loop-again-3 : tie.Need-loop-again-3 Inv-loop μ-loop
