@@ -22,6 +22,7 @@ pub use output::print_bytes;
 pub use output::print_name;
 pub use output::print_number;
 pub use output::print_refusal;
+pub use sentences::explain;
 pub use sentences::explain_book;
 pub use words::first_word;
 pub use words::other_words;
