@@ -24,7 +24,7 @@ use Rattle.walk.specs.declared.page_answer.Page.{Page}
 use Rattle.walk.proofs.Told.{found-one, page-one}
 use Rattle.writer.specs.Name.{Answered as Named, nameOf}
 use Rattle.writer.specs.Name.{told as nameTold}
-use Rattle.writer.specs.declared.name.Named.{Named as NamedAnswer}
+use Rattle.writer.specs.declared.answer.Named.{Named as NamedAnswer}
 use Rattle.writer.proofs.Told.{told-one as named-one}
 use Rattle.checker.specs.Branches.{Walked, BranchTo}
 use Rattle.checker.specs.Check.{checkOf}

@@ -12,10 +12,14 @@ mod resume;
 mod tally;
 mod walk;
 
+pub use colours::Picked;
+pub use colours::clashes;
+pub use colours::lowest_uncoloured;
 pub use kth::Found;
 pub use kth::find;
 pub use kth::first;
 pub use page_answer::Page;
 pub use pages::page;
+pub use resume::generates;
 pub use tally::Halt;
 pub use tally::Tally;

@@ -42,7 +42,7 @@ fn all_so(part: &[u8], row: &[u8], inside: bool) -> bool
 }
 
 // The rule is one of those that generate the row's set.
-fn generates(book: &[u8], shape: Shape, r: RuleNo, row: &[u8]) -> bool
+pub fn generates(book: &[u8], shape: Shape, r: RuleNo, row: &[u8]) -> bool
     requires { ⌜ ReadAs (now book) shape × (r .0 < shape .rules) ⌝ }
     ensures { λ g. ⌜ g ≡ generating (bookIn (now (book .entry))) (setIn (now (row .entry))) r ⌝ }
 {

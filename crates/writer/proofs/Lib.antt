@@ -1,4 +1,4 @@
--- The laws of the writer. Read in this order.
+-- The laws of the writer. Read in this order; from Drafts on they are what the functions of src/ are proved with.
 pub mod Branches
 pub mod Scan
 pub mod Needs
@@ -9,3 +9,12 @@ pub mod Ways
 pub mod Naming
 pub mod Told
 pub mod Cases
+pub mod Drafts
+pub mod Lists
+pub mod Searches
+pub mod Choosing
+pub mod Ahead
+pub mod Drafting
+pub mod Witnessing
+pub mod Handing
+pub mod Answering

@@ -5,8 +5,8 @@ use mathlib.Core.List.{List, [], _∷_, _++_}
 use Prim.Native.Nat.{ℕ}
 use lib.ListN.{getD, replicate}
 use Rattle.book.specs.declared.refusal.Refusal.the-variants.{Length, Mark, Trailer, Entry, Record, Atom, Order}
-use Rattle.writer.specs.declared.name.Named.{Named}
-use Rattle.writer.specs.declared.name.Named.the-variants.{Paper, Fewer, Stopped, Book, NotLeast, NotCertain, NoAtom, TooLong}
+use Rattle.writer.specs.declared.answer.Named.{Named}
+use Rattle.writer.specs.declared.answer.Named.the-variants.{Paper, Fewer, Stopped, Book, NotLeast, NotCertain, NoAtom, TooLong}
 use Rattle.writer.specs.Name.{Told, paper, fewer, stopped, refusedAt, refused, told}
 
 -- 1 to 7

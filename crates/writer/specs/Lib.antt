@@ -1,5 +1,7 @@
--- The engine's own paper, and what a call for it tells. Read in this order.
+-- The engine's own paper, and what a call for it tells. Read in this order; the last two are for the functions of src/ among themselves.
 pub mod Branches
 pub mod Scan
 pub mod Needs
 pub mod Name
+pub mod Steps
+pub mod Draft

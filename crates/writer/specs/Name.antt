@@ -24,8 +24,8 @@ use Rattle.walk.specs.declared.tally.Halt.{Halt}
 use Rattle.walk.specs.declared.tally.Halt.the-variants.{Going, Full, Limit, NotLeast}
 use Rattle.writer.specs.Branches.{branches}
 use Rattle.writer.specs.Scan.{Course, writing, limited, refuted, Progress, scan}
-use Rattle.writer.specs.declared.name.Named.{Named}
-use Rattle.writer.specs.declared.name.Named.the-variants.{Paper, Fewer, Stopped, Book as BadBook, NotLeast as Wrong, NotCertain, NoAtom, TooLong}
+use Rattle.writer.specs.declared.answer.Named.{Named}
+use Rattle.writer.specs.declared.answer.Named.the-variants.{Paper, Fewer, Stopped, Book as BadBook, NotLeast as Wrong, NotCertain, NoAtom, TooLong}
 
 -- success tells the tries of the paper's walk and the paper's length; 11 tells all tries of the first walk, and no sets; 9 tells L
 pub data Told : Type 0 where

@@ -1,6 +1,21 @@
 // The writer: the engine's own paper that an atom is certain. Stands on walk, closing, book and
 // meaning.
+//
+// `name` reads the book and walks to the first reading. Then it makes the paper in a draft of its
+// own: the steps of each branch one by one (`next_step`), the branches split by split
+// (`write_branches`), and behind them the witness and the trailer. A draft that came to its end
+// and fits is copied to the caller's buffer, and nothing else ever is.
 
-mod name;
+mod answer;
+mod branch;
+mod draft;
+mod hand_over;
+mod list;
+mod paper;
+mod search;
+mod split;
+mod step;
+mod witness;
 
-pub use name::Named;
+pub use answer::Named;
+pub use paper::name;

@@ -1,4 +1,4 @@
-// The paper that names an atom.
+// What naming answers: that the paper stands in the buffer, or why there is none.
 use book::Refusal;
 
 pub enum Named {

@@ -1,0 +1,130 @@
+-- The next step as the code comes to it (specs/Steps; document 01, "The engine's own paper"): 45 by the tests of a contradiction and of the
+-- claimed atom, then the first of 41, 42, 55 and 53 whose search finds a rule. The searches ask tables of atoms, and find what is asked of
+-- the pair itself.
+use mathlib.Core.Path.{_≡_, refl, sym, _∙_, ap}
+use mathlib.Core.Logic.{⊎-elim}
+use mathlib.Core.Bool.{Bool, true, false, not, _&&_}
+use mathlib.Core.List.{List, [], _∷_}
+use Prim.Native.Nat.{ℕ, _<_}
+use native.Mathlib.Omega.{arith}
+use lib.ListN.{length, getD}
+use Rattle.meaning.specs.declared.AtomNo.{AtomNo}
+use Rattle.meaning.specs.declared.RuleNo.{RuleNo}
+use Rattle.meaning.specs.Books.{Rules, Book, count, InBook}
+use Rattle.meaning.specs.Colours.{Pair, heads, allIn, mayOn, blocked, uncoloured, clashing}
+use Rattle.meaning.specs.Claim.{Claim, named, shown, ended}
+use Rattle.meaning.specs.Written.{of}
+use Rattle.meaning.specs.Lowest.{Pick, none, one, lowest, rulesIn}
+use Rattle.meaning.specs.Engine.{Next, ends, puts-on, puts-off, drops, splits, stuck, less, firstOf, unsupported, next}
+use Rattle.meaning.proofs.Tests.{first, other, neither}
+use Rattle.meaning.proofs.Lowest.{lowest-one, lowest-none, one-lowest, none-lowest}
+use Rattle.book.specs.declared.reader.Shape.{Shape}
+use Rattle.book.specs.Format.{bookIn, ReadAs}
+use Rattle.book.specs.Tables.{atomTable, atomsIn}
+use Rattle.book.proofs.AtomSets.{table-in}
+use Rattle.book.proofs.Bodies.{table-says}
+use Rattle.book.proofs.Places.{in-shape}
+use Rattle.book.proofs.Asked.{goes-on-mayOn, is-blocked-blocked}
+use Rattle.walk.specs.Picked.{picked}
+use Rattle.walk.specs.declared.colours.Picked.{Picked}
+use Rattle.walk.specs.declared.colours.Picked.the-variants.{Nothing, Rule}
+use Rattle.writer.specs.Steps.{lent, newOn, newOff, Does}
+use Rattle.writer.specs.declared.step.Step.{Step}
+
+-- ---- an answer
+
+-- a step that is the next one
+pub does-next : {b : Book} {l : List Bool} {x : Step} {m n : Next} → n ≡ m → Does b l x m → Does b l x n
+does-next e d = rw e d
+
+pub picked-one : {x : Picked} {p : Pick} {r : RuleNo} → picked x ≡ p → x ≡ Rule r → one r ≡ p
+picked-one e f = rw f at e
+
+pub picked-none : {x : Picked} {p : Pick} → picked x ≡ p → x ≡ Nothing → none ≡ p
+picked-none e f = rw f at e
+
+-- the lowest rule of two sets that agree on the rules of the book
+lowest-same : (b : Book) (s t : Rules) → ((r : RuleNo) → InBook b r → s r ≡ t r) → lowest b s ≡ lowest b t
+lowest-same b s t f = go (lowest b t) refl
+  where
+    go : (p : Pick) → lowest b t ≡ p → lowest b s ≡ p
+    go none e = none-lowest b s (λ r h. f r h ∙ lowest-none b t e r h)
+    go (one r) e = let (h, m, l) = lowest-one b t r e in one-lowest b s r h (f r h ∙ m) (λ q g. f q (omega arith) ∙ l q g)
+
+module _ (s : List ℕ) (h : Shape) (e : ReadAs s h) (n : h .atoms < 256) (on off headed : List Bool)
+    (f : headed ≡ atomTable (heads (bookIn s) (of on))) where
+  pub new-on-lowest : (lost : List Bool) → lost ≡ atomTable (allIn (bookIn s) (of off))
+      → lowest (bookIn s) (newOn (bookIn s) headed lost on) ≡ lowest (bookIn s) (less (mayOn (bookIn s) (lent on off)) (of on))
+  unfolding newOn
+  new-on-lowest lost g = lowest-same (bookIn s) _ _ (λ r l. ap (λ t. t && not (of on r))
+      (goes-on-mayOn s h e n r (in-shape s h e r l) (lent on off) headed f lost g))
+
+  pub new-off-lowest : lowest (bookIn s) (newOff (bookIn s) headed off) ≡ lowest (bookIn s) (less (blocked (bookIn s) (lent on off)) (of off))
+  unfolding newOff
+  new-off-lowest = lowest-same (bookIn s) _ _ (λ r l. ap (λ t. t && not (of off r))
+      (is-blocked-blocked s h e n r (in-shape s h e r l) (lent on off) headed f))
+
+-- ---- 45
+
+module _ (b : Book) (a : AtomNo) (on off : List Bool) where
+  pub ended-clash : clashing b (lent on off) ≡ true → ended b (named a) (lent on off) ≡ true
+  unfolding ended
+  ended-clash e = first _ e
+
+  -- what the table says of the claimed atom
+  module _ (headed : List Bool) (f : headed ≡ atomTable (heads b (of on))) (small : a .0 < 255) (i : ℕ) (e : i ≡ a .0) where
+    shown-by : (v : Bool) → getD headed i false ≡ v → heads b (of on) a ≡ v
+    shown-by v t = sym (table-in (heads b (of on)) a small) ∙ ap (λ q. atomsIn q a) (sym f) ∙ table-says headed i (a .0) v e t
+
+    pub ended-shown : getD headed i false ≡ true → ended b (named a) (lent on off) ≡ true
+    unfolding ended shown
+    ended-shown t = other (clashing b (lent on off)) (shown-by true t)
+
+    pub not-ended : clashing b (lent on off) ≡ false → getD headed i false ≡ false → ended b (named a) (lent on off) ≡ false
+    unfolding ended shown
+    not-ended c t = neither c (shown-by false t)
+
+-- ---- which of the five it is
+
+module _ (b : Book) (k : Claim) (c : Pair) where
+  pub next-end : ended b k c ≡ true → next b k c ≡ ends
+  unfolding next firstOf
+  next-end e = rw e
+
+  module _ (q : ended b k c ≡ false) where
+    pub next-on : {r : RuleNo} → one r ≡ lowest b (less (mayOn b c) (c .on)) → next b k c ≡ puts-on r
+    unfolding next firstOf
+    next-on e = rw (q, ← e)
+
+    module _ (f : none ≡ lowest b (less (mayOn b c) (c .on))) where
+      pub next-off : {r : RuleNo} → one r ≡ lowest b (less (blocked b c) (c .off)) → next b k c ≡ puts-off r
+      unfolding next firstOf
+      next-off e = rw (q, ← f, ← e)
+
+      module _ (g : none ≡ lowest b (less (blocked b c) (c .off))) where
+        pub next-drop : 0 < length (rulesIn b (unsupported b c)) → next b k c ≡ drops (rulesIn b (unsupported b c))
+        unfolding next firstOf
+        next-drop h = rw (q, ← f, ← g) (listed (rulesIn b (unsupported b c)) h)
+          where
+            listed : (l : List RuleNo) → 0 < length l → firstOf false none none l (lowest b (uncoloured c)) ≡ drops l
+            listed [] h = absurd (omega arith)
+            listed (r ∷ l) h = refl
+
+        module _ (h : 0 ≡ length (rulesIn b (unsupported b c))) where
+          -- no rule is left for 55
+          at-53 : next b k c ≡ firstOf false none none [] (lowest b (uncoloured c))
+          unfolding next firstOf
+          at-53 = rw (q, ← f, ← g) (empty (rulesIn b (unsupported b c)) h)
+            where
+              empty : (l : List RuleNo) → 0 ≡ length l
+                  → firstOf false none none l (lowest b (uncoloured c)) ≡ firstOf false none none [] (lowest b (uncoloured c))
+              empty [] h = refl
+              empty (r ∷ l) h = absurd (omega arith)
+
+          pub next-split : {r : RuleNo} → one r ≡ lowest b (uncoloured c) → next b k c ≡ splits r
+          unfolding firstOf
+          next-split e = at-53 ∙ rw (← e)
+
+          pub next-nothing : none ≡ lowest b (uncoloured c) → next b k c ≡ stuck
+          unfolding firstOf
+          next-nothing e = at-53 ∙ rw (← e)

@@ -1,0 +1,71 @@
+-- The draft handed over (specs/Name, handOver; document 01, "14: engine's paper longer than the buffer or 60,000"): a copy byte by byte, and
+-- what the draft's length says of the paper's. And the paper put together: the steps that stand in the draft, the witness, the trailer.
+use mathlib.Core.Path.{_≡_, refl, sym, _∙_, ap}
+use mathlib.Core.List.{List, [], _++_, append-assoc}
+use Prim.Native.Nat.{ℕ, suc, _+_, _≤_, _<_}
+use native.Mathlib.Nat.{zero-add}
+use native.Mathlib.Numerals.{add-one}
+use native.Mathlib.Omega.{arith}
+use lib.ListN.{length, getD, take, drop, set, length-append}
+use lib.Seq.{paste-suc, length-take-le}
+use Rattle.meaning.specs.Books.{Book}
+use Rattle.meaning.specs.Claim.{Claim}
+use Rattle.meaning.specs.Paper.{numbers, trailer}
+use Rattle.meaning.specs.Engine.{witnessOf}
+use Rattle.walk.specs.Run.{writeAt}
+use Rattle.walk.specs.Page.{setIn}
+use Rattle.writer.specs.Name.{paper, refused, Answered, wholePaper, handOver}
+use Rattle.writer.specs.Draft.{Stands, whole, passed, Writes}
+use Rattle.writer.proofs.Stages.{hand-no-room, hand-long, hand-over}
+
+-- ---- a copy
+
+pub stands-long : {l : List ℕ} {n : ℕ} {out : List ℕ} → Stands l n out → length out ≡ 60000
+stands-long (whole g e h f) = g
+stands-long (passed g e h) = g
+
+pub stands-counted : {l : List ℕ} {n : ℕ} {out : List ℕ} → Stands l n out → 60000 < length l → n ≡ 60001
+stands-counted (whole g e h f) l = absurd (omega arith)
+stands-counted (passed g e h) l = e
+
+-- the buffer with the first i bytes of the draft
+abbrev pub copied : List ℕ → List ℕ → ℕ → List ℕ
+copied draft buffer i = take i draft ++ drop i buffer
+
+pub copy-more : (draft buffer : List ℕ) (i : ℕ) → i < length draft → i < length buffer → {b : List ℕ} → b ≡ copied draft buffer i
+    → set b i (getD draft i 0) ≡ copied draft buffer (i + 1)
+copy-more draft buffer i h g e = rw (e, add-one) (simp zero-add at (paste-suc buffer 0 draft i 0 (omega arith) h))
+
+pub copy-whole : (draft buffer : List ℕ) (i n : ℕ) → n ≤ length draft → i ≡ n → {b : List ℕ} → b ≡ copied draft buffer i
+    → b ≡ writeAt 0 (take n draft) buffer
+unfolding writeAt
+copy-whole draft buffer i n h f e = rw (zero-add, length-take-le n draft h, ← f) e
+
+-- ---- the paper handed over
+
+module _ (tries : ℕ) (buffer : List ℕ) {w : List ℕ} {n : ℕ} {draft : List ℕ} where
+  pub hand-small : Stands w n draft → length buffer < n → record { told = refused 14; buffer = buffer } ≡ handOver tries w buffer
+  hand-small (whole g e h f) l = sym (hand-no-room tries w buffer (omega arith))
+  hand-small (passed g e h) l = sym (hand-long tries w buffer h)
+
+  pub hand-passed : Stands w n draft → 60000 < n → record { told = refused 14; buffer = buffer } ≡ handOver tries w buffer
+  hand-passed (whole g e h f) l = absurd (omega arith)
+  hand-passed (passed g e h) l = sym (hand-long tries w buffer h)
+
+  pub hand-copied : Stands w n draft → n ≤ length buffer → n ≤ 60000 → {b : List ℕ} → b ≡ writeAt 0 (take n draft) buffer
+      → record { told = paper tries n; buffer = b } ≡ handOver tries w buffer
+  unfolding writeAt
+  hand-copied (whole g e h f) l m c = rw (c, f, zero-add, e) (sym (hand-over tries w buffer (omega arith) (omega arith)))
+  hand-copied (passed g e h) l m c = absurd (omega arith)
+
+-- ---- the paper put together
+
+module _ (b : Book) (k : Claim) (row steps : List ℕ) {from m n count : ℕ} {before draft out : List ℕ} where
+  pub paper-whole : Stands steps from before → count ≡ length (witnessOf b (setIn row)) → Writes (numbers (witnessOf b (setIn row))) from before m draft
+      → Writes (trailer k count from) m draft n out → Stands (wholePaper b k steps row) n out
+  unfolding wholePaper
+  paper-whole (whole g e h f) c w v = rw (← c, ← e, ← append-assoc) (v .behind _ (w .behind steps (whole g e h f)))
+  paper-whole (passed g e h) c w v = passed (stands-long s) (stands-counted s (simp length-append (omega arith))) (simp length-append (omega arith))
+    where
+      s : Stands ((steps ++ numbers (witnessOf b (setIn row))) ++ trailer k count from) n out
+      s = v .behind _ (w .behind steps (passed g e h))

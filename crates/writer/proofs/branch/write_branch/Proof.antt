@@ -1,0 +1,100 @@
+-- One branch: what is written, with the branch from the colours as they stand behind it, is the whole branch; each step that does not end
+-- it fills a place that had nothing, of which there are finitely many.
+use mathlib.Core.Path.{_≡_, refl, sym, _∙_}
+use Prim.Native.Nat.{_≤_, _<_}
+use native.Mathlib.Omega.{arith}
+use lib.ListN.{length}
+use borrow.Author.Needs.{needs}
+use Rattle.meaning.specs.Books.{count}
+use Rattle.meaning.specs.Claim.{named}
+use Rattle.book.specs.Format.{bookIn}
+use Rattle.book.proofs.Places.{shape-count}
+use Rattle.writer.specs.Steps.{lent}
+use Rattle.writer.proofs.Branches.{missing}
+use Rattle.writer.proofs.Ahead.{Ahead, ahead-start, on-below, ahead-on, on-fewer, off-below, ahead-off, off-fewer}
+use Rattle.writer.proofs.Ahead.{ahead-drop, drop-fewer, ahead-stops}
+use Rattle.writer.proofs.branch.write_branch.Statement.{statement}
+use Rattle.writer.proofs.branch.write_branch.Tie as tie
+
+abbrev Inv-loop : tie.InvT-loop
+Inv-loop book shape atom draft₀ at on₀ off₀ marks dropped₀ n₀ draft on off dropped n =
+    Ahead (bookIn book) (named atom) (lent on₀ off₀) n₀ draft₀ on off n draft
+
+abbrev μ-loop : tie.MeasureT-loop
+μ-loop book shape atom draft₀ at on₀ off₀ marks dropped₀ n₀ draft on off dropped n = missing (bookIn book) (lent on off)
+
+-- a good book has at most 255 rules
+few : (s : tie.Start Inv-loop μ-loop) → count (bookIn (s .args .book .now)) ≤ 255
+few s =
+    let n : s .args .shape .rules < 256 = search needs in
+    omega (arith, shape-count _ _ (s .pre .0))
+
+loop-holds : tie.Need-loop-holds Inv-loop μ-loop
+loop-holds c = ahead-start _ _ _ _ _ _ (search needs) (search needs)
+
+array-write-on : tie.Need-array-write-on Inv-loop μ-loop
+array-write-on c =
+    let k = c .before .before .before .before .before .before .before .before in
+    let d = rw (c .before .before .r .given .1) at (c .before .before .before .before .next-step .ensures) in
+    let h = on-below (few (c .before .before .before .before .before .before .before .before .before .before .before .before .before)) (k .loop .inv) d (c .wide .ensures .0) in
+    search needs
+
+loop-less : tie.Need-loop-less Inv-loop μ-loop
+loop-less c =
+    let k = c .before .before .before .before .before .before .before .before .before .before in
+    let d = rw (c .before .before .before .before .r .given .1) at (c .before .before .before .before .before .before .next-step .ensures) in
+    on-fewer (few (c .before .before .before .before .before .before .before .before .before .before .before .before .before .before .before)) (k .loop .inv) d (c .before .before .wide .ensures .0)
+
+loop-again : tie.Need-loop-again Inv-loop μ-loop
+loop-again c =
+    let k = c .before .before .before .before .before .before .before .before .before .before in
+    let d = rw (c .before .before .before .before .r .given .1) at (c .before .before .before .before .before .before .next-step .ensures) in
+    ahead-on (few (c .before .before .before .before .before .before .before .before .before .before .before .before .before .before .before)) (k .loop .inv) d (c .before .before .wide .ensures .0) (c .write-step .ensures)
+
+array-write-off : tie.Need-array-write-off Inv-loop μ-loop
+array-write-off c =
+    let k = c .before .before .before .before .before .before .before .before in
+    let d = rw (c .before .before .r2 .given .1) at (c .before .before .before .before .next-step .ensures) in
+    let h = off-below (few (c .before .before .before .before .before .before .before .before .before .before .before .before .before)) (k .loop .inv) d (c .wide2 .ensures .0) in
+    search needs
+
+loop-less-2 : tie.Need-loop-less-2 Inv-loop μ-loop
+loop-less-2 c =
+    let k = c .before .before .before .before .before .before .before .before .before .before in
+    let d = rw (c .before .before .before .before .r2 .given .1) at (c .before .before .before .before .before .before .next-step .ensures) in
+    off-fewer (few (c .before .before .before .before .before .before .before .before .before .before .before .before .before .before .before)) (k .loop .inv) d (c .before .before .wide2 .ensures .0)
+
+loop-again-2 : tie.Need-loop-again-2 Inv-loop μ-loop
+loop-again-2 c =
+    let k = c .before .before .before .before .before .before .before .before .before .before in
+    let d = rw (c .before .before .before .before .r2 .given .1) at (c .before .before .before .before .before .before .next-step .ensures) in
+    ahead-off (few (c .before .before .before .before .before .before .before .before .before .before .before .before .before .before .before)) (k .loop .inv) d (c .before .before .wide2 .ensures .0) (c .write-step2 .ensures)
+
+drop-rules-requires : tie.Need-drop-rules-requires Inv-loop μ-loop
+drop-rules-requires c κs = c .before .before .before .before .before .before .before .before .before .before .before .before .before .before .loop .inv .off-long
+
+loop-less-3 : tie.Need-loop-less-3 Inv-loop μ-loop
+loop-less-3 c =
+    let k = c .before .before .before .before .before .before .before .before .before .before .before .before .before .before .before in
+    let d = rw (c .before .before .before .before .before .before .before .before .before .m .given .1) at (c .before .before .before .before .before .before .before .before .before .before .before .next-step .ensures) in
+    let (h, e, w) = c .drop-rules .ensures (bookIn (k .before .before .before .before .before .args .book .now)) (shape-count _ _ (k .before .before .before .before .before .pre .0)) in
+    drop-fewer (few (c .before .before .before .before .before .before .before .before .before .before .before .before .before .before .before .before .before .before .before .before)) (k .loop .inv) _ d e
+
+loop-again-3 : tie.Need-loop-again-3 Inv-loop μ-loop
+loop-again-3 c =
+    let k = c .before .before .before .before .before .before .before .before .before .before .before .before .before .before .before in
+    let d = rw (c .before .before .before .before .before .before .before .before .before .m .given .1) at (c .before .before .before .before .before .before .before .before .before .before .before .next-step .ensures) in
+    let (h, e, w) = c .drop-rules .ensures (bookIn (k .before .before .before .before .before .args .book .now)) (shape-count _ _ (k .before .before .before .before .before .pre .0)) in
+    ahead-drop (few (c .before .before .before .before .before .before .before .before .before .before .before .before .before .before .before .before .before .before .before .before)) (k .loop .inv) _ d e h (c .before .before .before .before .before .before .write .ensures) (c .before .before .before .before .write2 .ensures) w
+
+returns : tie.Need-returns Inv-loop μ-loop
+returns c =
+    let d = rw (c .before .before .before .tip .given .1) at (c .before .before .before .before .before .next-step .ensures) in
+    ahead-stops (few (c .before .before .before .before .before .before .before .before .before .before .before .before .before .before)) (c .before .before .before .before .before .before .before .before .before .loop .inv) d (c .write-tip .ensures)
+
+pub write-branch-spec : {M : Type 1} → statement M
+write-branch-spec =
+    tie.close (tie.spec Inv-loop μ-loop loop-holds (λ c κs. search needs) (λ c. search needs) (λ c κs. search needs) array-write-on
+    (λ c κs. search needs) loop-less loop-again (λ c. search needs) (λ c κs. search needs) array-write-off (λ c κs. search needs)
+    loop-less-2 loop-again-2 (λ c. search needs) (λ c κs. search needs) (λ c κs. search needs) drop-rules-requires loop-less-3 loop-again-3
+    (λ c. search needs) (λ c κs. search needs) returns)

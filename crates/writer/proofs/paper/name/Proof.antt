@@ -1,0 +1,25 @@
+-- name keeps its promise: the book's refusals, then 13, then what is told in a good book.
+use native.Mathlib.Omega.{arith}
+use borrow.Author.Needs.{needs}
+use Rattle.writer.proofs.Answering.{name-bad, read-as, name-good, name-no-atom}
+use Rattle.writer.proofs.paper.name.Statement.{statement}
+use Rattle.writer.proofs.paper.name.Tie as tie
+
+returns : tie.Need-returns
+returns c = name-no-atom _ _ _ _ (c .before .before .before .before .before .before .read-book .ensures) (c .before .before .before .before .shape .given .1) (omega arith)
+
+name-in-requires : tie.Need-name-in-requires
+name-in-requires c κs =
+    let s = c .before .before .before .before .before .before .before .before .before .before in
+    (read-as (s .args .atom) (s .args .limit) (s .args .paper .now) _ (c .before .before .before .before .before .before .before .read-book .ensures) (c .before .before .before .before .before .shape .given .1), omega arith)
+
+returns-2 : tie.Need-returns-2
+returns-2 c = name-bad _ _ _ _ (c .before .before .before .read-book .ensures) (c .before .why .given .1)
+
+returns-3 : tie.Need-returns-3
+returns-3 c = name-good _ _ _ _ (c .before .before .before .before .before .before .before .before .before .before .read-book .ensures) (c .before .before .before .before .before .before .before .before .shape .given .1) (c .before .before .name-in .ensures)
+
+pub name-spec : {M : Type 1} → statement M
+name-spec =
+    tie.close (tie.spec (λ c κs. search needs) (λ c. search needs) (λ c. search needs) returns name-in-requires returns-2
+    (λ c. search needs) returns-3)

@@ -1,0 +1,84 @@
+// One branch of the engine's own paper: steps up to its 45 or its split.
+ghost use Prim.Native.Nat.{_<_};
+ghost use Rattle.meaning.specs.Claim.{named};
+ghost use Rattle.meaning.specs.Written.{pair};
+ghost use Rattle.book.specs.Format.{bookIn, ReadAs};
+ghost use Rattle.writer.specs.Branches.{branch};
+ghost use Rattle.writer.specs.Draft.{Writes, Wrote, tipBytes};
+use crate::draft::write;
+use crate::draft::write_step;
+use crate::list::drop_rules;
+use crate::step::Step;
+use crate::step::Tip;
+use crate::step::next_step;
+use book::Shape;
+use book::wide;
+use meaning::AtomNo;
+use meaning::Colouring;
+use meaning::STEP_END;
+use meaning::STEP_OFF;
+use meaning::STEP_ON;
+use meaning::STEP_SPLIT;
+use meaning::STEP_UNFOUNDED;
+
+// What a branch ends by, with the colouring there and the draft's length behind it.
+pub struct Written {
+    pub colours: Colouring,
+    pub length: usize,
+    pub tip: Tip,
+}
+
+// The last step of a branch.
+fn write_tip(draft: &mut [u8; 60000], at: usize, tip: Tip) -> usize
+    ensures { λ n. ⌜ Writes (tipBytes tip) at (now (draft .entry)) n (now (draft .exit)) ⌝ }
+{
+    match tip {
+        Tip::Ended => write(draft, at, STEP_END),
+        Tip::Parted(r) => write_step(draft, at, STEP_SPLIT, r),
+        Tip::Unsettled => at,
+    }
+}
+
+// Writes the branch that starts with the colouring c, step by step.
+pub fn write_branch(
+    book: &[u8],
+    shape: Shape,
+    atom: AtomNo,
+    c: Colouring,
+    draft: &mut [u8; 60000],
+    at: usize,
+) -> Written
+    requires { ⌜ ReadAs (now book) shape × (atom .0 < shape .atoms) ⌝ }
+    ensures { λ w. ⌜ Wrote (branch (bookIn (now (book .entry))) (named atom) (pair c))
+        at (now (draft .entry)) w (now (draft .exit)) ⌝ }
+{
+    let mut on = c.on;
+    let mut off = c.off;
+    let marks = c.marks;
+    let mut dropped = [false; 255];
+    let mut n = at;
+    loop {
+        match next_step(book, shape, atom, &on, &off, &mut dropped) {
+            Step::On(r) => {
+                on[wide(r.0)] = true;
+                n = write_step(draft, n, STEP_ON, r);
+            }
+            Step::Off(r) => {
+                off[wide(r.0)] = true;
+                n = write_step(draft, n, STEP_OFF, r);
+            }
+            Step::Unfounded(m) => {
+                let coded = write(draft, n, STEP_UNFOUNDED);
+                let counted = write(draft, coded, m);
+                n = drop_rules(shape.rules, &dropped, &mut off, draft, counted);
+            }
+            Step::Stops(tip) => {
+                return Written {
+                    colours: Colouring { on, off, marks },
+                    length: write_tip(draft, n, tip),
+                    tip,
+                };
+            }
+        }
+    }
+}

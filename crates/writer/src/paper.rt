@@ -1,0 +1,78 @@
+// Names an atom: the book first, then the walk to the first reading, then the paper.
+ghost use mathlib.Core.Path.{_≡_};
+ghost use Prim.Native.Nat.{_<_};
+ghost use Rattle.meaning.specs.Claim.{named};
+ghost use Rattle.book.specs.Format.{bookIn, ReadAs};
+ghost use Rattle.writer.specs.Name.{told, Answered, nameIn, nameOf};
+use crate::answer::Named;
+use crate::hand_over::finish;
+use crate::hand_over::hand_over;
+use crate::split::Course;
+use crate::split::Drafted;
+use crate::split::write_branches;
+use book::Read;
+use book::Shape;
+use book::read_book;
+use meaning::AtomNo;
+use meaning::Colouring;
+use walk::Halt;
+use walk::first;
+
+// A naming in a good book of which the atom is one: the walk to the first reading, the paper's
+// walk, and the witness of that reading, in a draft that is handed over when it is whole.
+fn name_in(book: &[u8], shape: Shape, atom: AtomNo, limit: u32, paper: &mut [u8]) -> Named
+    requires { ⌜ ReadAs (now book) shape × (atom .0 < shape .atoms) ⌝ }
+    ensures { λ r. ⌜ _≡_ {A = Answered} (record { told = told r; buffer = now (paper .exit) })
+        (nameIn (bookIn (now (book .entry))) (named atom) limit (now (paper .entry))) ⌝ }
+{
+    let mut row = [0u8; 255];
+    let reading = first(book, shape, limit, &mut row);
+    let halt = reading.halt;
+    match halt {
+        Halt::Going => return Named::Fewer(reading.tries),
+        Halt::Limit => return Named::Stopped(limit),
+        Halt::NotLeast => return Named::NotLeast,
+        Halt::Full => {}
+    }
+    let mut draft = [0u8; 60000];
+    let start = Drafted {
+        tries: 0,
+        length: 0,
+        course: Course::Writing,
+    };
+    let steps = write_branches(
+        book,
+        shape,
+        atom,
+        Colouring::empty(),
+        limit,
+        start,
+        &mut draft,
+    );
+    let course = steps.course;
+    match course {
+        Course::Limited => Named::Stopped(limit),
+        Course::Refuted => Named::NotCertain,
+        Course::Writing => {
+            let length = finish(book, shape, atom, &row, &mut draft, steps.length);
+            hand_over(steps.tries, &draft, length, paper)
+        }
+    }
+}
+
+// Writes the engine's own paper that the atom is certain to the front of the buffer, or says why
+// not.
+pub fn name(book: &[u8], atom: AtomNo, limit: u32, paper: &mut [u8]) -> Named
+    ensures { λ r. ⌜ _≡_ {A = Answered} (record { told = told r; buffer = now (paper .exit) })
+        (nameOf (now (book .entry)) atom limit (now (paper .entry))) ⌝ }
+{
+    match read_book(book) {
+        Read::Refused(why) => Named::Book(why),
+        Read::Good(shape) => {
+            if shape.atoms <= atom.0 {
+                return Named::NoAtom;
+            }
+            name_in(book, shape, atom, limit, paper)
+        }
+    }
+}

@@ -1,0 +1,85 @@
+// The paper's walk: a branch and, behind its split, the branches with the rule on and those with
+// the rule off. Each branch is one try.
+ghost use Prim.Native.Nat.{_<_, _≤_};
+ghost use Rattle.meaning.specs.Claim.{named};
+ghost use Rattle.meaning.specs.Written.{pair};
+ghost use Rattle.book.specs.Format.{bookIn, ReadAs};
+ghost use Rattle.writer.specs.Branches.{branches};
+ghost use Rattle.writer.specs.Scan.{Progress, scan};
+ghost use Rattle.writer.specs.Draft.{Stage};
+use crate::branch::write_branch;
+use crate::step::Tip;
+use book::Shape;
+use meaning::AtomNo;
+use meaning::Colouring;
+
+pub enum Course {
+    Writing,
+    // One more branch would pass the limit.
+    Limited,
+    // A branch was left unsettled.
+    Refuted,
+}
+
+// The tries and the draft's length so far, and whether the walk goes on.
+pub struct Drafted {
+    pub tries: u32,
+    pub length: usize,
+    pub course: Course,
+}
+
+// Writes the branch that starts with the colouring c, then those with its split's rule on, then
+// those with it off, each from the colouring at the split.
+pub fn write_branches(
+    book: &[u8],
+    shape: Shape,
+    atom: AtomNo,
+    c: Colouring,
+    limit: u32,
+    p: Drafted,
+    draft: &mut [u8; 60000],
+) -> Drafted
+    requires { ⌜ ReadAs (now book) shape × (atom .0 < shape .atoms) ⌝ }
+    ensures { λ q. ⌜ ((s : Progress) → Stage p (now (draft .entry)) s → s .tries ≤ limit →
+        Stage q (now (draft .exit))
+        (scan limit s (branches (bookIn (now (book .entry))) (named atom) (pair c)))) ⌝ }
+{
+    let course = p.course;
+    let Course::Writing = course else {
+        return p;
+    };
+    if limit <= p.tries {
+        return Drafted {
+            tries: p.tries,
+            length: p.length,
+            course: Course::Limited,
+        };
+    }
+    let here = write_branch(book, shape, atom, c, draft, p.length);
+    let tries = p.tries + 1;
+    let length = here.length;
+    let tip = here.tip;
+    match tip {
+        Tip::Ended => Drafted {
+            tries,
+            length,
+            course: Course::Writing,
+        },
+        Tip::Unsettled => Drafted {
+            tries,
+            length,
+            course: Course::Refuted,
+        },
+        Tip::Parted(r) => {
+            let d = here.colours;
+            let on = d.with_on(r);
+            let parted = Drafted {
+                tries,
+                length,
+                course: Course::Writing,
+            };
+            let first = write_branches(book, shape, atom, on, limit, parted, draft);
+            write_branches(book, shape, atom, d.with_off(r), limit, first, draft)
+        }
+    }
+}

@@ -1,0 +1,77 @@
+// The next step of the engine's own paper, on the colouring as it stands. Nothing is changed.
+ghost use Prim.Native.Nat.{_<_};
+ghost use Rattle.meaning.specs.Claim.{named};
+ghost use Rattle.meaning.specs.Engine.{next};
+ghost use Rattle.book.specs.Format.{bookIn, ReadAs};
+ghost use Rattle.writer.specs.Steps.{lent, Does};
+use crate::list::list_unsupported;
+use crate::search::lowest_off;
+use crate::search::lowest_on;
+use book::Shape;
+use book::heads_of;
+use book::lost_in;
+use book::wide;
+use meaning::AtomNo;
+use meaning::RuleNo;
+use walk::Picked;
+use walk::clashes;
+use walk::lowest_uncoloured;
+
+// A step that the branch goes on after, or what it stops by.
+pub enum Step {
+    // 41 and 42, with their rule.
+    On(RuleNo),
+    Off(RuleNo),
+    // 55, with the length of its list. The rules are those of the array beside it.
+    Unfounded(u8),
+    Stops(Tip),
+}
+
+pub enum Tip {
+    // 45.
+    Ended,
+    // 53, with its rule.
+    Parted(RuleNo),
+    // No step is left, every rule has a colour, and 45 isn't allowed.
+    Unsettled,
+}
+
+// 45 as soon as allowed; else the first of 41, 42, 55 and 53 that there is a rule for. The rules of
+// 55 are written over whatever the array held.
+pub fn next_step<'a>(
+    book: &[u8],
+    shape: Shape,
+    atom: AtomNo,
+    on: &'a [bool; 255],
+    off: &'a [bool; 255],
+    dropped: &mut [bool; 255],
+) -> Step
+    requires { ⌜ ReadAs (now book) shape × (atom .0 < shape .atoms) ⌝ }
+    ensures { λ x. ⌜ Does (bookIn (now (book .entry))) (now (dropped .exit)) x
+        (next (bookIn (now (book .entry))) (named atom) (lent (now (on .entry)) (now (off .entry)))) ⌝ }
+{
+    if clashes(shape.rules, on, off) {
+        return Step::Stops(Tip::Ended);
+    }
+    let mut headed = [false; 255];
+    heads_of(book, shape, on, &mut headed);
+    if headed[wide(atom.0)] {
+        return Step::Stops(Tip::Ended);
+    }
+    let mut lost = [false; 255];
+    lost_in(book, shape, off, &mut lost);
+    if let Picked::Rule(r) = lowest_on(book, shape, on, &headed, &lost) {
+        return Step::On(r);
+    }
+    if let Picked::Rule(r) = lowest_off(book, shape, off, &headed) {
+        return Step::Off(r);
+    }
+    let m = list_unsupported(book, shape, off, dropped);
+    if m != 0 {
+        return Step::Unfounded(m);
+    }
+    if let Picked::Rule(r) = lowest_uncoloured(shape.rules, on, off) {
+        return Step::Stops(Tip::Parted(r));
+    }
+    Step::Stops(Tip::Unsettled)
+}
