@@ -4,6 +4,7 @@ use book::Read;
 use book::read_book;
 use listing::print_set;
 use talk::Number;
+use talk::first_bytes;
 use talk::first_word;
 use talk::other_words;
 use talk::print;
@@ -19,10 +20,7 @@ fn print_answer(book: &[u8], answer: &[u8]) {
     let Read::Good(shape) = read_book(book) else {
         return;
     };
-    let atoms = shape.atoms as usize;
-    if atoms <= answer.len() {
-        print_set(&answer[..atoms]);
-    }
+    print_set(first_bytes(answer, shape.atoms as usize));
 }
 
 // Asks the engine, and writes what it answers.

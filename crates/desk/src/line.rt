@@ -1,6 +1,7 @@
 // One line: a command and its words, which are parted by one space.
 use crate::find::answer_find;
 use crate::paper_check::answer_check;
+use crate::paper_name::answer_name;
 use crate::readings::answer_readings;
 use check::same;
 use talk::first_word;
@@ -13,6 +14,9 @@ fn answer_command(line: &[u8], book: &mut [u8], room: &mut [u8]) -> bool {
     let words = other_words(line);
     if same(command, b"find") {
         return answer_find(words, book, room);
+    }
+    if same(command, b"name") {
+        return answer_name(words, book, room);
     }
     if same(command, b"check") {
         return answer_check(words, book, room);

@@ -8,6 +8,7 @@ mod find;
 mod input;
 mod line;
 mod paper_check;
+mod paper_name;
 mod readings;
 
 fn main() {

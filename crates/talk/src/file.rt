@@ -10,7 +10,7 @@ pub struct Taken {
 }
 
 // Writes `bad file: NAME: WHY` and the line end.
-fn complain(path: &[u8], why: &[u8]) {
+pub fn complain(path: &[u8], why: &[u8]) {
     print(b"bad file: ");
     print_name(path);
     print(b": ");
