@@ -23,6 +23,7 @@ mod selftest;
 mod selftest_papers;
 mod selftest_words;
 mod shapes;
+mod steps;
 mod walk;
 mod words;
 mod worked;
@@ -38,6 +39,8 @@ const USAGE: &str = "usage:
   second selftest                          the engine against the definition
   second book WORDSFILE BOOKFILE NAMESFILE rules in words to a book (`-`: standard input)
   second words BOOKFILE [NAMESFILE]        a book to rules in words
+  second paper STEPSFILE PAPERFILE         steps in words to a paper (`-`: standard input)
+  second steps PAPERFILE                   a paper to steps in words
   second random SEED                       a random book to standard output";
 
 fn main() {
@@ -51,6 +54,8 @@ fn main() {
         ["book", text, book, names] => run_book(text, book, names),
         ["words", book] => run_words(book, None),
         ["words", book, names] => run_words(book, Some(names)),
+        ["paper", text, paper] => run_paper(text, paper),
+        ["steps", paper] => run_steps(paper),
         ["random", seed] => run_random(seed),
         _ => Err(USAGE.to_string()),
     };
@@ -105,6 +110,16 @@ fn run_words(book: &str, names: Option<&str>) -> Result<(), String> {
         None => None,
     };
     print!("{}", words::write_words(&book, names.as_deref())?);
+    Ok(())
+}
+
+/// Nothing is written where the words have an error.
+fn run_paper(text: &str, paper: &str) -> Result<(), String> {
+    write_file(paper, &steps::read_steps(&read_text(text)?)?)
+}
+
+fn run_steps(paper: &str) -> Result<(), String> {
+    print!("{}", steps::write_steps(&read_file(paper)?)?);
     Ok(())
 }
 

@@ -7,7 +7,7 @@ use crate::meaning::{answer_sets, comes_before};
 use crate::numbers::AtomSet;
 use crate::random::Random;
 use crate::selftest_papers::{papers, PaperCounts};
-use crate::selftest_words::words_back;
+use crate::selftest_words::{steps_back, words_back};
 use crate::shapes::{random_book, SHAPES};
 use crate::walk::{all_readings, find, Finding};
 use crate::worked::assert_worked;
@@ -41,6 +41,7 @@ pub fn run() -> Result<(), String> {
     paper_counts.report();
     println!("damaged bytes: {} books and papers read to an end", damaged(&mut random));
     println!("words: {} books to words and back", words_back(&mut random, drawn_book));
+    println!("words: {} papers to words and back", steps_back(&mut random, drawn_book));
     println!("selftest ok");
     Ok(())
 }

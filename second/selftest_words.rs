@@ -1,9 +1,12 @@
-// The part of `selftest` about rules in words: books written in words read back as the same rules,
-// with numbers and with names, and lines with an error are refused by their number.
+// The part of `selftest` about rules and steps in words: books written in words read back as the
+// same rules, with numbers and with names, papers as the same bytes, and lines with an error are
+// refused by their number.
 
 use crate::book::{Book, Rule};
 use crate::numbers::{Atom, AtomSet};
+use crate::paper::{name, Naming, LONGEST_PAPER};
 use crate::random::Random;
+use crate::steps::{read_steps, write_steps};
 use crate::words::{read_words, write_words};
 
 /// Gives the number of books that went to words and back.
@@ -70,4 +73,52 @@ fn assert_refused() {
     let same = read_words("a if b and not c and b\nc").expect("a good text");
     assert_eq!(same.names, ["a", "b", "c"]);
     assert_eq!(same.book.rules[0], Rule::new(0, &[1], &[2]));
+}
+
+/// Gives the number of papers that went to words and back.
+pub fn steps_back(random: &mut Random, drawn: fn(&mut Random, usize) -> Book) -> usize {
+    let mut count = 0;
+    for number in 0..1_000 {
+        let book = drawn(random, number);
+        for atom in 0..book.atoms {
+            let (naming, _) = name(&book, atom as u8, 1_000, LONGEST_PAPER);
+            if let Naming::Paper { bytes, .. } = naming {
+                let text = write_steps(&bytes).expect("its own paper");
+                assert_eq!(read_steps(&text).as_ref(), Ok(&bytes));
+                count += 1;
+            }
+        }
+    }
+    assert_no_steps();
+    count
+}
+
+fn assert_no_steps() {
+    let by_hand = "# one step\n  on 0\nend\n\nwitness 0\nclaim 0";
+    assert_eq!(read_steps(by_hand), Ok(b"\x41\0\x45\0\0\x01\x03\0PF".to_vec()));
+    for (text, line) in [
+        ("on", 1),
+        ("on 0 1", 1),
+        ("off 256", 1),
+        ("# a note\n\nsplit 00", 3),
+        ("end 0", 1),
+        ("unfounded", 1),
+        ("End", 1),
+        ("claim 0", 1),
+        ("witness\nend", 2),
+        ("witness\nclaim 0\nclaim 0", 3),
+    ] {
+        let trouble = read_steps(text).expect_err("meant to be refused");
+        assert!(trouble.starts_with(&format!("line {}: ", line)), "{}", trouble);
+    }
+    for text in ["end", "end\nwitness"] {
+        assert!(read_steps(text).is_err());
+    }
+    let no_mark: &[u8] = b"\0\0\0\0PE";
+    let no_witness = b"\0\x01\0\0PF";
+    let cut_short = b"\x41\0\0\x01\0PF";
+    let empty_list = b"\x55\0\0\0\x02\0PF";
+    for bytes in [b"", no_mark, no_witness, cut_short, empty_list] {
+        assert!(write_steps(bytes).is_err());
+    }
 }
