@@ -9,7 +9,6 @@
 --   readOf s         the whole book
 --   toldOf, bookIn   what is told of it; the book as its meaning is defined
 use mathlib.Core.Path.{_≡_}
-use mathlib.Core.Bool.{Bool, true, false}
 use mathlib.Core.List.{List, [], _∷_, map}
 use Prim.Native.Nat.{ℕ, zero, suc, _+_, _*_, _-_}
 use lib.ListN.{length, getD, take, drop}

@@ -2,7 +2,6 @@
 use Prim.Native.Nat.{ℕ}
 use Rattle.book.specs.declared.refusal.Refusal.{Refusal}
 use Rattle.book.specs.declared.refusal.Refusal.the-variants.{Length, Mark, Trailer, Entry, Record, Atom, Order}
-use Rattle.book.specs.declared.reader.Shape.{Shape}
 use Rattle.book.specs.declared.reader.Read.{Read}
 use Rattle.book.specs.declared.reader.Read.the-variants.{Good, Refused}
 

@@ -19,9 +19,6 @@ use Rattle.meaning.proofs.Answers.{total-answer, total-stands, closing-keeps-an
 use Rattle.meaning.proofs.Closing.{close-is}
 
 module _ (b : Book) (few : count b ≤ 255) (c : Colouring) (sized : Sized c) where
-  pub close-above : Within b (pair c) (pair (close b c))
-  close-above = close-is b few c sized .good .above
-
   pub close-closed : Closed b (pair (close b c))
   close-closed = close-is b few c sized .good .closed
 

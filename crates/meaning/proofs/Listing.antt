@@ -5,9 +5,9 @@ use mathlib.Core.Path.{_≡_, refl, sym, _∙_, ap, fun-ext}
 use mathlib.Core.Logic.{_⊎_, inl, inr, ⊎-elim, ⊎-map}
 use mathlib.Core.Bool.{true, not, _||_, false≢true}
 use mathlib.Core.List.{List, [], _∷_, _++_}
-use Prim.Native.Nat.{ℕ, zero, suc, _+_, _≤_, _<_}
+use Prim.Native.Nat.{ℕ, zero, suc, _≤_, _<_}
 use native.Mathlib.Omega.{arith}
-use lib.ListN.{length, length-append}
+use lib.ListN.{length}
 use borrow.Author.Tests.{not-true, not-false}
 use Rattle.meaning.specs.declared.AtomNo.{AtomNo}
 use Rattle.meaning.specs.declared.RuleNo.{RuleNo}
@@ -130,25 +130,11 @@ module _ (b : Book) (s : Rules) where
       go none e f = (l, lowest-none b _ e)
       go (one r) e f = let (h, m, o) = lowest-one b _ r e in f r (listed-more w r l h m) (omega (arith, fewer-left w r h m))
 
-  listing-length : (n : ℕ) (w : List RuleNo) → length (listing b s n w) ≤ length w + n
-  unfolding listing onPick
-  listing-length zero w = omega arith
-  listing-length (suc n) w = go (lowest b (listable b s w)) (λ r. listing-length n (w ++ (r ∷ [])))
-    where
-      go : (p : Pick) → ((r : RuleNo) → length (listing b s n (w ++ (r ∷ []))) ≤ length (w ++ (r ∷ [])) + n)
-          → length (onPick p w (λ r. listing b s n (w ++ (r ∷ [])))) ≤ length w + suc n
-      go none f = omega arith
-      go (one r) f = omega (arith, f r, length-append w (r ∷ []))
-
 -- ---- the witness of an answer set
 
 module _ (b : Book) (x : Atoms) where
   abbrev list : List RuleNo
   list = witnessOf b x
-
-  pub witness-length : length (witnessOf b x) ≤ count b
-  unfolding witnessOf
-  witness-length = omega (arith, listing-length b (generating b x) (count b) [])
 
   list-ended : Listed b (generating b x) list × Ended b (generating b x) list
   unfolding witnessOf

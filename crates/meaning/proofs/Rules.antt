@@ -2,19 +2,19 @@
 -- conditions only grow with the pair (blueprint, C1).
 use mathlib.Core.Path.{_≡_, refl, sym}
 use mathlib.Core.Logic.{_⊎_, ⊎-elim, ⊎-map}
-use mathlib.Core.Bool.{true, false, not, false≢true}
+use mathlib.Core.Bool.{true, false, false≢true}
 use mathlib.Core.List.{List, [], _∷_, List·Memᴰ, List·Memᴰ·head, List·Memᴰ·tail}
 use Prim.Native.Nat.{ℕ, zero, suc, _≤_, _<_, suc-le-suc}
 use native.Mathlib.Nat.{le-of-suc-le-suc}
 use native.Mathlib.Omega.{arith}
 use lib.ListN.{length, getD}
-use borrow.Author.Tests.{eqb-true, eq-eqb, not-true, not-false}
+use borrow.Author.Tests.{eqb-true, eq-eqb, not-false}
 use Rattle.meaning.specs.declared.AtomNo.{AtomNo}
 use Rattle.meaning.specs.declared.RuleNo.{RuleNo}
 use Rattle.meaning.specs.Sets.{_∈_, _∉_, _⊆_, every, some}
 use Rattle.meaning.specs.Books.{Rules, sameAtom, sameRule, ruleNo, among, Rule, Book, count, rule, InBook, everyRule, someRule}
 use Rattle.meaning.specs.Colours.{Pair, Side, onSide, offSide, side, put, heads, allIn, mayOn, blocked, starved, Under, Within}
-use Rattle.meaning.specs.Colours.{clashing, Consistent, uncoloured, Total}
+use Rattle.meaning.specs.Colours.{clashing, Consistent, uncoloured}
 use Rattle.meaning.proofs.Tests.{both, left, right, either, first, other, implied, implies, clash, refuted, lt-or-le}
 use Rattle.meaning.proofs.Sets.{every-mono, some-mono, below-at, below-all, below-some, below-one}
 
@@ -212,6 +212,3 @@ module _ (b : Book) where
   pub uncoloured-no : (c : Pair) (r : RuleNo) → r ∉ uncoloured c → (r ∈ c .on) ⊎ (r ∈ c .off)
   unfolding uncoloured
   uncoloured-no c r e = either (c .on r) _ (not-false _ e)
-
-  pub coloured-total : (c : Pair) → everyRule b (λ r. not (uncoloured c r)) ≡ true → Total b c
-  coloured-total c e r h = uncoloured-no c r (not-true _ (every-rule-at _ e r h))

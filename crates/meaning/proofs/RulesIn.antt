@@ -1,8 +1,8 @@
 -- What specs/Lowest lists: the rules of the book that are in a set and no others, in their order, each once; and the list is shorter
 -- the fewer they are. By induction over the numbers that are tried.
-use mathlib.Core.Path.{_≡_, refl, ap}
+use mathlib.Core.Path.{_≡_, refl}
 use mathlib.Core.Logic.{_⊎_, inr, ⊎-elim, ⊎-map}
-use mathlib.Core.Bool.{Bool, true, false, not, false≢true}
+use mathlib.Core.Bool.{Bool, true, false, false≢true}
 use mathlib.Core.List.{List, [], _∷_}
 use Prim.Native.Nat.{ℕ, zero, suc, _+_, _≤_, _<_}
 use native.Mathlib.Nat.{eq-or-lt-of-le}
@@ -13,7 +13,7 @@ use Rattle.meaning.specs.declared.RuleNo.{RuleNo}
 use Rattle.meaning.specs.Sets.{_∈_, _∉_, some, ascending}
 use Rattle.meaning.specs.Books.{Rules, ruleNo, among, Book, count, InBook}
 use Rattle.meaning.specs.Colours.{Under}
-use Rattle.meaning.specs.Paper.{numbers, once}
+use Rattle.meaning.specs.Paper.{numbers}
 use Rattle.meaning.specs.Lowest.{listedIf, rulesFrom, rulesIn}
 use Rattle.meaning.proofs.Tests.{both, refuted}
 use Rattle.meaning.proofs.Rules.{among-here, among-there, among-front}
@@ -61,23 +61,6 @@ unfolding rulesFrom ascending
 rules-from-ascending i zero s = refl
 rules-from-ascending i (suc n) s =
     listed-ascending (s (ruleNo i)) (ruleNo i) _ (λ q m. rules-from (suc i) n s q m .0) (rules-from-ascending (suc i) n s)
-
--- a list that ascends from above what came before it has no rule twice
-rules-from-once : (i n : ℕ) (s : Rules) (before : List RuleNo) → ((q : RuleNo) → q ∈ among before → q .0 < i)
-    → once before (rulesFrom i n s) ≡ true
-unfolding rulesFrom once listedIf
-rules-from-once i zero s before f = refl
-rules-from-once i (suc n) s before f =
-    go (s (ruleNo i)) (rules-from-once (suc i) n s (ruleNo i ∷ before) lower)
-    (rules-from-once (suc i) n s before (λ q m. omega (arith, f q m)))
-  where
-    lower : (q : RuleNo) → q ∈ among (ruleNo i ∷ before) → q .0 < suc i
-    lower q m = ⊎-elim (λ (e : q ≡ ruleNo i). rw e (omega arith)) (λ k. omega (arith, f q k)) (among-front (ruleNo i) before q m)
-
-    go : (t : Bool) → once (ruleNo i ∷ before) (rulesFrom (suc i) n s) ≡ true → once before (rulesFrom (suc i) n s) ≡ true
-        → once before (listedIf t (ruleNo i) (rulesFrom (suc i) n s)) ≡ true
-    go true e k = both (ap not (refuted (λ (m : ruleNo i ∈ among before). omega (arith, f (ruleNo i) m)))) e
-    go false e k = k
 
 -- ---- how many they are
 
@@ -143,10 +126,6 @@ module _ (b : Book) (s : Rules) where
   pub rules-ascending : ascending (numbers (rulesIn b s)) ≡ true
   unfolding rulesIn
   rules-ascending = rules-from-ascending 0 (count b) s
-
-  pub rules-once : once [] (rulesIn b s) ≡ true
-  unfolding rulesIn some
-  rules-once = rules-from-once 0 (count b) s [] (λ q m. absurd (false≢true m))
 
   pub rules-none : rulesIn b s ≡ [] → (r : RuleNo) → InBook b r → r ∉ s
   unfolding some

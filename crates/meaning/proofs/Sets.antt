@@ -143,18 +143,10 @@ module _ {A : Type 0} (s : Set A) where
   every-here (x ∷ l) zero d h m = not-first _ m
   every-here (x ∷ l) (suc i) d h m = not-second (s x) (every-here l i d (le-of-suc-le-suc h) m)
 
-  pub some-none-next : (l : List A) (i : ℕ) (d : A) → i < length l → getD l i d ∉ s → some s (take i l) ≡ false
-      → some s (take (i + 1) l) ≡ false
-  unfolding some
-  some-none-next l i d h n e = rw (add-one, take-suc l i d, some-append) (neither e (neither n refl))
-
   pub every-all-next : (l : List A) (i : ℕ) (d : A) → i < length l → getD l i d ∈ s → every s (take i l) ≡ true
       → every s (take (i + 1) l) ≡ true
   unfolding every
   every-all-next l i d h m e = rw (add-one, take-suc l i d, every-append) (both e (both m refl))
-
-  pub some-none-end : (l : List A) (i : ℕ) → length l ≤ i → some s (take i l) ≡ false → some s l ≡ false
-  some-none-end l i h e = rw (take-all i l) at e
 
   pub every-all-end : (l : List A) (i : ℕ) → length l ≤ i → every s (take i l) ≡ true → every s l ≡ true
   every-all-end l i h e = rw (take-all i l) at e

@@ -1,22 +1,21 @@
 // Saving a file whole or not at all: the bytes go to a new file beside it, which then takes its
 // name. Whatever fails, a file that was there before stays as it was.
+ghost use mathlib.Core.Path.{_≡_};
 ghost use Prim.Native.Nat.{_+_, _≤_};
-ghost use lib.ListN.{length};
+ghost use lib.ListN.{length, take};
 ghost use Rattle.io.specs.Counts.{Counts};
+ghost use Rattle.naming.specs.NewName.{newName};
 use talk::complain;
 use talk::print;
 
 // Puts the path and `.new` at the start of out, and gives how many bytes that is.
 fn put_new_name(path: &[u8], out: &mut [u8]) -> usize
     requires { ⌜ length (now path) + 4 ≤ length (now out) ⌝ }
+    ensures { λ r. ⌜ take r (now (out .exit)) ≡ newName (now (path .entry)) ⌝ }
     ensures { λ r. ⌜ Counts r (now (out .exit)) ⌝ }
 {
     let n = bytes::copy(path, out);
-    out[n] = b'.';
-    out[n + 1] = b'n';
-    out[n + 2] = b'e';
-    out[n + 3] = b'w';
-    n + 4
+    n + bytes::copy(b".new", &mut out[n..])
 }
 
 // Writes all bytes and closes the file, and gives whether that went well.

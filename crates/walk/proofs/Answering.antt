@@ -2,7 +2,7 @@
 -- room for its rows, and its tally tells what find and page tell.
 use mathlib.Core.Path.{_≡_, refl, sym, _∙_, ap}
 use mathlib.Core.List.{List, []}
-use Prim.Native.Nat.{ℕ, _+_, _*_, _-_, _/_, _≤_, _<_}
+use Prim.Native.Nat.{ℕ, _*_, _-_, _/_, _≤_, _<_}
 use native.Mathlib.Nat.{one-mul}
 use native.Mathlib.Omega.{arith}
 use lib.ListN.{length}
@@ -19,7 +19,7 @@ use Rattle.book.specs.Numbers.{refused as badly, numberOf, placeOf, told as boo
 use Rattle.book.specs.Format.{Reading, good, bad, readOf, toldOf, bookOf, bookIn, ReadAs}
 use Rattle.book.proofs.Shape.{told-good}
 use Rattle.book.proofs.Places.{shape-atoms}
-use Rattle.walk.specs.Events.{Event, events, rest}
+use Rattle.walk.specs.Events.{events, rest}
 use Rattle.walk.specs.Run.{Wanted, State, run}
 use Rattle.walk.specs.Room.{Room}
 use Rattle.walk.specs.Find.{Told, refused, refusedAt, toldBy, startOf, answeredBy, findIn, findOf}

@@ -104,9 +104,6 @@ module _ (b : Book) (fits : count b ≤ 255) where
 
       -- each side of a fork has fewer rules without a colour
       module _ (x : Side) (r : RuleNo) (p : lowest b (uncoloured (pair d)) ≡ one r) where
-        pub fork-sized : Sized (chosen x r d)
-        fork-sized = rw closed (below-sized c s x r (rw closed at p))
-
         pub fork-falls : left b (chosen x r d) < left b c
         fork-falls = rw closed (below-left c s x r (rw closed at p))
 

@@ -9,7 +9,7 @@ use native.Mathlib.Omega.{arith}
 use lib.ListN.{List·getD-eq-default}
 use Rattle.meaning.specs.declared.AtomNo.{AtomNo}
 use Rattle.meaning.specs.Sets.{everyBelow}
-use Rattle.meaning.specs.Books.{Atoms, Rules, atomNo, Book}
+use Rattle.meaning.specs.Books.{Atoms, Rules, atomNo}
 use Rattle.meaning.specs.Colours.{heads}
 use Rattle.meaning.specs.Written.{of}
 use Rattle.meaning.specs.Computed.{support, barred, leastModel, agree, isAnswerSet}

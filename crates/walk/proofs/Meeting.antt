@@ -17,7 +17,6 @@ use Rattle.book.specs.Tables.{atomTable, atomsIn}
 use Rattle.book.proofs.Places.{shape-atoms}
 use Rattle.walk.specs.Run.{rowFrom, rowOf, writeAt, Wanted, State, counted, readingMet}
 use Rattle.walk.specs.Room.{Room}
-use Rattle.walk.specs.declared.tally.Halt.{Halt}
 use Rattle.walk.specs.declared.tally.Halt.the-variants.{Going, Full, NotLeast}
 use Rattle.walk.specs.declared.tally.Tally.{Tally}
 use Rattle.walk.proofs.Run.{Fine, row-fits}

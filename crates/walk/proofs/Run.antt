@@ -93,22 +93,6 @@ module _ (b : Book) (w : Wanted) where
     unfolding met
     run-stops h = next (lt-no _ _ _ _ h) ∙ run-ended _ es (λ z. apart (cc))
 
-  -- ---- the tries only grow, and not past the limit
-
-  move-tries : (s t : State) → Moved s t → (s .tally .tries ≤ t .tally .tries) × (s .tally .tries ≤ w .limit → t .tally .tries ≤ w .limit)
-  move-tries s t (stopped k) = (omega arith, λ h. h)
-  move-tries s t (no-reading k) = (omega arith, λ h. omega arith)
-  move-tries s t (passed-over k l) = (omega arith, λ h. omega arith)
-  move-tries s t (written x h k l f) = (omega arith, λ h. omega arith)
-  move-tries s t (not-least k) = (omega arith, λ h. omega arith)
-
-  pub run-grows : (s : State) (es : List Event) → s .tally .tries ≤ run b w s es .tally .tries
-  run-grows s es = run-keeps (λ t. s .tally .tries ≤ t .tally .tries)
-      (λ t e g h. omega (arith, move-tries t _ (event-moves t e) .0)) s es (omega arith)
-
-  pub run-limit : (s : State) (es : List Event) → s .tally .tries ≤ w .limit → run b w s es .tally .tries ≤ w .limit
-  run-limit s es = run-keeps (λ t. t .tally .tries ≤ w .limit) (λ t e g h. move-tries t _ (event-moves t e) .1 h) s es
-
   -- ---- what a call of the walk asks of a state, and what its way keeps for the next call
 
   -- no more readings than tries; room for the next row as long as the way goes on; n bytes in the buffer

@@ -4,12 +4,11 @@ use mathlib.Core.Path.{_≡_, refl, sym, ap}
 use mathlib.Core.Bool.{Bool, true, false, not, _&&_, _||_}
 use mathlib.Core.List.{List}
 use Prim.Native.Nat.{ℕ, _+_, _≤_, _<_}
-use native.Mathlib.Nat.{le-antisymm}
 use native.Mathlib.Omega.{arith}
 use lib.ListN.{getD}
 use Rattle.meaning.specs.declared.RuleNo.{RuleNo}
 use Rattle.meaning.specs.Sets.{Set, _∉_, someBelow}
-use Rattle.meaning.specs.Books.{ruleNo, Book, count, InBook, someRule}
+use Rattle.meaning.specs.Books.{ruleNo, Book, count, someRule}
 use Rattle.meaning.specs.Colours.{Pair, clashing, uncoloured}
 use Rattle.meaning.specs.Written.{of}
 use Rattle.meaning.specs.Lowest.{lowest, none, one}

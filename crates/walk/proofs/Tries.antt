@@ -15,11 +15,6 @@ use Rattle.closing.specs.Left.{left}
 use Rattle.walk.specs.Events.{Event, events}
 use Rattle.walk.proofs.Events.{Walk, at-clash, at-reading, at-fork, walks, fork-fewer}
 
-pub some-try : {b : Book} {c : Colouring} {es : List Event} → Walk b c es → 1 ≤ length es
-some-try (at-clash k t) = omega arith
-some-try (at-reading k t p) = omega arith
-some-try (at-fork k t p v w) = omega arith
-
 module _ (b : Book) (fits : count b ≤ 255) where
   walk-tries : {c : Colouring} {es : List Event} → Walk b c es → length es + 1 ≤ 2 ^ suc (left b (close b c))
   walk-tries {c = c} (at-clash k t) = omega (arith, pow-pos (left b (close b c)))

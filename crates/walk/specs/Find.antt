@@ -12,7 +12,7 @@ use Rattle.meaning.specs.Choice.{ifLt, ifEq}
 use Rattle.book.specs.Numbers.{numberOf, placeOf}
 use Rattle.book.specs.Format.{Reading, good, bad, readOf}
 use Rattle.walk.specs.Events.{events}
-use Rattle.walk.specs.Run.{Wanted, State, run}
+use Rattle.walk.specs.Run.{State, run}
 use Rattle.walk.specs.declared.tally.Halt.{Halt}
 use Rattle.walk.specs.declared.tally.Halt.the-variants.{Going, Full, Limit, NotLeast}
 use Rattle.walk.specs.declared.kth.Found.{Found}

@@ -6,7 +6,6 @@
 --   eventsFrom b tries x  all events at the start, when no try was made; later those after the reading x
 --   pageOf book limit tries last out   the answer and the buffer: of the bytes of the book, the limit, the tries made so far, the last row
 --                         of the page before, and the bytes of the buffer
-use mathlib.Core.Bool.{Bool}
 use mathlib.Core.List.{List}
 use Prim.Native.Nat.{ℕ, zero, suc, _/_}
 use lib.Dec.{eqb}

@@ -4,11 +4,9 @@
 --   rowOf b x        "A bytes ..., 1 for an atom in the set and 0 for one not"
 --   Wanted           how many readings to pass over, how many rows there is room for, the limit L
 --   run b w s es     the state after the events, from the state s
-use mathlib.Core.Bool.{Bool, true, false}
 use mathlib.Core.List.{List, [], _∷_, _++_}
 use Prim.Native.Nat.{ℕ, zero, suc, _+_, _*_, _-_}
 use lib.ListN.{length, take, drop}
-use Rattle.meaning.specs.declared.colouring.Colouring.{Colouring}
 use Rattle.meaning.specs.Books.{Atoms, atomNo, Book}
 use Rattle.meaning.specs.Computed.{isAnswerSet}
 use Rattle.meaning.specs.Choice.{ifb, ifLt, ifEq}

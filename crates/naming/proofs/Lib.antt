@@ -1,0 +1,2 @@
+-- The laws of naming.
+pub mod NewNames

@@ -1,0 +1,2 @@
+-- What is said of a file's name.
+pub mod NewName
