@@ -15,7 +15,7 @@ use Rattle.book.specs.Rows.{EntryWrong, RecordWrong, BytesWrong, GoodBoo
 use Rattle.book.proofs.Records.{RecordsRow, all-good, at-entry, at-record, at-atom, at-order, records-row, records-told}
 
 -- what reading a book tells
-data BookRow (s : List ℕ) : Reading → Type 0 where
+pub data BookRow (s : List ℕ) : Reading → Type 0 where
   at-length : ¬ LengthGood s → BookRow s (bad 1 0)
   at-mark : LengthGood s → ¬ MarkGood s → BookRow s (bad 2 (length s - 2))
   at-trailer : LengthGood s → MarkGood s → ¬ TrailerGood s → BookRow s (bad 3 (length s - 4))
@@ -81,7 +81,7 @@ module _ (s : List ℕ) where
   book-told (in-records f row) = framed-read _ f row
   book-told (nowhere f g) = framed-read _ f (all-good g)
 
-  row-of : {x : Reading} → readOf s ≡ x → BookRow s x
+  pub row-of : {x : Reading} → readOf s ≡ x → BookRow s x
   row-of e = subst (BookRow s) e book-row
 
   -- 1, at 0: the length is wrong

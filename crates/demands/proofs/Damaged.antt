@@ -1,6 +1,6 @@
 -- Books and papers by the rows of the table (specs/Damaged): reading refuses a book exactly where a row of 1 to 7 holds, checking a paper
 -- exactly where a row of 20 to 27 does, and what no row holds of is good. From the laws of the numbers of book and checker.
-use mathlib.Core.Path.{_≡_, refl, sym, _∙_, subst}
+use mathlib.Core.Path.{_≡_, refl, sym, _∙_}
 use mathlib.Core.Logic.{_⊎_, inl, inr, ⊎-elim, _↔_}
 use mathlib.Core.List.{List}
 use Prim.Native.Nat.{ℕ, _≤_}
@@ -9,10 +9,10 @@ use lib.ListN.{length}
 use Rattle.meaning.specs.Books.{Book, atomNo}
 use Rattle.meaning.specs.Claim.{named}
 use Rattle.meaning.specs.Paper.{Keeps}
-use Rattle.meaning.proofs.Choice.{lt-either, eq-either}
-use Rattle.book.specs.Format.{Check, fine, wrong, rulesOf, Reading, good, bad, readingOf, bodyOf, readOf, bookOf, bookIn}
-use Rattle.book.specs.Rows.{Bytes, LengthGood, MarkGood, atomCount, ruleCount, indexStart, Framed, none}
-use Rattle.book.proofs.Records.{RecordsRow, all-good, at-entry, at-record, at-atom, at-order, records-row}
+use Rattle.book.specs.Format.{Reading, good, bad, readOf, bookOf, bookIn}
+use Rattle.book.specs.Rows.{Bytes}
+use Rattle.book.proofs.Records.{at-entry, at-record, at-atom, at-order}
+use Rattle.book.proofs.Refusals.{BookRow, row-of, in-records, at-length as no-length, at-mark as no-mark, at-trailer as no-trailer}
 use Rattle.book.proofs.Refusals.{refused-length, refused-mark, refused-trailer, refused-entry, refused-record, refused-atom, refused-order}
 use Rattle.book.proofs.Refusals.{accepted}
 use Rattle.checker.specs.Numbers.{Told, certain, refused}
@@ -31,51 +31,17 @@ use Rattle.demands.specs.Damaged.{DamagedPaper, row-20, row-21, row-22, 
 -- ---- books
 
 module _ (s : List ℕ) where
-  abbrev n : ℕ
-  n = atomCount s
-
-  abbrev k : ℕ
-  k = ruleCount s
-
-  abbrev index : ℕ
-  index = indexStart s
-
-  -- what is read: a damaged book, or the rules of a good one
-  data BookIs : Reading → Type 0 where
-    damaged : {i at : ℕ} → DamagedBook s i at → BookIs (bad i at)
-    whole : BookIs (good n k index (rulesOf k s index 0))
-
-  records-are : Framed s → (c : Check) → RecordsRow s n k index c → BookIs (readingOf c (good n k index (rulesOf k s index 0)))
-  unfolding readingOf
-  records-are f fine (all-good g) = whole
-  records-are f (wrong i at) (at-entry w) = damaged (row-4 f w)
-  records-are f (wrong i at) (at-record w) = damaged (row-5 f w)
-  records-are f (wrong i at) (at-atom w) = damaged (row-6 f w)
-  records-are f (wrong i at) (at-order w) = damaged (row-7 f w)
-
-  book-is : BookIs (readOf s)
-  unfolding readOf bodyOf
-  book-is =
-      lt-either BookIs _ _ _ _ (λ h. damaged (row-1 (λ l. omega (arith, l .at-least))))
-      λ h. lt-either BookIs _ _ _ _ (λ g. damaged (row-1 (λ l. omega (arith, l .at-most))))
-      λ g. let size : LengthGood s = record { at-least = h; at-most = g } in
-      eq-either BookIs _ _ _ _
-      (λ p. eq-either BookIs _ _ _ _ (λ q. framed size (record { first = p; second = q }))
-      (λ q. damaged (row-2 size (λ m. q (m .second)))))
-      (λ p. damaged (row-2 size (λ m. p (m .first))))
-    where
-      framed : LengthGood s → MarkGood s → BookIs (bodyOf s n k index)
-      framed size mark =
-          eq-either BookIs _ _ _ _
-          (λ t. records-are (record { size = size; mark = mark; trailer = t }) _
-          (records-row s n index (omega arith) k k 0 0 (omega arith) none))
-          (λ t. damaged (row-3 size mark t))
-
   pub bad-damaged : {i at : ℕ} → readOf s ≡ bad i at → DamagedBook s i at
-  bad-damaged e = there (subst BookIs e book-is)
+  bad-damaged e = there (row-of s e)
     where
-      there : {i at : ℕ} → BookIs (bad i at) → DamagedBook s i at
-      there (damaged d) = d
+      there : {i at : ℕ} → BookRow s (bad i at) → DamagedBook s i at
+      there (no-length l) = row-1 l
+      there (no-mark l m) = row-2 l m
+      there (no-trailer l m t) = row-3 l m t
+      there (in-records f (at-entry w)) = row-4 f w
+      there (in-records f (at-record w)) = row-5 f w
+      there (in-records f (at-atom w)) = row-6 f w
+      there (in-records f (at-order w)) = row-7 f w
 
   pub damaged-bad : {i at : ℕ} → DamagedBook s i at → readOf s ≡ bad i at
   damaged-bad (row-1 l) = refused-length s 0 .1 (l, refl)

@@ -1,17 +1,13 @@
 // `find K L ROOM BOOK`: the K-th reading, within L tries, in a buffer of ROOM bytes. Answers
 // `set TRIES a b c`, `fewer TRIES SETS`, `limit L` or `refused NUMBER [PLACE]`.
+use crate::call::read_call;
 use book::Read;
 use book::read_book;
 use listing::print_set;
-use talk::Number;
 use talk::first_bytes;
-use talk::first_word;
-use talk::other_words;
 use talk::print;
 use talk::print_number;
 use talk::print_refusal;
-use talk::read_bytes;
-use talk::read_number;
 use walk::Found;
 use walk::find;
 
@@ -49,32 +45,13 @@ fn tell_found(book: &[u8], k: u32, limit: u32, answer: &mut [u8]) {
     print(b"\n");
 }
 
-// Lends the engine so many bytes, and gives whether there are as many.
-fn find_within(book: &[u8], k: u32, limit: u32, size: usize, room: &mut [u8]) -> bool {
-    if room.len() < size {
-        return false;
-    }
-    tell_found(book, k, limit, &mut room[..size]);
-    true
-}
-
 // Answers the command where its words are right, and gives whether they are.
 pub fn answer_find(words: &[u8], book: &mut [u8], room: &mut [u8]) -> bool {
-    let Number::Value(k) = read_number(first_word(words)) else {
-        return false;
-    };
-    let words = other_words(words);
-    let Number::Value(limit) = read_number(first_word(words)) else {
-        return false;
-    };
-    let words = other_words(words);
-    let Number::Value(size) = read_number(first_word(words)) else {
-        return false;
-    };
-    let decoded = read_bytes(other_words(words), book);
-    if !decoded.good {
-        return false;
+    let call = read_call(words, book, room);
+    if call.good {
+        let n = call.count;
+        let size = call.size;
+        tell_found(&book[..n], call.first, call.limit, &mut room[..size]);
     }
-    let n = decoded.count;
-    find_within(&book[..n], k, limit, size as usize, room)
+    call.good
 }
