@@ -4,6 +4,7 @@
 //     naming BOOKFILE ATOM PAPERFILE [LIMIT]
 
 mod answer;
+mod place;
 mod save;
 
 use answer::tell_named;

@@ -5,6 +5,7 @@ ghost use Prim.Native.Nat.{_+_, _≤_};
 ghost use lib.ListN.{length, take};
 ghost use Rattle.io.specs.Counts.{Counts};
 ghost use Rattle.naming.specs.NewName.{newName};
+use crate::place::may_replace;
 use talk::complain;
 use talk::print;
 
@@ -31,7 +32,7 @@ fn write_and_close(fd: i32, bytes: &[u8]) -> bool {
 // Says in a line why the new file cannot be made.
 fn complain_of_making(path: &[u8], new: &[u8]) {
     if os::errno() == libc::EEXIST {
-        complain(new, b"it is in the way");
+        complain(new, b"it is in the way; remove it if no naming is running");
         return;
     }
     complain(path, b"it cannot be written");
@@ -61,6 +62,13 @@ pub fn save_argument(i: usize, bytes: &[u8]) -> bool {
     let n = os::arg(i, &mut path);
     if os::errno() == libc::ENAMETOOLONG {
         print(b"bad file: its name is too long\n");
+        return false;
+    }
+    if !may_replace(&path[..n]) {
+        complain(
+            &path[..n],
+            b"it is there, and it is no paper that may be replaced",
+        );
         return false;
     }
     let mut name = [0u8; 4100];

@@ -17,7 +17,7 @@ use Rattle.meaning.specs.Engine.{Next, puts-on, puts-off, drops, next}
 use Rattle.meaning.proofs.Written.{pair-on, pair-off}
 use Rattle.meaning.proofs.Engine.{next-puts-on, next-puts-off}
 use Rattle.writer.specs.Branches.{behind, branch}
-use Rattle.writer.specs.Steps.{lent, Listed, Does, does-on, does-off, does-drop, does-end, does-split, does-nothing}
+use Rattle.writer.specs.Steps.{lent, Does, does-on, does-off, does-drop, does-end, does-split, does-nothing}
 use Rattle.writer.specs.Draft.{Writes, tipOf, tipBytes, Wrote}
 use Rattle.writer.specs.declared.step.Step.the-variants.{On, Off, Unfounded, Stops}
 use Rattle.writer.specs.declared.step.Tip.{Tip}
@@ -104,7 +104,8 @@ module _ {b : Book} {k : Claim} (fits : count b ≤ 255) {c : Pair} {at n : ℕ}
     pub ahead-drop : length off' ≡ 255 → {i j o : ℕ} {out1 out2 out3 : List ℕ} → Writes (codeUnfounded ∷ []) n out i out1
         → Writes (m ∷ []) i out1 j out2 → Writes (numbers (rulesIn b (of l))) j out2 o out3 → Ahead b k c at before on off' o out3
     ahead-drop h u v w =
-        ahead-by _ (a .on-long) h (branch-drops b k fits _ _ (step-drop d .0) ∙ rw (drop-pair, step-drop d .1)) (writes-then u (writes-then v w))
+        let (e, f) = step-drop d in
+        ahead-by _ (a .on-long) h (branch-drops b k fits _ _ e ∙ rw (drop-pair, f)) (writes-then u (writes-then v w))
 
     pub drop-fewer : missing b (lent on off') < missing b (lent on off)
     drop-fewer = rw drop-pair (adds-fewer b k fits (adds-all (rulesIn b (of l))) (step-drop d .0))

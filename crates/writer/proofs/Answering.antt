@@ -1,5 +1,5 @@
--- A naming as the code goes through it (specs/Name; document 01, "Naming: 13; then answer set 1 with limit L ...; then the paper's walk with
--- a fresh L (9, 12); then 14"): what is told after the first walk, and after the paper's walk.
+-- A naming as the code goes through it (specs/Name; document 01, "Naming: 13; then answer set 1 with limit L ...; then the paper's walk
+-- with a fresh L (9, 12); then 14"): what is told after the first walk, and after the paper's walk.
 use mathlib.Core.Path.{_≡_, refl, sym, _∙_, ap}
 use mathlib.Core.List.{List, []}
 use Prim.Native.Nat.{ℕ, _<_, _≤_}
@@ -29,6 +29,7 @@ use Rattle.writer.specs.Name.{refusedAt, afterFirstWalk, nameIn, nameRea
 use Rattle.writer.specs.Draft.{whole, courseOf, Stage}
 use Rattle.writer.specs.declared.split.Course.the-variants.{Writing, Limited, Refuted}
 use Rattle.writer.specs.declared.split.Drafted.{Drafted}
+use Rattle.writer.proofs.Stages.{only}
 
 -- ---- the draft at the start, and behind the paper's walk
 
@@ -52,15 +53,15 @@ module _ (b : Book) (k : Claim) (limit : ℕ) (buffer : List ℕ) (below : claim
   unfolding nameIn
   name-first = lt-yes _ _ _ _ below ∙ rw (← e)
 
-  pub name-fewer : t .halt ≡ Going → record { told = fewer (t .tries) 0; buffer = buffer } ≡ nameIn b k limit buffer
+  pub name-fewer : t .halt ≡ Going → only buffer (fewer (t .tries) 0) ≡ nameIn b k limit buffer
   unfolding afterFirstWalk
   name-fewer h = sym (name-first ∙ rw h)
 
-  pub name-first-limit : t .halt ≡ Limit → record { told = stopped limit; buffer = buffer } ≡ nameIn b k limit buffer
+  pub name-first-limit : t .halt ≡ Limit → only buffer (stopped limit) ≡ nameIn b k limit buffer
   unfolding afterFirstWalk
   name-first-limit h = sym (name-first ∙ rw h)
 
-  pub name-not-least : t .halt ≡ NotLeast → record { told = refused 10; buffer = buffer } ≡ nameIn b k limit buffer
+  pub name-not-least : t .halt ≡ NotLeast → only buffer (refused 10) ≡ nameIn b k limit buffer
   unfolding afterFirstWalk
   name-not-least h = sym (name-first ∙ rw h)
 
@@ -69,11 +70,11 @@ module _ (b : Book) (k : Claim) (limit : ℕ) (buffer : List ℕ) (below : claim
     unfolding afterFirstWalk
     name-paper = name-first ∙ rw (h, d .course)
 
-    pub name-limited : q .course ≡ Limited → record { told = stopped limit; buffer = buffer } ≡ nameIn b k limit buffer
+    pub name-limited : q .course ≡ Limited → only buffer (stopped limit) ≡ nameIn b k limit buffer
     unfolding afterPaperWalk
     name-limited f = sym (name-paper ∙ rw f)
 
-    pub name-refuted : q .course ≡ Refuted → record { told = refused 12; buffer = buffer } ≡ nameIn b k limit buffer
+    pub name-refuted : q .course ≡ Refuted → only buffer (refused 12) ≡ nameIn b k limit buffer
     unfolding afterPaperWalk
     name-refuted f = sym (name-paper ∙ rw f)
 
@@ -89,18 +90,21 @@ apart e = absurd (omega arith)
 
 -- what is told of a reading decides how the naming goes on
 module _ (a : AtomNo) (limit : ℕ) (buffer : List ℕ) where
-  read-good : (x : Reading) {n k index : ℕ} → toldOf x ≡ shape n k index → nameReading x a limit buffer ≡ nameIn (bookOf x) (named a) limit buffer
+  read-good : (x : Reading) {n k index : ℕ} → toldOf x ≡ shape n k index
+      → nameReading x a limit buffer ≡ nameIn (bookOf x) (named a) limit buffer
   unfolding toldOf nameReading bookOf
   read-good (good n k index l) e = refl
   read-good (bad i at) e = apart (cc)
 
-  read-bad : (x : Reading) {i at : ℕ} → toldOf x ≡ badly i at → record { told = refusedAt i at; buffer = buffer } ≡ nameReading x a limit buffer
+  read-bad : (x : Reading) {i at : ℕ} → toldOf x ≡ badly i at
+      → only buffer (refusedAt i at) ≡ nameReading x a limit buffer
   unfolding toldOf nameReading
   read-bad (good n k index l) e = apart (cc)
   read-bad (bad j to) e = cc
 
   module _ (s : List ℕ) {x : Read} (e : bookTold x ≡ toldOf (readOf s)) where
-    pub name-bad : {f : Refusal} → x ≡ Refused f → record { told = refusedAt (numberOf f) (placeOf f); buffer = buffer } ≡ nameOf s a limit buffer
+    pub name-bad : {f : Refusal} → x ≡ Refused f
+        → only buffer (refusedAt (numberOf f) (placeOf f)) ≡ nameOf s a limit buffer
     unfolding nameOf
     name-bad f = read-bad (readOf s) (sym e ∙ ap bookTold f)
 
@@ -115,6 +119,6 @@ module _ (a : AtomNo) (limit : ℕ) (buffer : List ℕ) where
       pub name-good : {r : Answered} → r ≡ nameIn (bookIn s) (named a) limit buffer → r ≡ nameOf s a limit buffer
       name-good f = f ∙ sym name-book
 
-      pub name-no-atom : h .atoms ≤ a .0 → record { told = refused 13; buffer = buffer } ≡ nameOf s a limit buffer
+      pub name-no-atom : h .atoms ≤ a .0 → only buffer (refused 13) ≡ nameOf s a limit buffer
       unfolding nameIn claimed
       name-no-atom l = sym (name-book ∙ lt-no _ _ _ _ (omega (arith, shape-atoms s h read-as)))

@@ -2,7 +2,6 @@
 -- claimed atom, then the first of 41, 42, 55 and 53 whose search finds a rule. The searches ask tables of atoms, and find what is asked of
 -- the pair itself.
 use mathlib.Core.Path.{_≡_, refl, sym, _∙_, ap}
-use mathlib.Core.Logic.{⊎-elim}
 use mathlib.Core.Bool.{Bool, true, false, not, _&&_}
 use mathlib.Core.List.{List, [], _∷_}
 use Prim.Native.Nat.{ℕ, _<_}
@@ -10,7 +9,7 @@ use native.Mathlib.Omega.{arith}
 use lib.ListN.{length, getD}
 use Rattle.meaning.specs.declared.AtomNo.{AtomNo}
 use Rattle.meaning.specs.declared.RuleNo.{RuleNo}
-use Rattle.meaning.specs.Books.{Rules, Book, count, InBook}
+use Rattle.meaning.specs.Books.{Rules, Book, InBook}
 use Rattle.meaning.specs.Colours.{Pair, heads, allIn, mayOn, blocked, uncoloured, clashing}
 use Rattle.meaning.specs.Claim.{Claim, named, shown, ended}
 use Rattle.meaning.specs.Written.{of}
@@ -59,7 +58,8 @@ module _ (s : List ℕ) (h : Shape) (e : ReadAs s h) (n : h .atoms < 256) (on of
   new-on-lowest lost g = lowest-same (bookIn s) _ _ (λ r l. ap (λ t. t && not (of on r))
       (goes-on-mayOn s h e n r (in-shape s h e r l) (lent on off) headed f lost g))
 
-  pub new-off-lowest : lowest (bookIn s) (newOff (bookIn s) headed off) ≡ lowest (bookIn s) (less (blocked (bookIn s) (lent on off)) (of off))
+  pub new-off-lowest : lowest (bookIn s) (newOff (bookIn s) headed off)
+      ≡ lowest (bookIn s) (less (blocked (bookIn s) (lent on off)) (of off))
   unfolding newOff
   new-off-lowest = lowest-same (bookIn s) _ _ (λ r l. ap (λ t. t && not (of off r))
       (is-blocked-blocked s h e n r (in-shape s h e r l) (lent on off) headed f))

@@ -2,8 +2,7 @@
 -- down; behind a split the two walks go on from the colouring at the split, one after the other.
 use mathlib.Core.Path.{_≡_, refl, sym, _∙_, ap}
 use mathlib.Core.Logic.{⊎-elim}
-use mathlib.Core.Bool.{Bool}
-use mathlib.Core.List.{List, [], _∷_, _++_}
+use mathlib.Core.List.{List, [], _∷_}
 use Prim.Native.Nat.{ℕ, _+_, _≤_, _<_}
 use native.Mathlib.Omega.{arith}
 use lib.ListN.{length}
@@ -17,10 +16,9 @@ use Rattle.meaning.specs.Claim.{Claim}
 use Rattle.meaning.specs.Written.{colourOn, colourOff, pair}
 use Rattle.meaning.proofs.Written.{pair-on, pair-off}
 use Rattle.meaning.proofs.Engine.{next-splits}
-use Rattle.writer.specs.Branches.{Branch, ended, parted, unsettled, branch, branches}
-use Rattle.writer.specs.Branches.{Tip as End}
-use Rattle.writer.specs.Scan.{Progress, writing, limited, refuted, courseAt, scan}
-use Rattle.writer.specs.Draft.{Stands, Writes, tipOf, Wrote, courseOf, Stage}
+use Rattle.writer.specs.Branches.{Branch, parted, branch, branches}
+use Rattle.writer.specs.Scan.{Progress, writing, courseAt, scan}
+use Rattle.writer.specs.Draft.{tipOf, Wrote, courseOf, Stage}
 use Rattle.writer.specs.declared.step.Tip.{Tip}
 use Rattle.writer.specs.declared.step.Tip.the-variants.{Ended, Parted, Unsettled}
 use Rattle.writer.specs.declared.branch.Written.{Written}
@@ -62,7 +60,8 @@ module _ (b : Book) (k : Claim) (fits : count b ≤ 255) (c : Pair) {m : ℕ} {o
         from (reached-split v n) = omega (arith, next-splits b k _ r n .0)
 
     -- the colourings behind the split
-    pub part-on : length (w .colours .on) ≡ 255 → {x : Colouring} → x ≡ colourOn r (w .colours) → pair x ≡ put onSide (r ∷ []) (pair (w .colours))
+    pub part-on : length (w .colours .on) ≡ 255 → {x : Colouring} → x ≡ colourOn r (w .colours)
+        → pair x ≡ put onSide (r ∷ []) (pair (w .colours))
     part-on l f = rw f (pair-on (w .colours) r (rw l part-below))
 
     pub part-off : length (w .colours .off) ≡ 255 → {x : Colouring} → x ≡ colourOff r (w .colours)
@@ -74,8 +73,12 @@ module _ (b : Book) (k : Claim) (fits : count b ≤ 255) (c : Pair) {m : ℕ} {o
 
 -- ---- one branch
 
-module _ (b : Book) (k : Claim) (fits : count b ≤ 255) (limit : ℕ) (c : Pair) {p : Drafted} {out : List ℕ} {s : Progress} (g : Stage p out s)
-    (going : p .course ≡ Writing) where
+-- one try more, and the draft up to the end of the branch
+abbrev pub further : Drafted → Written → Course → Drafted
+further p w h = record { tries = p .tries + 1; length = w .length; course = h }
+
+module _ (b : Book) (k : Claim) (fits : count b ≤ 255) (limit : ℕ) (c : Pair) {p : Drafted} {out : List ℕ} {s : Progress}
+    (g : Stage p out s) (going : p .course ≡ Writing) where
   still : s .course ≡ writing
   still = sym (g .course) ∙ ap courseOf going
 
@@ -90,26 +93,24 @@ module _ (b : Book) (k : Claim) (fits : count b ≤ 255) (limit : ℕ) (c : Pair
     one-more l = scan-taken limit s still (branch b k c) l (λ e. omega (arith, g .tries))
 
     -- the draft behind the branch
-    stage-taken : (h : Course) → courseOf h ≡ courseAt (branch b k c .tip)
-        → Stage (record { tries = p .tries + 1; length = w .length; course = h }) after (taken limit s (branch b k c))
+    stage-taken : (h : Course) → courseOf h ≡ courseAt (branch b k c .tip) → Stage (further p w h) after (taken limit s (branch b k c))
     stage-taken h e = record { tries = ap (λ n. n + 1) (g .tries); bytes = d .bytes .behind _ (g .bytes); course = e }
 
-    pub stage-ended : w .tip ≡ Ended
-        → Stage (record { tries = p .tries + 1; length = w .length; course = Writing }) after (scan limit s (branches b k c))
+    pub stage-ended : w .tip ≡ Ended → Stage (further p w Writing) after (scan limit s (branches b k c))
     unfolding courseAt
     stage-ended e =
-        let e = tip-is b k fits c d e in rw (branches-ended b k fits c e, one-more [], scan-nil) (stage-taken Writing (sym (ap courseAt e)))
+        let e = tip-is b k fits c d e in
+        rw (branches-ended b k fits c e, one-more [], scan-nil) (stage-taken Writing (sym (ap courseAt e)))
 
-    pub stage-unsettled : w .tip ≡ Unsettled
-        → Stage (record { tries = p .tries + 1; length = w .length; course = Refuted }) after (scan limit s (branches b k c))
+    pub stage-unsettled : w .tip ≡ Unsettled → Stage (further p w Refuted) after (scan limit s (branches b k c))
     unfolding courseAt
     stage-unsettled e =
-        let e = tip-is b k fits c d e in rw (branches-unsettled b k fits c e, one-more [], scan-nil) (stage-taken Refuted (sym (ap courseAt e)))
+        let e = tip-is b k fits c d e in
+        rw (branches-unsettled b k fits c e, one-more [], scan-nil) (stage-taken Refuted (sym (ap courseAt e)))
 
     pub stage-parted : {r : RuleNo} → w .tip ≡ Parted r → {q v : Drafted} {out' end : List ℕ} {on off : Pair}
         → on ≡ put onSide (r ∷ []) (pair (w .colours)) → off ≡ put offSide (r ∷ []) (pair (w .colours)) → s .tries ≤ limit
-        → ((t : Progress) → Stage (record { tries = p .tries + 1; length = w .length; course = Writing }) after t → t .tries ≤ limit
-        → Stage q out' (scan limit t (branches b k on)))
+        → ((t : Progress) → Stage (further p w Writing) after t → t .tries ≤ limit → Stage q out' (scan limit t (branches b k on)))
         → ((t : Progress) → Stage q out' t → t .tries ≤ limit → Stage v end (scan limit t (branches b k off)))
         → Stage v end (scan limit s (branches b k c))
     unfolding courseAt

@@ -1,11 +1,11 @@
 -- What stands in the draft (specs/Draft): one byte more is stored behind the others or, where the array is full, counted; runs of bytes
 -- written one after the other are one run; and behind 60,000 bytes it no longer matters what is written.
-use mathlib.Core.Path.{_≡_, refl, sym, _∙_, ap}
+use mathlib.Core.Path.{refl, _∙_, ap}
 use mathlib.Core.List.{List, [], _∷_, _++_, append-assoc, append-nil}
-use Prim.Native.Nat.{ℕ, suc, _+_, _≤_, _<_}
+use Prim.Native.Nat.{ℕ, _+_, _≤_, _<_}
 use native.Mathlib.Numerals.{add-one}
 use native.Mathlib.Omega.{arith}
-use lib.ListN.{length, take, set, length-append, length-set}
+use lib.ListN.{set, length-append, length-set}
 use lib.Seq.{take-suc-set}
 use Rattle.writer.specs.Draft.{Stands, whole, passed, Writes}
 

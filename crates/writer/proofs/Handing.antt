@@ -1,8 +1,8 @@
--- The draft handed over (specs/Name, handOver; document 01, "14: engine's paper longer than the buffer or 60,000"): a copy byte by byte, and
--- what the draft's length says of the paper's. And the paper put together: the steps that stand in the draft, the witness, the trailer.
-use mathlib.Core.Path.{_≡_, refl, sym, _∙_, ap}
-use mathlib.Core.List.{List, [], _++_, append-assoc}
-use Prim.Native.Nat.{ℕ, suc, _+_, _≤_, _<_}
+-- The draft handed over (specs/Name, handOver; document 01, "14: engine's paper longer than the buffer or 60,000"): a copy byte by byte,
+-- and what the draft's length says of the paper's. And the paper put together: the steps that stand in the draft, the witness, the trailer.
+use mathlib.Core.Path.{_≡_, sym}
+use mathlib.Core.List.{List, _++_, append-assoc}
+use Prim.Native.Nat.{ℕ, _+_, _≤_, _<_}
 use native.Mathlib.Nat.{zero-add}
 use native.Mathlib.Numerals.{add-one}
 use native.Mathlib.Omega.{arith}
@@ -14,9 +14,9 @@ use Rattle.meaning.specs.Paper.{numbers, trailer}
 use Rattle.meaning.specs.Engine.{witnessOf}
 use Rattle.walk.specs.Run.{writeAt}
 use Rattle.walk.specs.Page.{setIn}
-use Rattle.writer.specs.Name.{paper, refused, Answered, wholePaper, handOver}
+use Rattle.writer.specs.Name.{paper, refused, wholePaper, handOver}
 use Rattle.writer.specs.Draft.{Stands, whole, passed, Writes}
-use Rattle.writer.proofs.Stages.{hand-no-room, hand-long, hand-over}
+use Rattle.writer.proofs.Stages.{only, hand-no-room, hand-long, hand-over}
 
 -- ---- a copy
 
@@ -44,11 +44,11 @@ copy-whole draft buffer i n h f e = rw (zero-add, length-take-le n draft h, ← 
 -- ---- the paper handed over
 
 module _ (tries : ℕ) (buffer : List ℕ) {w : List ℕ} {n : ℕ} {draft : List ℕ} where
-  pub hand-small : Stands w n draft → length buffer < n → record { told = refused 14; buffer = buffer } ≡ handOver tries w buffer
+  pub hand-small : Stands w n draft → length buffer < n → only buffer (refused 14) ≡ handOver tries w buffer
   hand-small (whole g e h f) l = sym (hand-no-room tries w buffer (omega arith))
   hand-small (passed g e h) l = sym (hand-long tries w buffer h)
 
-  pub hand-passed : Stands w n draft → 60000 < n → record { told = refused 14; buffer = buffer } ≡ handOver tries w buffer
+  pub hand-passed : Stands w n draft → 60000 < n → only buffer (refused 14) ≡ handOver tries w buffer
   hand-passed (whole g e h f) l = absurd (omega arith)
   hand-passed (passed g e h) l = sym (hand-long tries w buffer h)
 
@@ -61,11 +61,13 @@ module _ (tries : ℕ) (buffer : List ℕ) {w : List ℕ} {n : ℕ} {draft : Lis
 -- ---- the paper put together
 
 module _ (b : Book) (k : Claim) (row steps : List ℕ) {from m n count : ℕ} {before draft out : List ℕ} where
-  pub paper-whole : Stands steps from before → count ≡ length (witnessOf b (setIn row)) → Writes (numbers (witnessOf b (setIn row))) from before m draft
-      → Writes (trailer k count from) m draft n out → Stands (wholePaper b k steps row) n out
+  pub paper-whole : Stands steps from before → count ≡ length (witnessOf b (setIn row))
+      → Writes (numbers (witnessOf b (setIn row))) from before m draft → Writes (trailer k count from) m draft n out
+      → Stands (wholePaper b k steps row) n out
   unfolding wholePaper
   paper-whole (whole g e h f) c w v = rw (← c, ← e, ← append-assoc) (v .behind _ (w .behind steps (whole g e h f)))
-  paper-whole (passed g e h) c w v = passed (stands-long s) (stands-counted s (simp length-append (omega arith))) (simp length-append (omega arith))
+  paper-whole (passed g e h) c w v =
+      passed (stands-long s) (stands-counted s (simp length-append (omega arith))) (simp length-append (omega arith))
     where
       s : Stands ((steps ++ numbers (witnessOf b (setIn row))) ++ trailer k count from) n out
       s = v .behind _ (w .behind steps (passed g e h))

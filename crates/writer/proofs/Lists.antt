@@ -32,8 +32,14 @@ pub numbers-append : (l m : List RuleNo) → numbers (l ++ m) ≡ numbers l ++ n
 numbers-append [] m = refl
 numbers-append (r ∷ l) m = ap (λ (k : List ℕ). r .0 ∷ k) (numbers-append l m)
 
-pub plus-end : (s : Rules) (l : List RuleNo) (r : RuleNo) → plus (plus s l) (r ∷ []) ≡ plus s (l ++ (r ∷ []))
-plus-end s l r = fun-ext (λ q. or-assoc (s q) (among l q) (among (r ∷ []) q) ∙ ap (λ t. s q || t) (sym (some-append (sameRule q) l (r ∷ []))))
+plus-end : (s : Rules) (l : List RuleNo) (r : RuleNo) → plus (plus s l) (r ∷ []) ≡ plus s (l ++ (r ∷ []))
+plus-end s l r = fun-ext (λ q.
+    or-assoc (s q) (among l q) (among (r ∷ []) q) ∙ ap (λ t. s q || t) (sym (some-append (sameRule q) l (r ∷ []))))
+
+-- an array that holds s and the rules of a list holds, with one rule more, s and the list with that rule at its end
+pub put-end : (s : Rules) (w : List RuleNo) (l : List Bool) {i : ℕ} (r : RuleNo) → i ≡ r .0 → r .0 < length l → of l ≡ plus s w
+    → of (set l i true) ≡ plus s (w ++ (r ∷ []))
+put-end s w l r e h f = rw e (of-set l r h) ∙ ap (λ q. plus q (r ∷ [])) f ∙ plus-end s w r
 
 -- ---- the rules of a set, number by number
 
@@ -94,8 +100,7 @@ module _ (s : Rules) (off : List Bool) (at : ℕ) (out : List ℕ) where
         → Writes (r ∷ []) n written m more → off' ≡ set gone i true → out' ≡ more → k ≡ m → Dropped (r + 1) off' k out'
     dropped-more {off' = off'} e h t w f g k = record {
       long = ap length f ∙ length-set gone _ true ∙ d .long;
-      colours = ap of f ∙ rw e (of-set gone (ruleNo r) (rw (d .long) h)) ∙ ap (λ q. plus q (ruleNo r ∷ [])) (d .colours)
-          ∙ plus-end (of off) (below r s) (ruleNo r) ∙ ap (plus (of off)) (sym (below-in r s t));
+      colours = rw (f, below-in r s t) (put-end (of off) (below r s) gone (ruleNo r) e (rw (d .long) h) (d .colours));
       bytes = rw (g, k, below-in r s t, numbers-append) (writes-then (d .bytes) w);
     }
 
@@ -127,15 +132,18 @@ module _ (s : Rules) where
         → Found s (r + 1) found' k
     found-more e h t f g = record {
       long = ap length f ∙ length-set found _ true ∙ d .long;
-      held = ap of f ∙ rw e (of-set found (ruleNo r) (rw (d .long) h)) ∙ ap (λ q. plus q (ruleNo r ∷ [])) (d .held)
-          ∙ fun-ext (λ q. sym (some-append (sameRule q) (below r s) (ruleNo r ∷ []))) ∙ ap among (sym (below-in r s t));
+      held = rw (f, below-in r s t) (put-end (λ q. false) (below r s) found (ruleNo r) e (rw (d .long) h) (d .held));
       counted = rw (below-in r s t, length-append) (omega (arith, d .counted));
       few = omega (arith, d .few);
     }
 
     pub found-same : {k : ℕ} {found' : List Bool} → s (ruleNo r) ≡ false → found' ≡ found → k ≡ m → Found s (r + 1) found' k
-    found-same t f g = rw (f, g)
-        record { long = d .long; held = rw (below-out r s t) (d .held); counted = rw (below-out r s t) (d .counted); few = omega (arith, d .few) }
+    found-same t f g = rw (f, g) record {
+      long = d .long;
+      held = rw (below-out r s t) (d .held);
+      counted = rw (below-out r s t) (d .counted);
+      few = omega (arith, d .few);
+    }
 
   pub found-all : {found : List Bool} {m r : ℕ} → Found s r found m → (b : Book) → count b ≡ r → Listed b m found (rulesIn b s)
   found-all {found} d b e = record {
@@ -157,6 +165,7 @@ module _ (marks off : List Bool) (i r : ℕ) (e : i ≡ r) where
   outside-off m = not-second (not (of marks (ruleNo r))) (ap not (of-place off i r true e m))
 
 -- the rules outside V that aren't off, where the marks are V
-pub outside-unsupported : (b : Book) (marks on off : List Bool) → marks ≡ support b (of off) → outside marks off ≡ unsupported b (lent on off)
+pub outside-unsupported : (b : Book) (marks on off : List Bool) → marks ≡ support b (of off)
+    → outside marks off ≡ unsupported b (lent on off)
 unfolding outside unsupported
 outside-unsupported b marks on off e = rw e

@@ -106,8 +106,3 @@ module _ (b : Book) (k : Claim) (fits : count b ≤ 255) where
     branch = settled-branch start s;
     grounds = witness-of b x answer;
   }
-
-  -- the same of the paper as naming puts it together, from the row of an answer set
-  pub whole-keeps : every settled (branches b k start) ≡ true → claimed k .0 < b .atoms → (row : List ℕ) → AnswerSet b (setIn row)
-      → Keeps b k (wholePaper b k (stepsOf (branches b k start)) row)
-  whole-keeps s h row answer = rw (paper-whole b k row) (paper-keeps s h (setIn row) answer)

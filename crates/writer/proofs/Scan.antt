@@ -1,8 +1,8 @@
 -- Laws of the writer's way along the branches (specs/Scan; blueprint, N7): it goes through two lists one after the other, stays where it
--- has ended, and counts no more tries than the limit; the bytes only grow.
-use mathlib.Core.Path.{_≡_, refl, sym}
+-- has ended, and counts no more tries than the limit.
+use mathlib.Core.Path.{_≡_, refl}
 use mathlib.Core.Logic.{⊎-elim}
-use mathlib.Core.List.{List, [], _∷_, _++_, append-assoc, append-nil}
+use mathlib.Core.List.{List, [], _∷_, _++_}
 use Prim.Native.Nat.{ℕ, _+_, _≤_}
 use native.Mathlib.Nat.{eq-or-lt-of-le}
 use native.Mathlib.Omega.{arith}
@@ -66,18 +66,10 @@ module _ (limit : ℕ) where
     unfolding scan met
     scan-stops e = rw (going, eq-yes _ _ _ (taken p t) e) (scan-over _ l limited-not-writing)
 
-  -- ---- what grows, and what does not
+  -- ---- the limit
 
   pub scan-tries : (p : Progress) (l : List Branch) → p .tries ≤ limit → scan limit p l .tries ≤ limit
   scan-tries p l h = scan-keeps (λ q. q .tries ≤ limit) step p l h
     where
       step : (q : Progress) (t : Branch) → q .course ≡ writing → q .tries ≤ limit → met limit writing q t .tries ≤ limit
       step q t e h = met-either (λ u. u .tries ≤ limit) q t (λ z. h) (λ n. ⊎-elim (λ z. absurd (n z)) (λ z. omega arith) (eq-or-lt-of-le h))
-
-  pub scan-grows : (p : Progress) (l : List Branch) → (more : List ℕ) × (scan limit p l .bytes ≡ p .bytes ++ more)
-  scan-grows p l = scan-keeps (λ q. (more : List ℕ) × (q .bytes ≡ p .bytes ++ more)) step p l ([], sym (append-nil _))
-    where
-      step : (q : Progress) (t : Branch) → q .course ≡ writing → ((more : List ℕ) × (q .bytes ≡ p .bytes ++ more))
-          → (more : List ℕ) × (met limit writing q t .bytes ≡ p .bytes ++ more)
-      step q t e (more, g) = met-either (λ u. (more : List ℕ) × (u .bytes ≡ p .bytes ++ more)) q t (λ z. (more, g))
-          (λ n. (more ++ t .bytes, rw g (append-assoc (p .bytes) more (t .bytes))))

@@ -1,5 +1,5 @@
--- The searches for the lowest rule of a kind, turn by turn: what is kept is that no rule before is of that kind. And what the tests of the
--- searches say of one rule.
+-- The searches for the lowest rule of a kind, turn by turn: what is kept is that no rule before is of that kind. And how a search tells
+-- whether one rule is: for 41 and 42 it is, if it passes a test and isn't in an array yet.
 use mathlib.Core.Path.{_≡_, refl, sym, _∙_, ap}
 use mathlib.Core.Logic.{⊎-elim}
 use mathlib.Core.Bool.{Bool, true, false, not, _&&_}
@@ -13,6 +13,7 @@ use Rattle.meaning.specs.Sets.{_∉_, every, some}
 use Rattle.meaning.specs.Books.{Rules, ruleNo, Book, count, rule}
 use Rattle.meaning.specs.Lowest.{lowest, none, one}
 use Rattle.meaning.specs.Written.{of}
+use Rattle.meaning.specs.Engine.{less}
 use Rattle.meaning.proofs.Tests.{both, not-first, not-second}
 use Rattle.meaning.proofs.Lowest.{none-lowest, one-lowest}
 use Rattle.book.specs.Tables.{atomsIn}
@@ -40,33 +41,29 @@ module _ (s : Rules) where
     pub none-at-all : (b : Book) {m : ℕ} → count b ≡ m → m ≤ n → none ≡ lowest b s
     none-at-all b e h = sym (none-lowest b s (λ r l. none-before .lower r (omega arith)))
 
--- ---- 41 and 42
+-- ---- a test, and not in the array yet
 
-module _ (b : Book) (headed lost on : List Bool) (i r : ℕ) (e : i ≡ r) where
-  pub new-on : {t : Bool} → t ≡ (every (atomsIn headed) (rule b (ruleNo r) .pos) && every (atomsIn lost) (rule b (ruleNo r) .neg)) → t ≡ true
-      → getD on i false ≡ false → newOn b headed lost on (ruleNo r) ≡ true
-  unfolding newOn
-  new-on f t o = both (sym f ∙ t) (ap not (of-place on i r false e o))
+-- s holds the rules that pass t and aren't in l
+pub record Sifts (s t : Rules) (l : List Bool) : Type 0 where
+  pub is : (r : RuleNo) → s r ≡ less t (of l) r
 
-  pub new-on-not : {t : Bool} → t ≡ (every (atomsIn headed) (rule b (ruleNo r) .pos) && every (atomsIn lost) (rule b (ruleNo r) .neg))
-      → t ≡ false → newOn b headed lost on (ruleNo r) ≡ false
-  unfolding newOn
-  new-on-not f t = not-first _ (sym f ∙ t)
+module _ {s t : Rules} {l : List Bool} (sifts : Sifts s t l) {i r : ℕ} (e : i ≡ r) where
+  pub sifts-yes : {x : Bool} → x ≡ t (ruleNo r) → x ≡ true → getD l i false ≡ false → s (ruleNo r) ≡ true
+  sifts-yes f y o = sifts .is _ ∙ both (sym f ∙ y) (ap not (of-place l i r false e o))
 
-  pub new-on-is : getD on i false ≡ true → newOn b headed lost on (ruleNo r) ≡ false
-  unfolding newOn
-  new-on-is o = not-second (every (atomsIn headed) (rule b (ruleNo r) .pos) && every (atomsIn lost) (rule b (ruleNo r) .neg)) (ap not (of-place on i r true e o))
+  pub sifts-not : {x : Bool} → x ≡ t (ruleNo r) → x ≡ false → s (ruleNo r) ≡ false
+  sifts-not f n = sifts .is _ ∙ not-first _ (sym f ∙ n)
 
-module _ (b : Book) (headed off : List Bool) (i r : ℕ) (e : i ≡ r) where
-  pub new-off : {t : Bool} → t ≡ some (atomsIn headed) (rule b (ruleNo r) .neg) → t ≡ true → getD off i false ≡ false
-      → newOff b headed off (ruleNo r) ≡ true
-  unfolding newOff
-  new-off f t o = both (sym f ∙ t) (ap not (of-place off i r false e o))
+  pub sifts-in : getD l i false ≡ true → s (ruleNo r) ≡ false
+  sifts-in o = sifts .is _ ∙ not-second (t (ruleNo r)) (ap not (of-place l i r true e o))
 
-  pub new-off-not : {t : Bool} → t ≡ some (atomsIn headed) (rule b (ruleNo r) .neg) → t ≡ false → newOff b headed off (ruleNo r) ≡ false
-  unfolding newOff
-  new-off-not f t = not-first _ (sym f ∙ t)
+-- 41
+pub new-on-sifts : (b : Book) (headed lost on : List Bool)
+    → Sifts (newOn b headed lost on) (λ r. every (atomsIn headed) (rule b r .pos) && every (atomsIn lost) (rule b r .neg)) on
+unfolding newOn
+new-on-sifts b headed lost on = record { is = λ r. refl }
 
-  pub new-off-is : getD off i false ≡ true → newOff b headed off (ruleNo r) ≡ false
-  unfolding newOff
-  new-off-is o = not-second (some (atomsIn headed) (rule b (ruleNo r) .neg)) (ap not (of-place off i r true e o))
+-- 42
+pub new-off-sifts : (b : Book) (headed off : List Bool) → Sifts (newOff b headed off) (λ r. some (atomsIn headed) (rule b r .neg)) off
+unfolding newOff
+new-off-sifts b headed off = record { is = λ r. refl }

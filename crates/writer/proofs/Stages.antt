@@ -15,19 +15,23 @@ use Rattle.walk.specs.Run.{State, writeAt}
 use Rattle.walk.specs.declared.tally.Halt.{Halt}
 use Rattle.walk.specs.declared.tally.Halt.the-variants.{Going, Full, Limit, NotLeast}
 use Rattle.writer.specs.Scan.{Course, writing, limited, refuted, Progress}
-use Rattle.writer.specs.Name.{paper, refusedAt, refused, Answered, handOver, afterPaperWalk, afterFirstWalk, nameIn, nameReading}
-use Rattle.writer.specs.Name.{nameOf}
+use Rattle.writer.specs.Name.{Told, paper, refusedAt, refused, Answered, handOver, afterPaperWalk, afterFirstWalk}
+use Rattle.writer.specs.Name.{nameIn, nameReading, nameOf}
+
+-- an answer that leaves the buffer
+abbrev pub only : List ℕ → Told → Answered
+only buffer t = record { told = t; buffer = buffer }
 
 -- ---- the paper is handed over
 
 module _ (tries : ℕ) (whole buffer : List ℕ) where
-  pub hand-no-room : length buffer < length whole → handOver tries whole buffer ≡ record { told = refused 14; buffer = buffer }
+  pub hand-no-room : length buffer < length whole → handOver tries whole buffer ≡ only buffer (refused 14)
   unfolding handOver
   hand-no-room h = lt-yes _ _ _ _ h
 
-  pub hand-long : 60000 < length whole → handOver tries whole buffer ≡ record { told = refused 14; buffer = buffer }
+  pub hand-long : 60000 < length whole → handOver tries whole buffer ≡ only buffer (refused 14)
   unfolding handOver
-  hand-long h = lt-either (λ a. a ≡ record { told = refused 14; buffer = buffer }) _ _ _ _ (λ g. refl) (λ g. lt-yes _ _ _ _ h)
+  hand-long h = lt-either (λ a. a ≡ only buffer (refused 14)) _ _ _ _ (λ g. refl) (λ g. lt-yes _ _ _ _ h)
 
   pub hand-over : length whole ≤ length buffer → length whole ≤ 60000 → handOver tries whole buffer
       ≡ record { told = paper tries (length whole); buffer = whole ++ drop (length whole) buffer }
@@ -67,7 +71,7 @@ module _ (b : Book) (k : Claim) (limit : ℕ) (buffer : List ℕ) where
 -- ---- the book's refusals, and 13
 
 module _ (book : List ℕ) (a : AtomNo) (limit : ℕ) (buffer : List ℕ) where
-  pub name-bad-book : (i at : ℕ) → readOf book ≡ bad i at → nameOf book a limit buffer ≡ record { told = refusedAt i at; buffer = buffer }
+  pub name-bad-book : (i at : ℕ) → readOf book ≡ bad i at → nameOf book a limit buffer ≡ only buffer (refusedAt i at)
   unfolding nameOf nameReading
   name-bad-book i at e = rw e
 
@@ -76,7 +80,7 @@ module _ (book : List ℕ) (a : AtomNo) (limit : ℕ) (buffer : List ℕ) where
     unfolding nameOf nameReading
     name-good-book = rw e
 
-    pub name-no-atom : n ≤ a .0 → nameOf book a limit buffer ≡ record { told = refused 13; buffer = buffer }
+    pub name-no-atom : n ≤ a .0 → nameOf book a limit buffer ≡ only buffer (refused 13)
     unfolding nameIn claimed
     name-no-atom h = name-good-book ∙ lt-no _ _ _ _ h
 

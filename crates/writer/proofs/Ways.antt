@@ -27,11 +27,11 @@ use Rattle.walk.proofs.Needs.{kth-or-fewer}
 use Rattle.writer.specs.Branches.{branches}
 use Rattle.writer.specs.Needs.{settled, Stuck, Needs, to-stuck, paperFor}
 use Rattle.writer.specs.Needs.{to-end as to-last}
-use Rattle.writer.specs.Name.{Told, paper, fewer, stopped, refused, Answered, firstWalk, paperWalk, handOver}
+use Rattle.writer.specs.Name.{paper, fewer, stopped, refused, Answered, firstWalk, paperWalk, handOver}
 use Rattle.writer.specs.Name.{afterPaperWalk, afterFirstWalk, nameIn}
 use Rattle.writer.proofs.Needs.{stuck-some, paper-limited, paper-stuck, paper-written}
 use Rattle.writer.proofs.Papers.{paper-whole}
-use Rattle.writer.proofs.Stages.{hand-no-room, hand-long, hand-over}
+use Rattle.writer.proofs.Stages.{only, hand-no-room, hand-long, hand-over}
 use Rattle.writer.proofs.First.{set-in-first, kth-answer, first-limited, first-none, first-found}
 
 -- a book within the bounds of the format whose heads are its atoms, and a claim of one of its atoms
@@ -48,10 +48,6 @@ fits-nameable b k fits h = record {
   heads-below = λ r g. fits .each (rule b r) (rule-member b r g) .head;
   atom-below = h;
 }
-
--- an answer that leaves the buffer
-abbrev pub only : List ℕ → Told → Answered
-only buffer t = record { told = t; buffer = buffer }
 
 -- the answer where the paper with the witness of x stands in the buffer; its tries are the branches
 abbrev pub written : Book → Claim → List ℕ → Atoms → Answered

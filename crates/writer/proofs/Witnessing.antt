@@ -9,16 +9,15 @@ use native.Mathlib.Omega.{arith}
 use lib.ListN.{length, getD, set, replicate, length-append, length-set}
 use Rattle.meaning.specs.declared.RuleNo.{RuleNo}
 use Rattle.meaning.specs.Sets.{every, some}
-use Rattle.meaning.specs.Books.{Rules, atomNo, sameRule, among, Book, count, rule}
-use Rattle.meaning.specs.Colours.{heads, plus}
+use Rattle.meaning.specs.Books.{Rules, atomNo, among, Book, count, rule}
+use Rattle.meaning.specs.Colours.{heads}
 use Rattle.meaning.specs.Paper.{numbers}
 use Rattle.meaning.specs.Written.{of}
 use Rattle.meaning.specs.Lowest.{none, one, onPick, lowest}
 use Rattle.meaning.specs.Engine.{less, listable, listing}
 use Rattle.meaning.proofs.Tests.{not-first, not-second}
-use Rattle.meaning.proofs.Sets.{some-append}
 use Rattle.meaning.proofs.Lowest.{lowest-one}
-use Rattle.meaning.proofs.Written.{of-set, of-none}
+use Rattle.meaning.proofs.Written.{of-none}
 use Rattle.book.specs.declared.reader.Shape.{Shape}
 use Rattle.book.specs.Format.{bookIn, ReadAs}
 use Rattle.book.specs.Tables.{atomTable, atomsIn}
@@ -29,7 +28,7 @@ use Rattle.book.proofs.Asked.{every-table, pos-small}
 use Rattle.writer.specs.Draft.{Writes}
 use Rattle.writer.specs.Steps.{mayList}
 use Rattle.writer.proofs.Drafts.{writes-nil, writes-then}
-use Rattle.writer.proofs.Lists.{numbers-append}
+use Rattle.writer.proofs.Lists.{numbers-append, put-end}
 
 -- ---- one rule
 
@@ -51,7 +50,8 @@ module _ (b : Book) (s : Rules) (l : List Bool) (r : RuleNo) where
 module _ (s : List ℕ) (h : Shape) (e : ReadAs s h) (n : h .atoms < 256) (r : RuleNo) (m : r .0 < h .rules) (l headed : List Bool)
     (f : headed ≡ atomTable (heads (bookIn s) (of l))) where
   pub list-may : (part : List ℕ) → part ≡ atomBytes (rule (bookIn s) r .pos) → {i : ℕ} → i ≡ r .0 → getD l i false ≡ false
-      → {g : Bool} (t : Rules) → g ≡ t r → g ≡ true → {x : Bool} → x ≡ every (atomsIn headed) (map atomNo part) → x ≡ mayList (bookIn s) t l r
+      → {g : Bool} (t : Rules) → g ≡ t r → g ≡ true → {x : Bool} → x ≡ every (atomsIn headed) (map atomNo part)
+      → x ≡ mayList (bookIn s) t l r
   list-may part p i q t u v x = list-by (bookIn s) t l r i q u v
       (x ∙ every-part _ _ _ p ∙ ap (λ z. every (atomsIn z) (rule (bookIn s) r .pos)) f ∙ every-table _ _ (pos-small s h e n r m))
 
@@ -92,6 +92,10 @@ module _ (b : Book) (s : Rules) (at : ℕ) (before : List ℕ) where
     written = writes-nil at before;
   }
 
+  -- the whole witness is written, and m counts its rules
+  abbrev pub Witnessed : ℕ → ℕ → List ℕ → Type 0
+  Witnessed m n out = (m ≡ length (listing b s (count b) [])) × Writes (numbers (listing b s (count b) [])) at before n out
+
   module _ {m n : ℕ} {l : List Bool} {out : List ℕ} (d : Listing b s at before m l n out) where
     -- what the search asks is what the definition asks
     asked : mayList b s l ≡ listable b s (d .rules)
@@ -107,16 +111,15 @@ module _ (b : Book) (s : Rules) (at : ℕ) (before : List ℕ) where
       listing-more {i} h f g w = record {
         rules = d .rules ++ (r ∷ []);
         long = length-set l i true ∙ d .long;
-        held = rw f (of-set l r (omega (arith, d .long, listed-below h))) ∙ ap (λ t. plus t (r ∷ [])) (d .held)
-            ∙ fun-ext (λ q. sym (some-append (sameRule q) (d .rules) (r ∷ [])));
+        held = put-end (λ q. false) (d .rules) l r f (omega (arith, d .long, listed-below h)) (d .held);
         counted = rw length-append (omega (arith, d .counted));
         whole = d .whole ∙ one-more b s (d .rules) r (e ∙ ap (lowest b) asked) m g;
         written = rw numbers-append (writes-then (d .written) w);
       }
 
     -- no rule may be listed, or all are
-    pub listing-ends : none ≡ lowest b (mayList b s l) → (m ≡ length (listing b s (count b) [])) × Writes (numbers (listing b s (count b) [])) at before n out
+    pub listing-ends : none ≡ lowest b (mayList b s l) → Witnessed m n out
     listing-ends e = rw (d .whole ∙ no-more b s (d .rules) (e ∙ ap (lowest b) asked) (count b - m)) (d .counted, d .written)
 
-    pub listing-full : count b ≤ m → (m ≡ length (listing b s (count b) [])) × Writes (numbers (listing b s (count b) [])) at before n out
+    pub listing-full : count b ≤ m → Witnessed m n out
     listing-full h = rw (d .whole ∙ no-turns b s (d .rules) (count b) m h) (d .counted, d .written)

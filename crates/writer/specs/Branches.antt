@@ -1,5 +1,5 @@
--- The branches of the engine's own paper, in their order. Document 01, "The engine's own paper": "Each branch, the first included, counts as
--- one try."
+-- The branches of the engine's own paper, in their order. Document 01, "The engine's own paper": "Each branch, the first included, counts
+-- as one try."
 --
 --   branch b k c     the branch that starts with the pair c: its bytes, and how it ends
 --   branches b k c   that branch and those below it, in the order of the paper; their bytes, one after the other, are the paper's steps

@@ -7,7 +7,6 @@
 --   Wrote t m out w out'   the branch t was written, and w says how it ended
 --   Stage p out s          the code's p and the array stand for the progress s
 use mathlib.Core.Path.{_≡_}
-use mathlib.Core.Bool.{Bool}
 use mathlib.Core.List.{List, [], _∷_, _++_}
 use Prim.Native.Nat.{ℕ, _≤_, _<_}
 use lib.ListN.{length, take}

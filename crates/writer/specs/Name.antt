@@ -4,7 +4,7 @@
 --   told             an answer's number and values, case by case
 --   nameOf book a limit paper    the answer and the buffer, of the bytes of the book and of the buffer before
 use mathlib.Core.List.{List, [], _++_}
-use Prim.Native.Nat.{ℕ, _+_}
+use Prim.Native.Nat.{ℕ}
 use lib.ListN.{length, replicate}
 use Rattle.meaning.specs.declared.AtomNo.{AtomNo}
 use Rattle.meaning.specs.Books.{Book}
@@ -25,7 +25,8 @@ use Rattle.walk.specs.declared.tally.Halt.the-variants.{Going, Full, Limit, Not
 use Rattle.writer.specs.Branches.{branches}
 use Rattle.writer.specs.Scan.{Course, writing, limited, refuted, Progress, scan}
 use Rattle.writer.specs.declared.answer.Named.{Named}
-use Rattle.writer.specs.declared.answer.Named.the-variants.{Paper, Fewer, Stopped, Book as BadBook, NotLeast as Wrong, NotCertain, NoAtom, TooLong}
+use Rattle.writer.specs.declared.answer.Named.the-variants.{Paper, Fewer, Stopped, NotCertain, NoAtom, TooLong}
+use Rattle.writer.specs.declared.answer.Named.the-variants.{Book as BadBook, NotLeast as Wrong}
 
 -- success tells the tries of the paper's walk and the paper's length; 11 tells all tries of the first walk, and no sets; 9 tells L
 pub data Told : Type 0 where

@@ -1,5 +1,5 @@
--- The writer's way along the branches. Document 01: "A branch with no step left, all rules coloured and 45 not allowed settles that the atom
--- isn't certain, and the walk stops there."
+-- The writer's way along the branches. Document 01: "A branch with no step left, all rules coloured and 45 not allowed settles that the
+-- atom isn't certain, and the walk stops there."
 --
 --   scan limit p l   the progress after the branches of the list, from the progress p
 use mathlib.Core.List.{List, [], _∷_, _++_}

@@ -1,7 +1,8 @@
 -- The code's steps in the words of the meaning, and the tests of its searches: what the functions of src/ promise each other.
 --
 --   lent on off          the pair that two written-out sets stand for
---   newOn, newOff        the rules that 41 and 42 are for, asked by tables of atoms: "may go on and isn't on", "may go off so and isn't off"
+--   newOn, newOff        the rules that 41 and 42 are for, asked by tables of atoms: "may go on and isn't on", "may go off so and isn't
+--                        off"
 --   outside marks off    the rules that are neither marked nor off
 --   mayList b s l        the rules of s that may be listed next, where those of l are listed
 --   Listed b m l w       the array l holds the m rules of the list w

@@ -48,7 +48,8 @@ pub fn next_step<'a>(
 ) -> Step
     requires { ⌜ ReadAs (now book) shape × (atom .0 < shape .atoms) ⌝ }
     ensures { λ x. ⌜ Does (bookIn (now (book .entry))) (now (dropped .exit)) x
-        (next (bookIn (now (book .entry))) (named atom) (lent (now (on .entry)) (now (off .entry)))) ⌝ }
+        (next (bookIn (now (book .entry))) (named atom)
+        (lent (now (on .entry)) (now (off .entry)))) ⌝ }
 {
     if clashes(shape.rules, on, off) {
         return Step::Stops(Tip::Ended);

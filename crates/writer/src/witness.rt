@@ -42,7 +42,8 @@ fn may_list(
     requires { ⌜ ReadAs (now book) shape × (r .0 < shape .rules)
         × (now headed ≡ atomTable (heads (bookIn (now book)) (of (now listed)))) ⌝ }
     ensures { λ x. ⌜ x ≡ mayList (bookIn (now (book .entry)))
-        (generating (bookIn (now (book .entry))) (setIn (now (row .entry)))) (now (listed .entry)) r ⌝ }
+        (generating (bookIn (now (book .entry))) (setIn (now (row .entry))))
+        (now (listed .entry)) r ⌝ }
 {
     if listed[wide(r.0)] {
         return false;
@@ -58,7 +59,8 @@ fn next_listed(book: &[u8], shape: Shape, row: &[u8; 255], listed: &[bool; 255])
     requires { ⌜ ReadAs (now book) shape ⌝ }
     ensures { λ x. ⌜ picked x ≡ lowest (bookIn (now (book .entry)))
         (mayList (bookIn (now (book .entry)))
-        (generating (bookIn (now (book .entry))) (setIn (now (row .entry)))) (now (listed .entry))) ⌝ }
+        (generating (bookIn (now (book .entry))) (setIn (now (row .entry))))
+        (now (listed .entry))) ⌝ }
 {
     let mut headed = [false; 255];
     heads_of(book, shape, listed, &mut headed);

@@ -1,9 +1,8 @@
 -- One branch: what is written, with the branch from the colours as they stand behind it, is the whole branch; each step that does not end
 -- it fills a place that had nothing, of which there are finitely many.
-use mathlib.Core.Path.{_≡_, refl, sym, _∙_}
+use mathlib.Core.Path.{_≡_}
 use Prim.Native.Nat.{_≤_, _<_}
 use native.Mathlib.Omega.{arith}
-use lib.ListN.{length}
 use borrow.Author.Needs.{needs}
 use Rattle.meaning.specs.Books.{count}
 use Rattle.meaning.specs.Claim.{named}
@@ -24,73 +23,102 @@ abbrev μ-loop : tie.MeasureT-loop
 μ-loop book shape atom draft₀ at on₀ off₀ marks dropped₀ n₀ draft on off dropped n = missing (bookIn book) (lent on off)
 
 -- a good book has at most 255 rules
-few : (s : tie.Start Inv-loop μ-loop) → count (bookIn (s .args .book .now)) ≤ 255
-few s =
-    let n : s .args .shape .rules < 256 = search needs in
-    omega (arith, shape-count _ _ (s .pre .0))
+module _ (s : tie.Start Inv-loop μ-loop) where
+  counted : count (bookIn (s .args .book .now)) ≡ s .args .shape .rules
+  counted = shape-count _ _ (s .pre .0)
+
+  few : count (bookIn (s .args .book .now)) ≤ 255
+  few =
+      let n : s .args .shape .rules < 256 = search needs in
+      omega (arith, counted)
+
+-- the turn of the loop in which a step was chosen, and the start
+module _ (c : tie.After-next-step Inv-loop μ-loop) where
+  abbrev turn : tie.At-loop Inv-loop μ-loop
+  turn = c .before .before .before .before
+
+  abbrev start : tie.Start Inv-loop μ-loop
+  start = turn .before .before .before .before .before
 
 loop-holds : tie.Need-loop-holds Inv-loop μ-loop
 loop-holds c = ahead-start _ _ _ _ _ _ (search needs) (search needs)
 
+-- ---- 41
+
 array-write-on : tie.Need-array-write-on Inv-loop μ-loop
 array-write-on c =
-    let k = c .before .before .before .before .before .before .before .before in
-    let d = rw (c .before .before .r .given .1) at (c .before .before .before .before .next-step .ensures) in
-    let h = on-below (few (c .before .before .before .before .before .before .before .before .before .before .before .before .before)) (k .loop .inv) d (c .wide .ensures .0) in
+    let p = c .before .before .before .before in
+    let d = rw (c .before .before .r .given .1) at (p .next-step .ensures) in
+    let h = on-below (few (start p)) (turn p .loop .inv) d (c .wide .ensures .0) in
     search needs
 
 loop-less : tie.Need-loop-less Inv-loop μ-loop
 loop-less c =
-    let k = c .before .before .before .before .before .before .before .before .before .before in
-    let d = rw (c .before .before .before .before .r .given .1) at (c .before .before .before .before .before .before .next-step .ensures) in
-    on-fewer (few (c .before .before .before .before .before .before .before .before .before .before .before .before .before .before .before)) (k .loop .inv) d (c .before .before .wide .ensures .0)
+    let w = c .before .before in
+    let p = w .before .before .before .before in
+    let d = rw (w .before .before .r .given .1) at (p .next-step .ensures) in
+    on-fewer (few (start p)) (turn p .loop .inv) d (w .wide .ensures .0)
 
 loop-again : tie.Need-loop-again Inv-loop μ-loop
 loop-again c =
-    let k = c .before .before .before .before .before .before .before .before .before .before in
-    let d = rw (c .before .before .before .before .r .given .1) at (c .before .before .before .before .before .before .next-step .ensures) in
-    ahead-on (few (c .before .before .before .before .before .before .before .before .before .before .before .before .before .before .before)) (k .loop .inv) d (c .before .before .wide .ensures .0) (c .write-step .ensures)
+    let w = c .before .before in
+    let p = w .before .before .before .before in
+    let d = rw (w .before .before .r .given .1) at (p .next-step .ensures) in
+    ahead-on (few (start p)) (turn p .loop .inv) d (w .wide .ensures .0) (c .write-step .ensures)
+
+-- ---- 42
 
 array-write-off : tie.Need-array-write-off Inv-loop μ-loop
 array-write-off c =
-    let k = c .before .before .before .before .before .before .before .before in
-    let d = rw (c .before .before .r2 .given .1) at (c .before .before .before .before .next-step .ensures) in
-    let h = off-below (few (c .before .before .before .before .before .before .before .before .before .before .before .before .before)) (k .loop .inv) d (c .wide2 .ensures .0) in
+    let p = c .before .before .before .before in
+    let d = rw (c .before .before .r2 .given .1) at (p .next-step .ensures) in
+    let h = off-below (few (start p)) (turn p .loop .inv) d (c .wide2 .ensures .0) in
     search needs
 
 loop-less-2 : tie.Need-loop-less-2 Inv-loop μ-loop
 loop-less-2 c =
-    let k = c .before .before .before .before .before .before .before .before .before .before in
-    let d = rw (c .before .before .before .before .r2 .given .1) at (c .before .before .before .before .before .before .next-step .ensures) in
-    off-fewer (few (c .before .before .before .before .before .before .before .before .before .before .before .before .before .before .before)) (k .loop .inv) d (c .before .before .wide2 .ensures .0)
+    let w = c .before .before in
+    let p = w .before .before .before .before in
+    let d = rw (w .before .before .r2 .given .1) at (p .next-step .ensures) in
+    off-fewer (few (start p)) (turn p .loop .inv) d (w .wide2 .ensures .0)
 
 loop-again-2 : tie.Need-loop-again-2 Inv-loop μ-loop
 loop-again-2 c =
-    let k = c .before .before .before .before .before .before .before .before .before .before in
-    let d = rw (c .before .before .before .before .r2 .given .1) at (c .before .before .before .before .before .before .next-step .ensures) in
-    ahead-off (few (c .before .before .before .before .before .before .before .before .before .before .before .before .before .before .before)) (k .loop .inv) d (c .before .before .wide2 .ensures .0) (c .write-step2 .ensures)
+    let w = c .before .before in
+    let p = w .before .before .before .before in
+    let d = rw (w .before .before .r2 .given .1) at (p .next-step .ensures) in
+    ahead-off (few (start p)) (turn p .loop .inv) d (w .wide2 .ensures .0) (c .write-step2 .ensures)
+
+-- ---- 55
 
 drop-rules-requires : tie.Need-drop-rules-requires Inv-loop μ-loop
-drop-rules-requires c κs = c .before .before .before .before .before .before .before .before .before .before .before .before .before .before .loop .inv .off-long
+drop-rules-requires c κs = turn (c .before .before .before .before .before .before .before .before .before .before) .loop .inv .off-long
 
 loop-less-3 : tie.Need-loop-less-3 Inv-loop μ-loop
 loop-less-3 c =
-    let k = c .before .before .before .before .before .before .before .before .before .before .before .before .before .before .before in
-    let d = rw (c .before .before .before .before .before .before .before .before .before .m .given .1) at (c .before .before .before .before .before .before .before .before .before .before .before .next-step .ensures) in
-    let (h, e, w) = c .drop-rules .ensures (bookIn (k .before .before .before .before .before .args .book .now)) (shape-count _ _ (k .before .before .before .before .before .pre .0)) in
-    drop-fewer (few (c .before .before .before .before .before .before .before .before .before .before .before .before .before .before .before .before .before .before .before .before)) (k .loop .inv) _ d e
+    let q = c .before .before .before .before .before .before .before .before .before in
+    let p = q .before .before in
+    let d = rw (q .m .given .1) at (p .next-step .ensures) in
+    let (h, e, w) = c .drop-rules .ensures (bookIn (start p .args .book .now)) (counted (start p)) in
+    drop-fewer (few (start p)) (turn p .loop .inv) _ d e
 
 loop-again-3 : tie.Need-loop-again-3 Inv-loop μ-loop
 loop-again-3 c =
-    let k = c .before .before .before .before .before .before .before .before .before .before .before .before .before .before .before in
-    let d = rw (c .before .before .before .before .before .before .before .before .before .m .given .1) at (c .before .before .before .before .before .before .before .before .before .before .before .next-step .ensures) in
-    let (h, e, w) = c .drop-rules .ensures (bookIn (k .before .before .before .before .before .args .book .now)) (shape-count _ _ (k .before .before .before .before .before .pre .0)) in
-    ahead-drop (few (c .before .before .before .before .before .before .before .before .before .before .before .before .before .before .before .before .before .before .before .before)) (k .loop .inv) _ d e h (c .before .before .before .before .before .before .write .ensures) (c .before .before .before .before .write2 .ensures) w
+    let v = c .before .before .before .before in
+    let u = v .before .before in
+    let q = u .before .before .before in
+    let p = q .before .before in
+    let d = rw (q .m .given .1) at (p .next-step .ensures) in
+    let (h, e, w) = c .drop-rules .ensures (bookIn (start p .args .book .now)) (counted (start p)) in
+    ahead-drop (few (start p)) (turn p .loop .inv) _ d e h (u .write .ensures) (v .write2 .ensures) w
+
+-- ---- the last step
 
 returns : tie.Need-returns Inv-loop μ-loop
 returns c =
-    let d = rw (c .before .before .before .tip .given .1) at (c .before .before .before .before .before .next-step .ensures) in
-    ahead-stops (few (c .before .before .before .before .before .before .before .before .before .before .before .before .before .before)) (c .before .before .before .before .before .before .before .before .before .loop .inv) d (c .write-tip .ensures)
+    let p = c .before .before .before .before .before in
+    let d = rw (c .before .before .before .tip .given .1) at (p .next-step .ensures) in
+    ahead-stops (few (start p)) (turn p .loop .inv) d (c .write-tip .ensures)
 
 pub write-branch-spec : {M : Type 1} → statement M
 write-branch-spec =

@@ -28,7 +28,10 @@ loop-again c =
     )
 
 returns : tie.Need-returns Inv-loop μ-loop
-returns c = let s = c .before .before in copy-whole (s .args .draft .now) (s .args .paper .now) (c .before .loop .i) (s .args .n) (omega arith) (omega arith) (c .before .loop .inv .2)
+returns c =
+    let k = c .before in
+    let a = k .before .args in
+    copy-whole (a .draft .now) (a .paper .now) (k .loop .i) (a .n) (omega arith) (omega arith) (k .loop .inv .2)
 
 pub copy-spec : {M : Type 1} → statement M
 copy-spec =

@@ -5,7 +5,9 @@ use Rattle.writer.proofs.hand_over.finish.Statement.{statement}
 use Rattle.writer.proofs.hand_over.finish.Tie as tie
 
 returns : tie.Need-returns
-returns c = λ steps s. paper-whole _ _ _ steps s (c .before .before .write-witness .ensures .0) (c .before .before .write-witness .ensures .1) (c .write-trailer .ensures)
+returns c = λ steps s.
+    let (counted, listed) = c .before .before .write-witness .ensures in
+    paper-whole _ _ _ steps s counted listed (c .write-trailer .ensures)
 
 pub finish-spec : {M : Type 1} → statement M
 finish-spec = tie.close (tie.spec (λ c κs. search needs) (λ c κs. search needs) returns)

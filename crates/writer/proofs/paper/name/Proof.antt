@@ -6,18 +6,24 @@ use Rattle.writer.proofs.paper.name.Statement.{statement}
 use Rattle.writer.proofs.paper.name.Tie as tie
 
 returns : tie.Need-returns
-returns c = name-no-atom _ _ _ _ (c .before .before .before .before .before .before .read-book .ensures) (c .before .before .before .before .shape .given .1) (omega arith)
+returns c =
+    let g = c .before .before .before .before in
+    name-no-atom _ _ _ _ (g .before .before .read-book .ensures) (g .shape .given .1) (omega arith)
 
 name-in-requires : tie.Need-name-in-requires
 name-in-requires c κs =
-    let s = c .before .before .before .before .before .before .before .before .before .before in
-    (read-as (s .args .atom) (s .args .limit) (s .args .paper .now) _ (c .before .before .before .before .before .before .before .read-book .ensures) (c .before .before .before .before .before .shape .given .1), omega arith)
+    let g = c .before .before .before .before .before in
+    let a = g .before .before .before .before .before .args in
+    (read-as (a .atom) (a .limit) (a .paper .now) _ (g .before .before .read-book .ensures) (g .shape .given .1), omega arith)
 
 returns-2 : tie.Need-returns-2
 returns-2 c = name-bad _ _ _ _ (c .before .before .before .read-book .ensures) (c .before .why .given .1)
 
 returns-3 : tie.Need-returns-3
-returns-3 c = name-good _ _ _ _ (c .before .before .before .before .before .before .before .before .before .before .read-book .ensures) (c .before .before .before .before .before .before .before .before .shape .given .1) (c .before .before .name-in .ensures)
+returns-3 c =
+    let n = c .before .before in
+    let g = n .before .before .before .before .before .before in
+    name-good _ _ _ _ (g .before .before .read-book .ensures) (g .shape .given .1) (n .name-in .ensures)
 
 pub name-spec : {M : Type 1} → statement M
 name-spec =

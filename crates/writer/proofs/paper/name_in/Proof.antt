@@ -1,10 +1,12 @@
 -- A naming in a good book: each return is a law of what is told after the two walks.
+use mathlib.Core.Path.{_≡_}
 use Prim.Native.Nat.{_<_}
 use native.Mathlib.Omega.{arith}
 use borrow.Author.Needs.{needs}
 use Rattle.meaning.specs.Claim.{named, claimed}
 use Rattle.book.specs.Format.{bookIn}
 use Rattle.book.proofs.Places.{shape-atoms}
+use Rattle.walk.specs.declared.tally.Halt.the-variants.{Full}
 use Rattle.writer.specs.Name.{firstWalk, paperWalk}
 use Rattle.writer.specs.Draft.{Stage}
 use Rattle.writer.proofs.Drafts.{stands-most}
@@ -19,43 +21,79 @@ in-book : (s : tie.Start) → claimed (named (s .args .atom)) .0 < bookIn (s .ar
 unfolding claimed
 in-book s = omega (arith, shape-atoms _ _ (s .pre .0), s .pre .1)
 
--- the draft behind the paper's walk
-drafted : (c : tie.After-write-branches) → Stage (c .write-branches .result) (c .write-branches .last .1 .1 .1 .1 .1 .1 .0)
-    (paperWalk (bookIn (c .before .before .before .before .before .before .before .before .before .args .book .now)) (named (c .before .before .before .before .before .before .before .before .before .args .atom)) (c .before .before .before .before .before .before .before .before .before .args .limit))
-drafted c = stage-paper _ _ _ (c .before .before .empty .ensures) (c .write-branches .ensures blank stage-blank (omega arith))
+-- behind the first walk, the start
+abbrev start : tie.After-first → tie.Start
+start c = c .before .before .before .before
+
+-- behind the paper's walk: the first walk found its reading, and the draft is what the walk comes to
+module _ (c : tie.After-write-branches) where
+  abbrev walked : tie.After-first
+  walked = c .before .before .before .before .before
+
+  full : walked .first .result .halt ≡ Full
+  full = c .before .before .before .enum-told4 .given .1
+
+  drafted : let a = start walked .args in
+      Stage (c .write-branches .result) (c .write-branches .last .1 .1 .1 .1 .1 .1 .0)
+      (paperWalk (bookIn (a .book .now)) (named (a .atom)) (a .limit))
+  drafted = stage-paper _ _ _ (c .before .before .empty .ensures) (c .write-branches .ensures blank stage-blank (omega arith))
+
+-- ---- the first walk ends otherwise
 
 returns : tie.Need-returns
 unfolding firstWalk
-returns c = name-fewer _ _ _ _ (in-book (c .before .before .before .before .before .before)) (c .before .before .first .ensures) (c .enum-told .given .1)
+returns c =
+    let f = c .before .before in
+    name-fewer _ _ _ _ (in-book (start f)) (f .first .ensures) (c .enum-told .given .1)
 
 returns-2 : tie.Need-returns-2
 unfolding firstWalk
-returns-2 c = name-first-limit _ _ _ _ (in-book (c .before .before .before .before .before .before)) (c .before .before .first .ensures) (c .enum-told2 .given .1)
+returns-2 c =
+    let f = c .before .before in
+    name-first-limit _ _ _ _ (in-book (start f)) (f .first .ensures) (c .enum-told2 .given .1)
 
 returns-3 : tie.Need-returns-3
 unfolding firstWalk
-returns-3 c = name-not-least _ _ _ _ (in-book (c .before .before .before .before .before .before)) (c .before .before .first .ensures) (c .enum-told3 .given .1)
+returns-3 c =
+    let f = c .before .before in
+    name-not-least _ _ _ _ (in-book (start f)) (f .first .ensures) (c .enum-told3 .given .1)
+
+-- ---- the paper's walk
 
 finish-requires : tie.Need-finish-requires
-finish-requires c κs = let m = stands-most (drafted (c .before .before .before .before) .bytes) in (c .before .before .before .before .before .before .before .before .before .before .before .before .before .pre .0, omega arith)
+finish-requires c κs =
+    let w = c .before .before .before .before in
+    let m = stands-most (drafted w .bytes) in
+    (start (walked w) .pre .0, omega arith)
 
 hand-over-requires : tie.Need-hand-over-requires
-hand-over-requires c κs = stands-long (c .before .before .finish .ensures _ (drafted (c .before .before .before .before .before .before .before) .bytes))
+hand-over-requires c κs =
+    let p = c .before .before in
+    stands-long (p .finish .ensures _ (drafted (p .before .before .before .before .before) .bytes))
 
 returns-4 : tie.Need-returns-4
 unfolding firstWalk
-returns-4 c = name-limited _ _ _ _ (in-book (c .before .before .before .before .before .before .before .before .before .before .before)) (c .before .before .before .before .before .before .before .first .ensures) (c .before .before .before .before .before .enum-told4 .given .1) (drafted (c .before .before)) (c .enum-told5 .given .1)
+returns-4 c =
+    let w = c .before .before in
+    let f = walked w in
+    name-limited _ _ _ _ (in-book (start f)) (f .first .ensures) (full w) (drafted w) (c .enum-told5 .given .1)
 
 returns-5 : tie.Need-returns-5
 unfolding firstWalk
-returns-5 c = name-refuted _ _ _ _ (in-book (c .before .before .before .before .before .before .before .before .before .before .before)) (c .before .before .before .before .before .before .before .first .ensures) (c .before .before .before .before .before .enum-told4 .given .1) (drafted (c .before .before)) (c .enum-told6 .given .1)
+returns-5 c =
+    let w = c .before .before in
+    let f = walked w in
+    name-refuted _ _ _ _ (in-book (start f)) (f .first .ensures) (full w) (drafted w) (c .enum-told6 .given .1)
 
 returns-6 : tie.Need-returns-6
 unfolding firstWalk
 returns-6 c =
-    let d = drafted (c .before .before .before .before .before .before .before .before .before .before) in
-    name-handed _ _ _ _ (in-book (c .before .before .before .before .before .before .before .before .before .before .before .before .before .before .before .before .before .before .before)) (c .before .before .before .before .before .before .before .before .before .before .before .before .before .before .before .first .ensures) (c .before .before .before .before .before .before .before .before .before .before .before .before .before .enum-told4 .given .1) d (c .before .before .before .before .before .before .before .before .enum-told7 .given .1)
-    (c .before .before .hand-over .ensures _ (c .before .before .before .before .before .finish .ensures _ (d .bytes)))
+    let p = c .before .before .before .before .before in
+    let e = p .before .before .before in
+    let w = e .before .before in
+    let f = walked w in
+    name-handed _ _ _ _ (in-book (start f)) (f .first .ensures) (full w) (drafted w) (e .enum-told7 .given .1)
+    (c .before .before .hand-over .ensures _ (p .finish .ensures _ (drafted w .bytes)))
 
 pub name-in-spec : {M : Type 1} → statement M
 name-in-spec =

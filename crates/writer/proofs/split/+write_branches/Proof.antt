@@ -15,6 +15,7 @@ use Rattle.meaning.specs.Written.{colourOn, colourOff, pair}
 use Rattle.book.specs.Format.{bookIn}
 use Rattle.book.proofs.Places.{shape-count}
 use Rattle.writer.specs.declared.step.Tip.the-variants.{Parted}
+use Rattle.writer.specs.declared.split.Course.the-variants.{Writing}
 use Rattle.writer.proofs.Branches.{left}
 use Rattle.writer.proofs.Drafting.{not-writing, stage-over, stage-stopped, stage-ended, stage-unsettled, stage-parted}
 use Rattle.writer.proofs.Drafting.{part-below, part-on, part-off, part-fewer}
@@ -48,16 +49,34 @@ calls t = (
   with-off-reads.Learnt,
 )
 
+-- a good book has at most 255 rules
 few : (t : ℕ) (s : lts.Start (calls t) (at-measure t) branches.Post) → count (bookIn (s .args .book .now)) ≤ 255
 few t s = omega (arith, shape-count _ _ (s .pre .1 .0))
 
+-- behind a branch that was written: the start, where the walk was writing and had tries left
+module _ (t : ℕ) (c : lts.After-write-branch (calls t) (at-measure t) branches.Post) where
+  abbrev start : lts.Start (calls t) (at-measure t) branches.Post
+  start = c .before .before .before .before .before .before .before
+
+  going : start .args .p .course ≡ Writing
+  going = c .before .before .before .before .enum-told .given .1
+
+  room : start .args .p .tries < start .args .limit
+  room = omega (arith, c .before .before .if1 .left)
+
 -- behind a branch that ends with a split on r
 module _ (t : ℕ) (c : lts.After-d (calls t) (at-measure t) branches.Post) where
+  abbrev written : lts.After-write-branch (calls t) (at-measure t) branches.Post
+  written = c .before .before .before .before .before
+
+  abbrev first : lts.Start (calls t) (at-measure t) branches.Post
+  first = start t written
+
   abbrev r : RuleNo
   r = c .before .before .tip .given .0 .0
 
   abbrev d : Colouring
-  d = c .before .before .before .before .before .write-branch .result .colours
+  d = written .write-branch .result .colours
 
   on-long : length (d .on) ≡ 255
   on-long = search needs
@@ -65,86 +84,68 @@ module _ (t : ℕ) (c : lts.After-d (calls t) (at-measure t) branches.Post) wher
   off-long : length (d .off) ≡ 255
   off-long = search needs
 
-  cut : c .before .before .before .before .before .write-branch .result .tip ≡ Parted r
+  cut : written .write-branch .result .tip ≡ Parted r
   cut = c .before .before .tip .given .1
 
   low : r .0 < 255
-  low = part-below _ _ (few t (c .before .before .before .before .before .before .before .before .before .before .before .before)) _ (c .before .before .before .before .before .write-branch .ensures) cut
+  low = part-below _ _ (few t first) _ (written .write-branch .ensures) cut
 
   on-pair : {x : Colouring} → x ≡ colourOn r d → pair x ≡ put onSide (r ∷ []) (pair d)
-  on-pair e = part-on _ _ (few t (c .before .before .before .before .before .before .before .before .before .before .before .before)) _ (c .before .before .before .before .before .write-branch .ensures) cut on-long e
+  on-pair e = part-on _ _ (few t first) _ (written .write-branch .ensures) cut on-long e
 
   off-pair : {x : Colouring} → x ≡ colourOff r d → pair x ≡ put offSide (r ∷ []) (pair d)
-  off-pair e = part-off _ _ (few t (c .before .before .before .before .before .before .before .before .before .before .before .before)) _ (c .before .before .before .before .before .write-branch .ensures) cut off-long e
+  off-pair e = part-off _ _ (few t first) _ (written .write-branch .ensures) cut off-long e
 
-  fewer : (x : Side) (q : Pair) → q ≡ put x (r ∷ []) (pair d) → left (bookIn (c .before .before .before .before .before .before .before .before .before .before .before .before .args .book .now)) q < t
+  fewer : (x : Side) (q : Pair) → q ≡ put x (r ∷ []) (pair d) → left (bookIn (first .args .book .now)) q < t
   fewer x q e =
-      let f = part-fewer _ _ (few t (c .before .before .before .before .before .before .before .before .before .before .before .before)) _ (c .before .before .before .before .before .write-branch .ensures) cut x q e in omega (arith, c .before .before .before .before .before .before .before .before .before .before .before .before .pre .0)
-
-need-enum-told : (t : ℕ) → lts.Need-enum-told (calls t) (at-measure t) branches.Post
-need-enum-told t c = search needs
+      let f = part-fewer _ _ (few t first) _ (written .write-branch .ensures) cut x q e in
+      omega (arith, first .pre .0)
 
 need-returns : (t : ℕ) → lts.Need-returns (calls t) (at-measure t) branches.Post
 need-returns t c = λ s g l. stage-over g (not-writing _ (c .match .keys2)) _ _
 
 need-returns-2 : (t : ℕ) → lts.Need-returns-2 (calls t) (at-measure t) branches.Post
-need-returns-2 t c = λ s g l. stage-stopped _ _ (few t (c .before .before .before .before .before)) _ _ g (c .before .before .enum-told .given .1) (omega arith) l
-
-need-write-branch-requires : (t : ℕ) → lts.Need-write-branch-requires (calls t) (at-measure t) branches.Post
-need-write-branch-requires t c κs = search needs
-
-need-add-tries : (t : ℕ) → lts.Need-add-tries (calls t) (at-measure t) branches.Post
-need-add-tries t c = search needs
-
-need-enum-told-2 : (t : ℕ) → lts.Need-enum-told-2 (calls t) (at-measure t) branches.Post
-need-enum-told-2 t c = search needs
-
-need-enum-told-3 : (t : ℕ) → lts.Need-enum-told-3 (calls t) (at-measure t) branches.Post
-need-enum-told-3 t c = search needs
-
-need-enum-known-tip : (t : ℕ) → lts.Need-enum-known-tip (calls t) (at-measure t) branches.Post
-need-enum-known-tip t c = search needs
+need-returns-2 t c = λ s g l.
+    let p = c .before .before in
+    stage-stopped _ _ (few t (p .before .before .before)) _ _ g (p .enum-told .given .1) (omega arith) l
 
 need-with-on-requires : (t : ℕ) → lts.Need-with-on-requires (calls t) (at-measure t) branches.Post
 need-with-on-requires t c κs = low t c
 
 need-write-branches-requires : (t : ℕ) → lts.Need-write-branches-requires (calls t) (at-measure t) branches.Post
 need-write-branches-requires t c κs =
-    (fewer t (c .before .before) onSide _ (on-pair t (c .before .before) (c .before .with-on .ensures)), c .before .before .before .before .before .before .before .before .before .before .before .before .before .before .pre .1)
+    let p = c .before .before in
+    (fewer t p onSide _ (on-pair t p (c .before .with-on .ensures)), first t p .pre .1)
 
 need-with-off-requires : (t : ℕ) → lts.Need-with-off-requires (calls t) (at-measure t) branches.Post
 need-with-off-requires t c κs = low t (c .before .before .before)
 
 need-write-branches-requires-2 : (t : ℕ) → lts.Need-write-branches-requires-2 (calls t) (at-measure t) branches.Post
 need-write-branches-requires-2 t c κs =
-    (fewer t (c .before .before .before .before .before) offSide _ (off-pair t (c .before .before .before .before .before) (c .before .with-off .ensures)), c .before .before .before .before .before .before .before .before .before .before .before .before .before .before .before .before .before .pre .1)
+    let p = c .before .before .before .before .before in
+    (fewer t p offSide _ (off-pair t p (c .before .with-off .ensures)), first t p .pre .1)
 
 need-returns-3 : (t : ℕ) → lts.Need-returns-3 (calls t) (at-measure t) branches.Post
-need-returns-3 t c = λ s g l. stage-ended _ _ (few t (c .before .before .before .before .before .before .before .before .before .before)) _ _ g (c .before .before .before .before .before .before .before .enum-told .given .1) (omega arith) (c .before .before .before .write-branch .ensures) (c .enum-told2 .given .1)
+need-returns-3 t c = λ s g l.
+    let w = c .before .before .before in
+    stage-ended _ _ (few t (start t w)) _ _ g (going t w) (room t w) (w .write-branch .ensures) (c .enum-told2 .given .1)
 
 need-returns-4 : (t : ℕ) → lts.Need-returns-4 (calls t) (at-measure t) branches.Post
-need-returns-4 t c = λ s g l. stage-unsettled _ _ (few t (c .before .before .before .before .before .before .before .before .before .before)) _ _ g (c .before .before .before .before .before .before .before .enum-told .given .1) (omega arith) (c .before .before .before .write-branch .ensures) (c .enum-told3 .given .1)
+need-returns-4 t c = λ s g l.
+    let w = c .before .before .before in
+    stage-unsettled _ _ (few t (start t w)) _ _ g (going t w) (room t w) (w .write-branch .ensures) (c .enum-told3 .given .1)
 
 need-returns-5 : (t : ℕ) → lts.Need-returns-5 (calls t) (at-measure t) branches.Post
 need-returns-5 t c = λ s g l.
-    stage-parted _ _ (few t (c .before .before .before .before .before .before .before .before .before .before .before .before .before .before .before .before .before .before)) _ _ g (c .before .before .before .before .before .before .before .before .before .before .before .before .before .before .before .enum-told .given .1) (omega (arith, c .before .before .before .before .before .before .before .before .before .before .before .before .before .if1 .left)) (c .before .before .before .before .before .before .before .before .before .before .before .write-branch .ensures) (cut t (c .before .before .before .before .before .before))
-    (on-pair t (c .before .before .before .before .before .before) (c .before .before .before .before .before .with-on .ensures)) (off-pair t (c .before .before .before .before .before .before) (c .before .before .with-off .ensures)) l
+    let p = c .before .before .before .before .before .before in
+    let w = written t p in
+    let on = on-pair t p (c .before .before .before .before .before .with-on .ensures) in
+    let off = off-pair t p (c .before .before .with-off .ensures) in
+    stage-parted _ _ (few t (first t p)) _ _ g (going t w) (room t w) (w .write-branch .ensures) (cut t p) on off l
     (c .before .before .before .write-branches .ensures) (c .write-branches2 .ensures)
 
 pub +write-branches-spec : {M : Type 1} → statement M
 +write-branches-spec = close μ-branches λ t. lts.spec (calls t) (at-measure t) branches.Post
-    (need-enum-told t)
-    (need-returns t)
-    (need-returns-2 t)
-    (need-write-branch-requires t)
-    (need-add-tries t)
-    (need-enum-told-2 t)
-    (need-enum-told-3 t)
-    (need-enum-known-tip t)
-    (need-with-on-requires t)
-    (need-write-branches-requires t)
-    (need-with-off-requires t)
-    (need-write-branches-requires-2 t)
-    (need-returns-3 t)
-    (need-returns-4 t)
-    (need-returns-5 t)
+    (λ c. search needs) (need-returns t) (need-returns-2 t) (λ c κs. search needs) (λ c. search needs) (λ c. search needs)
+    (λ c. search needs) (λ c. search needs) (need-with-on-requires t) (need-write-branches-requires t) (need-with-off-requires t)
+    (need-write-branches-requires-2 t) (need-returns-3 t) (need-returns-4 t) (need-returns-5 t)

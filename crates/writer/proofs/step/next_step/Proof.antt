@@ -1,19 +1,20 @@
 -- The next step: each return is a law of the choice between the five, over what the searches before it have found.
-use mathlib.Core.Path.{_≡_, refl, sym, _∙_, ap}
+use mathlib.Core.Path.{_≡_, sym, _∙_}
 use mathlib.Core.Bool.{false}
 use Prim.Native.Nat.{_<_}
 use native.Mathlib.Omega.{arith}
 use borrow.Author.Needs.{needs}
 use Rattle.meaning.specs.Books.{Book}
-use Rattle.meaning.specs.Colours.{Pair, mayOn, blocked}
+use Rattle.meaning.specs.Colours.{Pair, mayOn, blocked, uncoloured}
 use Rattle.meaning.specs.Claim.{Claim, named, ended}
-use Rattle.meaning.specs.Lowest.{lowest, none}
+use Rattle.meaning.specs.Lowest.{Pick, lowest, none}
 use Rattle.meaning.specs.Engine.{less}
 use Rattle.book.specs.Format.{bookIn}
 use Rattle.book.proofs.Places.{shape-count}
 use Rattle.walk.specs.Picked.{picked}
 use Rattle.writer.specs.Steps.{lent, does-on, does-off, does-drop, does-end, does-split, does-nothing}
-use Rattle.writer.proofs.Choosing.{does-next, picked-one, picked-none, new-on-lowest, new-off-lowest, ended-clash, ended-shown, not-ended}
+use Rattle.writer.proofs.Choosing.{does-next, picked-one, picked-none, new-on-lowest, new-off-lowest}
+use Rattle.writer.proofs.Choosing.{ended-clash, ended-shown, not-ended}
 use Rattle.writer.proofs.Choosing.{next-end, next-on, next-off, next-drop, next-split, next-nothing}
 use Rattle.writer.proofs.step.next_step.Statement.{statement}
 use Rattle.writer.proofs.step.next_step.Tie as tie
@@ -28,33 +29,78 @@ claimAt s = named (s .args .atom)
 abbrev pairAt : tie.Start → Pair
 pairAt s = lent (s .args .on .now) (s .args .off .now)
 
--- ---- what is known at the places between
+-- the rules that 41 and 42 are for, the lowest of each
+abbrev onAt : tie.Start → Pick
+onAt s = lowest (bookAt s) (less (mayOn (bookAt s) (pairAt s)) (pairAt s .on))
 
-quiet : (c : tie.Else2) → ended (bookAt (c .before .before .before .before .before .before .before)) (claimAt (c .before .before .before .before .before .before .before)) (pairAt (c .before .before .before .before .before .before .before)) ≡ false
-quiet c =
-    let s = c .before .before .before .before .before .before .before in
-    let g = c .before .before .before .before .before .clashes .ensures (bookAt s) (shape-count _ _ (s .pre .0)) in
-    not-ended _ _ _ _ _ (c .before .before .heads-of .ensures) (omega arith) _ (c .before .wide .ensures .0) (sym g ∙ c .before .before .before .before .if1 .left) (c .if2 .left)
+abbrev offAt : tie.Start → Pick
+offAt s = lowest (bookAt s) (less (blocked (bookAt s) (pairAt s)) (pairAt s .off))
 
-on-lowest : (c : tie.After-lowest-on) → picked (c .lowest-on .result)
-    ≡ lowest (bookAt (c .before .before .before .before .before .before .before .before .before .before .before .before)) (less (mayOn (bookAt (c .before .before .before .before .before .before .before .before .before .before .before .before)) (pairAt (c .before .before .before .before .before .before .before .before .before .before .before .before))) (pairAt (c .before .before .before .before .before .before .before .before .before .before .before .before) .on))
-on-lowest c =
-    let s = c .before .before .before .before .before .before .before .before .before .before .before .before in
-    let n : s .args .shape .atoms < 256 = search needs in
-    c .lowest-on .ensures ∙ new-on-lowest _ _ (s .pre .0) n _ _ _ (c .before .before .before .before .before .before .before .heads-of .ensures) _ (c .before .before .before .lost-in .ensures)
+-- atoms are counted in a byte, and the claimed atom is one of the book
+small : (s : tie.Start) → s .args .shape .atoms < 256
+small s = search needs
 
-on-none : (c : tie.After-enum-told) → none ≡ lowest (bookAt (c .before .before .before .before .before .before .before .before .before .before .before .before .before .before)) (less (mayOn (bookAt (c .before .before .before .before .before .before .before .before .before .before .before .before .before .before)) (pairAt (c .before .before .before .before .before .before .before .before .before .before .before .before .before .before))) (pairAt (c .before .before .before .before .before .before .before .before .before .before .before .before .before .before) .on))
-on-none c = picked-none (on-lowest (c .before .before)) (c .enum-told .given .1)
+atom-small : (s : tie.Start) → s .args .atom .0 < 255
+atom-small s = omega (arith, small s)
 
-off-lowest : (c : tie.After-lowest-off) → picked (c .lowest-off .result)
-    ≡ lowest (bookAt (c .before .before .before .before .before .before .before .before .before .before .before .before .before .before .before .before)) (less (blocked (bookAt (c .before .before .before .before .before .before .before .before .before .before .before .before .before .before .before .before)) (pairAt (c .before .before .before .before .before .before .before .before .before .before .before .before .before .before .before .before))) (pairAt (c .before .before .before .before .before .before .before .before .before .before .before .before .before .before .before .before) .off))
-off-lowest c =
-    let s = c .before .before .before .before .before .before .before .before .before .before .before .before .before .before .before .before in
-    let n : s .args .shape .atoms < 256 = search needs in
-    c .lowest-off .ensures ∙ new-off-lowest _ _ (s .pre .0) n (s .args .on .now) _ _ (c .before .before .before .before .before .before .before .before .before .before .before .heads-of .ensures)
+-- ---- what is known behind each search
 
-off-none : (c : tie.After-enum-told2) → none ≡ lowest (bookAt (c .before .before .before .before .before .before .before .before .before .before .before .before .before .before .before .before .before .before)) (less (blocked (bookAt (c .before .before .before .before .before .before .before .before .before .before .before .before .before .before .before .before .before .before)) (pairAt (c .before .before .before .before .before .before .before .before .before .before .before .before .before .before .before .before .before .before))) (pairAt (c .before .before .before .before .before .before .before .before .before .before .before .before .before .before .before .before .before .before) .off))
-off-none c = picked-none (off-lowest (c .before .before)) (c .enum-told2 .given .1)
+-- 45 isn't allowed
+module _ (c : tie.Else2) where
+  abbrev start : tie.Start
+  start = c .before .before .before .before .before .before .before
+
+  quiet : ended (bookAt start) (claimAt start) (pairAt start) ≡ false
+  quiet =
+      let headed = c .before .before in
+      let apart = headed .before .before in
+      let e = apart .before .clashes .ensures (bookAt start) (shape-count _ _ (start .pre .0)) in
+      not-ended _ _ _ _ _ (headed .heads-of .ensures) (atom-small start) _ (c .before .wide .ensures .0)
+      (sym e ∙ apart .if1 .left) (c .if2 .left)
+
+-- 41
+module _ (c : tie.After-lowest-on) where
+  abbrev not-45 : tie.Else2
+  not-45 = c .before .before .before .before .before
+
+  on-lowest : picked (c .lowest-on .result) ≡ onAt (start not-45)
+  on-lowest =
+      c .lowest-on .ensures ∙ new-on-lowest _ _ (start not-45 .pre .0) (small (start not-45)) _ _ _
+      (not-45 .before .before .heads-of .ensures) _ (c .before .before .before .lost-in .ensures)
+
+-- 42, where there is no rule for 41
+module _ (c : tie.After-lowest-off) where
+  abbrev not-41 : tie.After-lowest-on
+  not-41 = c .before .before .before .before
+
+  abbrev first : tie.Start
+  first = start (not-45 not-41)
+
+  on-none : none ≡ onAt first
+  on-none = picked-none (on-lowest not-41) (c .before .before .enum-told .given .1)
+
+  off-lowest : picked (c .lowest-off .result) ≡ offAt first
+  off-lowest =
+      c .lowest-off .ensures ∙ new-off-lowest _ _ (first .pre .0) (small first) (first .args .on .now) _ _
+      (not-45 not-41 .before .before .heads-of .ensures)
+
+-- 55, where there is none for 42 either
+module _ (c : tie.After-list-unsupported) where
+  abbrev not-42 : tie.After-lowest-off
+  not-42 = c .before .before .before .before
+
+  off-none : none ≡ offAt (first not-42)
+  off-none = picked-none (off-lowest not-42) (c .before .before .enum-told2 .given .1)
+
+-- 53, where there is none for 55 either
+module _ (c : tie.After-lowest-uncoloured) where
+  abbrev not-55 : tie.After-list-unsupported
+  not-55 = c .before .before
+
+  split-lowest : let s = first (not-42 not-55) in picked (c .lowest-uncoloured .result) ≡ lowest (bookAt s) (uncoloured (pairAt s))
+  split-lowest = let s = first (not-42 not-55) in c .lowest-uncoloured .ensures (bookAt s) (shape-count _ _ (s .pre .0))
+
+-- ---- the returns
 
 returns : tie.Need-returns
 returns c =
@@ -62,45 +108,51 @@ returns c =
     let e = c .before .clashes .ensures (bookAt s) (shape-count _ _ (s .pre .0)) in
     does-next (next-end _ _ _ (ended-clash _ _ _ _ (sym e ∙ c .if1 .taken))) does-end
 
-array-read-if2 : tie.Need-array-read-if2
-array-read-if2 c = search needs
-
 returns-2 : tie.Need-returns-2
 returns-2 c =
-    does-next (next-end _ _ _ (ended-shown _ _ _ _ _ (c .before .before .heads-of .ensures) (omega arith) _ (c .before .wide .ensures .0) (c .if2 .taken))) does-end
+    let headed = c .before .before .heads-of .ensures in
+    let shown = ended-shown _ _ _ _ _ headed (omega arith) _ (c .before .wide .ensures .0) (c .if2 .taken) in
+    does-next (next-end _ _ _ shown) does-end
 
 returns-3 : tie.Need-returns-3
-returns-3 c = does-next (next-on _ _ _ (quiet (c .before .before .before .before .before .before .before .before)) (picked-one (on-lowest (c .before .before .before)) (c .before .r .given .1))) does-on
+returns-3 c =
+    let p = c .before .before .before in
+    does-next (next-on _ _ _ (quiet (not-45 p)) (picked-one (on-lowest p) (c .before .r .given .1))) does-on
 
 returns-4 : tie.Need-returns-4
 returns-4 c =
-    does-next (next-off _ _ _ (quiet (c .before .before .before .before .before .before .before .before .before .before .before .before)) (on-none (c .before .before .before .before .before)) (picked-one (off-lowest (c .before .before .before)) (c .before .r2 .given .1))) does-off
+    let p = c .before .before .before in
+    let found = picked-one (off-lowest p) (c .before .r2 .given .1) in
+    does-next (next-off _ _ _ (quiet (not-45 (not-41 p))) (on-none p) found) does-off
 
 returns-5 : tie.Need-returns-5
 returns-5 c =
-    let s = c .before .before .before .before .before .before .before .before .before .before .before .before .before .before .before .before .before .before .before .before .before in
-    let l = c .before .list-unsupported .ensures (s .args .on .now) in
-    does-next (next-drop _ _ _ (quiet (c .before .before .before .before .before .before .before .before .before .before .before .before .before .before)) (on-none (c .before .before .before .before .before .before .before)) (off-none (c .before .before .before)) (omega (arith, l .counted))) (does-drop l)
+    let p = c .before in
+    let q = not-42 p in
+    let l = p .list-unsupported .ensures (first q .args .on .now) in
+    does-next (next-drop _ _ _ (quiet (not-45 (not-41 q))) (on-none q) (off-none p) (omega (arith, l .counted))) (does-drop l)
 
 returns-6 : tie.Need-returns-6
 returns-6 c =
-    let s = c .before .before .before .before .before .before .before .before .before .before .before .before .before .before .before .before .before .before .before .before .before .before .before .before .before in
-    let l = c .before .before .before .before .before .list-unsupported .ensures (s .args .on .now) in
-    let u = c .before .before .before .lowest-uncoloured .ensures (bookAt s) (shape-count _ _ (s .pre .0)) in
-    does-next (next-split _ _ _ (quiet (c .before .before .before .before .before .before .before .before .before .before .before .before .before .before .before .before .before .before)) (on-none (c .before .before .before .before .before .before .before .before .before .before .before)) (off-none (c .before .before .before .before .before .before .before)) (omega (arith, l .counted)) (picked-one u (c .before .r3 .given .1)))
+    let p = c .before .before .before in
+    let q = not-42 (not-55 p) in
+    let l = not-55 p .list-unsupported .ensures (first q .args .on .now) in
+    let found = picked-one (split-lowest p) (c .before .r3 .given .1) in
+    does-next (next-split _ _ _ (quiet (not-45 (not-41 q))) (on-none q) (off-none (not-55 p)) (omega (arith, l .counted)) found)
     does-split
 
 returns-7 : tie.Need-returns-7
 returns-7 c =
-    let s = c .before .before .before .before .before .before .before .before .before .before .before .before .before .before .before .before .before .before .before .before .before .before .before .before in
-    let l = c .before .before .before .before .list-unsupported .ensures (s .args .on .now) in
-    let u = c .before .before .lowest-uncoloured .ensures (bookAt s) (shape-count _ _ (s .pre .0)) in
-    does-next (next-nothing _ _ _ (quiet (c .before .before .before .before .before .before .before .before .before .before .before .before .before .before .before .before .before)) (on-none (c .before .before .before .before .before .before .before .before .before .before)) (off-none (c .before .before .before .before .before .before)) (omega (arith, l .counted)) (picked-none u (c .enum-told3 .given .1)))
+    let p = c .before .before in
+    let q = not-42 (not-55 p) in
+    let l = not-55 p .list-unsupported .ensures (first q .args .on .now) in
+    let found = picked-none (split-lowest p) (c .enum-told3 .given .1) in
+    does-next (next-nothing _ _ _ (quiet (not-45 (not-41 q))) (on-none q) (off-none (not-55 p)) (omega (arith, l .counted)) found)
     does-nothing
 
 pub next-step-spec : {M : Type 1} → statement M
 next-step-spec =
-    tie.close (tie.spec (λ c κs. search needs) returns (λ c κs. search needs) (λ c κs. search needs) array-read-if2 returns-2
+    tie.close (tie.spec (λ c κs. search needs) returns (λ c κs. search needs) (λ c κs. search needs) (λ c. search needs) returns-2
     (λ c κs. search needs) (λ c κs. search needs) (λ c. search needs) returns-3 (λ c. search needs) (λ c κs. search needs)
     (λ c. search needs) returns-4 (λ c. search needs) (λ c κs. search needs) returns-5 (λ c κs. search needs) (λ c. search needs)
     returns-6 (λ c. search needs) returns-7)

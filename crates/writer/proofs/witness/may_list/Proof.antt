@@ -1,12 +1,15 @@
 -- Whether one rule may be listed next: each return is a law of the test.
 use Prim.Native.Nat.{_<_}
-use native.Mathlib.Omega.{arith}
 use borrow.Author.Needs.{needs}
 use borrow.Author.Tests.{not-true, not-false}
 use Rattle.book.proofs.Places.{pos-below}
 use Rattle.writer.proofs.Witnessing.{list-listed, list-other, list-may}
 use Rattle.writer.proofs.witness.may_list.Statement.{statement}
 use Rattle.writer.proofs.witness.may_list.Tie as tie
+
+-- atoms are counted in a byte
+small : (s : tie.Start) → s .args .shape .atoms < 256
+small s = search needs
 
 returns : tie.Need-returns
 returns c = list-listed _ _ _ _ (c .before .before .wide .ensures .0) (c .if1 .taken)
@@ -17,15 +20,16 @@ returns-2 c = list-other _ _ _ _ (c .before .generates .ensures) (not-true _ (c 
 every-in-requires : tie.Need-every-in-requires
 every-in-requires c κs =
     let s = c .before .before .before .before .before .before .before .before in
-    let n : s .args .shape .atoms < 256 = search needs in
-    pos-below _ (s .args .shape) (s .pre .0) (s .args .r) (s .pre .1) n _ (c .positives .ensures)
+    pos-below _ (s .args .shape) (s .pre .0) (s .args .r) (s .pre .1) (small s) _ (c .positives .ensures)
 
 returns-3 : tie.Need-returns-3
 returns-3 c =
-    let s = c .before .before .before .before .before .before .before .before .before in
-    let n : s .args .shape .atoms < 256 = search needs in
-    list-may _ (s .args .shape) (s .pre .0) n (s .args .r) (s .pre .1) _ _ (s .pre .2) _ (c .before .positives .ensures)
-    (c .before .before .before .before .before .before .before .wide .ensures .0) (c .before .before .before .before .before .if1 .left) _ (c .before .before .before .generates .ensures) (not-false _ (c .before .before .if2 .left)) (c .every-in .ensures)
+    let g = c .before .before .before in
+    let l = g .before .before in
+    let w = l .before .before in
+    let s = w .before .before in
+    list-may _ (s .args .shape) (s .pre .0) (small s) (s .args .r) (s .pre .1) _ _ (s .pre .2) _ (c .before .positives .ensures)
+    (w .wide .ensures .0) (l .if1 .left) _ (g .generates .ensures) (not-false _ (c .before .before .if2 .left)) (c .every-in .ensures)
 
 pub may-list-spec : {M : Type 1} → statement M
 may-list-spec =

@@ -3,11 +3,9 @@ use Prim.Native.Nat.{_-_, _≤_}
 use native.Mathlib.Omega.{arith}
 use mathlib.Core.Path.{_≡_, sym, _∙_}
 use borrow.Author.Needs.{needs}
+use Rattle.meaning.specs.Books.{count}
 use Rattle.meaning.specs.AnswerSet.{generating}
-use Rattle.meaning.specs.Colours.{heads}
-use Rattle.meaning.specs.Written.{of}
 use Rattle.book.specs.Format.{bookIn}
-use Rattle.book.specs.Tables.{atomTable}
 use Rattle.book.proofs.Places.{shape-count}
 use Rattle.walk.specs.Page.{setIn}
 use Rattle.writer.specs.Steps.{mayList}
@@ -16,29 +14,35 @@ use Rattle.writer.proofs.witness.next_listed.Statement.{statement}
 use Rattle.writer.proofs.witness.next_listed.Tie as tie
 
 abbrev Inv-loop : tie.InvT-loop
-Inv-loop book shape row listed headed r₀ r = (r ≤ shape .rules) × NoneBelow (mayList (bookIn book) (generating (bookIn book) (setIn row)) listed) r
+Inv-loop book shape row listed headed r₀ r =
+    (r ≤ shape .rules) × NoneBelow (mayList (bookIn book) (generating (bookIn book) (setIn row)) listed) r
 
 abbrev μ-loop : tie.MeasureT-loop
 μ-loop book shape row listed headed r₀ r = shape .rules - r
 
+-- the turn of the loop in which a rule was tried
+abbrev turn : tie.After-may-list Inv-loop μ-loop → tie.At-loop Inv-loop μ-loop
+turn c = c .before .before .before .before
+
+counted : (k : tie.At-loop Inv-loop μ-loop) → let s = k .before .before .before .before in
+    count (bookIn (s .args .book .now)) ≡ s .args .shape .rules
+counted k = shape-count _ _ (k .before .before .before .before .pre)
+
 loop-holds : tie.Need-loop-holds Inv-loop μ-loop
 loop-holds c = (search needs, none-yet _)
 
-may-list-requires : tie.Need-may-list-requires Inv-loop μ-loop
-may-list-requires c κs = search needs
-
 returns : tie.Need-returns Inv-loop μ-loop
 returns c =
-    let k = c .before .before .before .before .before in
-    none-found _ (k .loop .inv .1) _ (shape-count _ _ (c .before .before .before .before .before .before .before .before .before .pre)) (omega arith) (sym (c .before .may-list .ensures) ∙ c .if2 .taken)
+    none-found _ (turn (c .before) .loop .inv .1) _ (counted (turn (c .before))) (omega arith)
+    (sym (c .before .may-list .ensures) ∙ c .if2 .taken)
 
 loop-again : tie.Need-loop-again Inv-loop μ-loop
-loop-again c = (search needs, none-more _ (c .before .before .before .before .before .loop .inv .1) (sym (c .before .may-list .ensures) ∙ c .if2 .left))
+loop-again c = (search needs, none-more _ (turn (c .before) .loop .inv .1) (sym (c .before .may-list .ensures) ∙ c .if2 .left))
 
 returns-2 : tie.Need-returns-2 Inv-loop μ-loop
-returns-2 c = none-at-all _ (c .before .before .loop .inv .1) _ (shape-count _ _ (c .before .before .before .before .before .before .pre)) (omega arith)
+returns-2 c = none-at-all _ (c .before .before .loop .inv .1) _ (counted (c .before .before)) (omega arith)
 
 pub next-listed-spec : {M : Type 1} → statement M
 next-listed-spec =
-    tie.close (tie.spec Inv-loop μ-loop (λ c κs. search needs) loop-holds may-list-requires returns (λ c. search needs) (λ c. search needs)
-    loop-again returns-2)
+    tie.close (tie.spec Inv-loop μ-loop (λ c κs. search needs) loop-holds (λ c κs. search needs) returns (λ c. search needs)
+    (λ c. search needs) loop-again returns-2)

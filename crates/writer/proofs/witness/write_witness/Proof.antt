@@ -1,5 +1,5 @@
 -- The witness: what is listed so far, with what may still be listed behind it, is the whole witness.
-use mathlib.Core.Path.{_≡_, refl, sym, _∙_}
+use mathlib.Core.Path.{_≡_}
 use Prim.Native.Nat.{_-_, _≤_, _<_}
 use native.Mathlib.Omega.{arith}
 use borrow.Author.Needs.{needs}
@@ -21,32 +21,58 @@ Inv-loop book shape row draft₀ at listed₀ n₀ count₀ draft listed n count
 abbrev μ-loop : tie.MeasureT-loop
 μ-loop book shape row draft₀ at listed₀ n₀ count₀ draft listed n count = shape .rules - count
 
-few : (s : tie.Start Inv-loop μ-loop) → count (bookIn (s .args .book .now)) ≤ 255
-few s =
-    let n : s .args .shape .rules < 256 = search needs in
-    omega (arith, shape-count _ _ (s .pre))
+-- a good book has at most 255 rules
+module _ (s : tie.Start Inv-loop μ-loop) where
+  counted : count (bookIn (s .args .book .now)) ≡ s .args .shape .rules
+  counted = shape-count _ _ (s .pre)
+
+  few : count (bookIn (s .args .book .now)) ≤ 255
+  few =
+      let n : s .args .shape .rules < 256 = search needs in
+      omega (arith, counted)
+
+-- the turn of the loop in which a rule was searched, and the start
+module _ (c : tie.After-next-listed Inv-loop μ-loop) where
+  abbrev turn : tie.At-loop Inv-loop μ-loop
+  turn = c .before .before .before .before
+
+  abbrev start : tie.Start Inv-loop μ-loop
+  start = turn .before .before
 
 loop-holds : tie.Need-loop-holds Inv-loop μ-loop
 loop-holds c = listing-start _ _ _ _
 
 returns : tie.Need-returns Inv-loop μ-loop
 unfolding witnessOf
-returns c = listing-ends _ _ _ _ (c .before .before .before .before .before .before .loop .inv) (picked-none (c .before .before .next-listed .ensures) (c .enum-told .given .1))
+returns c =
+    listing-ends _ _ _ _ (turn (c .before .before) .loop .inv)
+    (picked-none (c .before .before .next-listed .ensures) (c .enum-told .given .1))
+
+-- the search found a rule
+module _ (c : tie.After-r Inv-loop μ-loop) where
+  abbrev searched : tie.After-next-listed Inv-loop μ-loop
+  searched = c .before .before
+
+  low : c .r .given .0 .0 .0 < 255
+  low =
+      listed-below _ _ _ _ (turn searched .loop .inv) (picked-one (searched .next-listed .ensures) (c .r .given .1))
+      (few (start searched))
 
 array-write-listed : tie.Need-array-write-listed Inv-loop μ-loop
-array-write-listed c =
-    let h = listed-below _ _ _ _ (c .before .before .before .before .before .before .before .before .loop .inv) (picked-one (c .before .before .before .before .next-listed .ensures) (c .before .before .r .given .1)) (few (c .before .before .before .before .before .before .before .before .before .before)) in
-    search needs
+array-write-listed c = let h = low (c .before .before) in search needs
 
 loop-again : tie.Need-loop-again Inv-loop μ-loop
 loop-again c =
-    let s = c .before .before .before .before .before .before .before .before .before .before .before .before in
-    listing-more _ _ _ _ (c .before .before .before .before .before .before .before .before .before .before .loop .inv) (picked-one (c .before .before .before .before .before .before .next-listed .ensures) (c .before .before .before .before .r .given .1)) (few s) (c .before .before .wide .ensures .0)
-    (omega (arith, shape-count _ _ (s .pre))) (c .write .ensures)
+    let w = c .before .before in
+    let p = searched (w .before .before) in
+    listing-more _ _ _ _ (turn p .loop .inv) (picked-one (p .next-listed .ensures) (w .before .before .r .given .1)) (few (start p))
+    (w .wide .ensures .0) (omega (arith, counted (start p))) (c .write .ensures)
 
 returns-2 : tie.Need-returns-2 Inv-loop μ-loop
 unfolding witnessOf
-returns-2 c = listing-full _ _ _ _ (c .before .before .loop .inv) (omega (arith, shape-count _ _ (c .before .before .before .before .pre)))
+returns-2 c =
+    let k = c .before .before in
+    listing-full _ _ _ _ (k .loop .inv) (omega (arith, counted (k .before .before)))
 
 pub write-witness-spec : {M : Type 1} → statement M
 write-witness-spec =
