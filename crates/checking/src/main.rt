@@ -27,7 +27,11 @@ fn tell_checked(book: &[u8], paper: &[u8]) {
         Checked::Mark(at) => explain(21, at, b"the paper's last two bytes are not 50 46"),
         Checked::Trailer(at) => explain(22, at, b"the paper's witness does not end at its trailer"),
         Checked::Atom(at) => explain(23, at, b"the book has no such atom as the paper claims"),
-        Checked::Form(at) => explain(24, at, b"this is no step, or it passes into the witness"),
+        Checked::Form(at) => explain(
+            24,
+            at,
+            b"the step is malformed, or it passes into the witness",
+        ),
         Checked::Fails(at) => explain(25, at, b"the step's condition does not hold"),
         Checked::Gap(at) => explain(26, at, b"bytes stand between the last step and the witness"),
         Checked::Witness(at) => explain(27, at, b"the witness is wrong"),

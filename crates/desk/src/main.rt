@@ -13,6 +13,10 @@ mod paper_name;
 mod readings;
 
 fn main() {
+    if os::arg_count() != 1 {
+        talk::print(b"bad call: desk takes its commands from standard input\n");
+        return;
+    }
     // The longest line that is taken has `check`, a book of 16,384 bytes and a paper of 65,536.
     let mut line = [0u8; 163847];
     let mut book = [0u8; 16384];

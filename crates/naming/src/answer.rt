@@ -23,9 +23,9 @@ fn tell_paper(atom: AtomNo, tries: u32, paper: &[u8]) {
     }
     print(b"named: atom ");
     print_number(atom.0 as u64);
-    print(b" is certain; its paper has ");
+    print(b" is certain; paper: ");
     print_number(paper.len() as u64);
-    print_line(b" bytes and took ", tries as u64, b" tries");
+    print_line(b" bytes; tries: ", tries as u64, b"");
 }
 
 // Asks the engine, and writes what it answers.

@@ -1,4 +1,4 @@
-// Reading a whole file.
+// Reading a whole file, or standard input.
 ghost use Rattle.io.specs.Counts.{Counts};
 use crate::output::print;
 use crate::output::print_name;
@@ -30,8 +30,27 @@ fn complain_of_opening(path: &[u8]) {
     }
 }
 
-// Reads a file from its start until it ends or the buffer is full. Where it cannot be read a line
-// says so, and nothing counts as read.
+// Reads an open file until it ends or the buffer is full, and gives whether it could be read.
+fn read_open(fd: i32, out: &mut [u8]) -> Taken
+    ensures { λ r. ⌜ Counts (r .count) (now (out .exit)) ⌝ }
+{
+    let n = io::read_full(fd, out);
+    if n == out.len() {
+        return Taken {
+            good: true,
+            count: n,
+        };
+    }
+    // `read_full` stops at an error as at the end; one more read tells the two apart.
+    let mut more = [0u8; 1];
+    let got = libc::read(fd, &mut more);
+    Taken {
+        good: 0 <= got,
+        count: n,
+    }
+}
+
+// Reads a file from its start. Where it cannot be read a line says so.
 fn read_file(path: &[u8], out: &mut [u8]) -> Taken
     ensures { λ r. ⌜ Counts (r .count) (now (out .exit)) ⌝ }
 {
@@ -43,22 +62,23 @@ fn read_file(path: &[u8], out: &mut [u8]) -> Taken
             count: 0,
         };
     }
-    let n = io::read_full(fd, out);
-    // `read_full` stops at an error as at the end; one more read tells the two apart.
-    let mut more = [0u8; 1];
-    let got = libc::read(fd, &mut more);
+    let taken = read_open(fd, out);
     libc::close(fd);
-    if got < 0 {
+    if !taken.good {
         complain(path, b"it cannot be read");
-        return Taken {
-            good: false,
-            count: 0,
-        };
     }
-    Taken {
-        good: true,
-        count: n,
+    taken
+}
+
+// Reads standard input. Where it cannot be read a line says so.
+pub fn read_input(out: &mut [u8]) -> Taken
+    ensures { λ r. ⌜ Counts (r .count) (now (out .exit)) ⌝ }
+{
+    let taken = read_open(libc::STDIN_FILENO, out);
+    if !taken.good {
+        complain(b"standard input", b"it cannot be read");
     }
+    taken
 }
 
 // Reads the file that an argument of the program names. The first argument has number 1.

@@ -17,6 +17,7 @@ pub use decimal::read_number;
 pub use file::Taken;
 pub use file::complain;
 pub use file::read_argument;
+pub use file::read_input;
 pub use hexadecimal::Decoded;
 pub use hexadecimal::read_bytes;
 pub use output::print;

@@ -20,7 +20,7 @@ pub fn explain_book(why: Refusal) {
         Refusal::Length => explain(1, 0, b"the book has under 6 or over 9,441 bytes"),
         Refusal::Mark(at) => explain(2, at, b"the book's last two bytes are not 52 42"),
         Refusal::Trailer(at) => explain(3, at, b"the book's index does not end at its trailer"),
-        Refusal::Entry(at) => explain(4, at, b"a rule does not start where the one before it ends"),
+        Refusal::Entry(at) => explain(4, at, b"the rules do not follow each other up to the index"),
         Refusal::Record(at) => explain(
             5,
             at,
