@@ -8,6 +8,7 @@ ghost use Rattle.book.specs.Tables.{atomTable};
 use crate::number::wide;
 use crate::reader::Shape;
 use crate::rules::head;
+use meaning::Colouring;
 use meaning::RuleNo;
 
 // Writes the heads of the rules of the set over whatever the table held.
@@ -16,7 +17,7 @@ pub fn heads_of(book: &[u8], shape: Shape, set: &[bool; 255], out: &mut [bool; 2
     ensures { λ _. ⌜ now (out .exit) ≡
         atomTable (heads (bookIn (now (book .entry))) (of (now (set .entry)))) ⌝ }
 {
-    *out = [false; 255];
+    *out = [false; Colouring::ATOMS];
     let mut r: u8 = 0;
     while r < shape.rules {
         if set[wide(r)] {
@@ -34,7 +35,7 @@ pub fn lost_in(book: &[u8], shape: Shape, set: &[bool; 255], out: &mut [bool; 25
     ensures { λ _. ⌜ now (out .exit) ≡
         atomTable (allIn (bookIn (now (book .entry))) (of (now (set .entry)))) ⌝ }
 {
-    *out = [true; 255];
+    *out = [true; Colouring::ATOMS];
     let mut r: u8 = 0;
     while r < shape.rules {
         if !set[wide(r)] {

@@ -18,6 +18,7 @@ use book::is_blocked;
 use book::lost_in;
 use book::wide;
 use meaning::AtomNo;
+use meaning::Colouring;
 use meaning::RuleNo;
 
 // 41: each positive atom is the head of an on rule, and for each negative atom all rules with that
@@ -33,9 +34,9 @@ pub fn may_go_on<'a>(
     ensures { λ b. ⌜ b ≡
         mayOn (bookIn (now (book .entry))) (lent (now (on .entry)) (now (off .entry))) r ⌝ }
 {
-    let mut headed = [false; 255];
+    let mut headed = [false; Colouring::ATOMS];
     heads_of(book, shape, on, &mut headed);
-    let mut lost = [false; 255];
+    let mut lost = [false; Colouring::ATOMS];
     lost_in(book, shape, off, &mut lost);
     goes_on(book, shape, r, &headed, &lost)
 }
@@ -46,7 +47,7 @@ pub fn may_go_off(book: &[u8], shape: Shape, r: RuleNo, on: &[bool; 255]) -> boo
     ensures { λ b. ⌜ b ≡ some (heads (bookIn (now (book .entry))) (of (now (on .entry))))
         (rule (bookIn (now (book .entry))) r .neg) ⌝ }
 {
-    let mut headed = [false; 255];
+    let mut headed = [false; Colouring::ATOMS];
     heads_of(book, shape, on, &mut headed);
     is_blocked(book, shape, r, &headed)
 }

@@ -16,6 +16,7 @@ use book::lost_in;
 use book::positives;
 use book::some_in;
 use book::wide;
+use meaning::Colouring;
 use meaning::RuleNo;
 
 // The list is strictly ascending, and each of its rules is below R.
@@ -87,7 +88,7 @@ pub fn is_unfounded(book: &[u8], shape: Shape, list: &[u8], off: &[bool; 255]) -
         (map ruleNo (now (list .entry))) ⌝ }
 {
     let gone = with_rules(*off, list);
-    let mut lost = [false; 255];
+    let mut lost = [false; Colouring::ATOMS];
     lost_in(book, shape, &gone, &mut lost);
     each_has_in(book, shape, list, &lost)
 }

@@ -22,6 +22,7 @@ use book::negatives;
 use book::positives;
 use book::some_in;
 use book::wide;
+use meaning::Colouring;
 use meaning::RuleNo;
 
 pub enum Verdict {
@@ -37,8 +38,8 @@ fn check_order(book: &[u8], shape: Shape, list: &[u8], from: usize) -> Verdict
     ensures { λ v. ⌜ verdict v ≡
         orderOf (bookIn (now (book .entry))) from [] (now (list .entry)) ⌝ }
 {
-    let mut listed = [false; 255];
-    let mut headed = [false; 255];
+    let mut listed = [false; Colouring::RULES];
+    let mut headed = [false; Colouring::ATOMS];
     let mut i = 0;
     while i < list.len() {
         let n = list[i];
@@ -131,8 +132,8 @@ pub fn check_witness(book: &[u8], shape: Shape, paper: &[u8], trailer: Trailer) 
     if let Verdict::Wrong(at) = check_order(book, shape, &paper[from..end], from) {
         return Verdict::Wrong(at);
     }
-    let listed = with_rules([false; 255], &paper[from..end]);
-    let mut headed = [false; 255];
+    let listed = with_rules([false; Colouring::RULES], &paper[from..end]);
+    let mut headed = [false; Colouring::ATOMS];
     heads_of(book, shape, &listed, &mut headed);
     if let Verdict::Wrong(at) = check_unblocked(book, shape, &paper[from..end], from, &headed) {
         return Verdict::Wrong(at);

@@ -26,11 +26,11 @@ pub fn close(book: &[u8], shape: Shape, c: Colouring) -> Colouring
 {
     let mut on = c.on;
     let mut off = c.off;
-    let mut marks = [false; 255];
+    let mut marks = [false; Colouring::RULES];
     support(book, shape, &off, &mut marks);
-    let mut headed = [false; 255];
+    let mut headed = [false; Colouring::ATOMS];
     heads_of(book, shape, &on, &mut headed);
-    let mut lost = [false; 255];
+    let mut lost = [false; Colouring::ATOMS];
     lost_in(book, shape, &off, &mut lost);
     loop {
         let more_on = pass_on(book, shape, &lost, &mut on, &mut headed);

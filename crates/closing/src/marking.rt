@@ -15,6 +15,7 @@ ghost use Rattle.closing.specs.Counters.{stillMissing, Counted};
 use book::Shape;
 use book::head;
 use book::positives;
+use meaning::Colouring;
 use meaning::RuleNo;
 
 // How many atoms are still missing, where the last `left` of them were.
@@ -119,10 +120,10 @@ pub fn support(book: &[u8], shape: Shape, off: &[bool; 255], marks: &mut [bool; 
     ensures { λ _. ⌜ now (marks .exit) ≡
         support (bookIn (now (book .entry))) (of (now (off .entry))) ⌝ }
 {
-    *marks = [false; 255];
-    let mut missing = [0u8; 255];
+    *marks = [false; Colouring::RULES];
+    let mut missing = [0u8; Colouring::RULES];
     all_missing(book, shape, &mut missing);
-    let mut supported = [false; 255];
+    let mut supported = [false; Colouring::ATOMS];
     loop {
         if !sweep(book, shape, off, marks, &mut missing, &mut supported) {
             return;

@@ -19,6 +19,7 @@ use book::is_starved;
 use book::lost_in;
 use book::positives;
 use book::some_in;
+use meaning::Colouring;
 use meaning::RuleNo;
 
 // One rule's turn to go on. The table of the heads of on rules goes with it.
@@ -131,7 +132,7 @@ fn pass_off(
         (goingOff (bookIn (now (book .entry))) (now (headed .entry)) (now (marks .entry)))
         (count (bookIn (now (book .entry)))) (now (off .entry)) (now (off .exit)) more ⌝ }
 {
-    let mut dropped = [false; 255];
+    let mut dropped = [false; Colouring::ATOMS];
     let mut more = false;
     let mut r: u8 = 0;
     while r < shape.rules {

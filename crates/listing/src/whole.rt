@@ -5,6 +5,7 @@ use crate::rows::print_rows;
 use book::Read;
 use book::Shape;
 use book::read_book;
+use meaning::Colouring;
 use std::num::wrapping_add_u64;
 use talk::print;
 use talk::print_number;
@@ -135,7 +136,7 @@ fn list_page(
 fn list_pages(book: &[u8], shape: Shape, line_end: u8) {
     let atoms = shape.atoms as usize;
     let mut rows = [0u8; 65280];
-    let mut last = [0u8; 255];
+    let mut last = [0u8; Colouring::ATOMS];
     let mut so_far = Progress::START;
     let mut turns = LIMIT + 1;
     while 0 < turns {

@@ -6,9 +6,9 @@ use crate::RuleNo;
 
 // Each array has one place for each rule number that a book can have.
 pub struct Colouring {
-    pub on: [bool; 255],
-    pub off: [bool; 255],
-    pub marks: [bool; 255],
+    pub on: [bool; Colouring::RULES],
+    pub off: [bool; Colouring::RULES],
+    pub marks: [bool; Colouring::RULES],
 }
 
 impl Colouring {
@@ -19,9 +19,9 @@ impl Colouring {
 
     // "The start has nothing in either."
     pub const EMPTY: Colouring = Colouring {
-        on: [false; 255],
-        off: [false; 255],
-        marks: [false; 255],
+        on: [false; Colouring::RULES],
+        off: [false; Colouring::RULES],
+        marks: [false; Colouring::RULES],
     };
 
     // The start of every walk and of every paper.

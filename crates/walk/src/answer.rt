@@ -10,6 +10,7 @@ use book::Shape;
 use book::heads_of;
 use book::is_blocked;
 use closing::support;
+use meaning::Colouring;
 use meaning::RuleNo;
 
 // Writes the rules with a negative atom in the set over whatever the array held.
@@ -18,7 +19,7 @@ fn bar(book: &[u8], shape: Shape, set: &[bool; 255], out: &mut [bool; 255])
     ensures { λ _. ⌜ of (now (out .exit)) ≡
         barred (bookIn (now (book .entry))) (atomsIn (now (set .entry))) ⌝ }
 {
-    *out = [false; 255];
+    *out = [false; Colouring::RULES];
     let mut r: u8 = 0;
     while r < shape.rules {
         let at = r as usize;
@@ -59,11 +60,11 @@ pub fn is_answer_set(book: &[u8], shape: Shape, set: &[bool; 255]) -> bool
     requires { ⌜ ReadAs (now book) shape ⌝ }
     ensures { λ r. ⌜ r ≡ isAnswerSet (bookIn (now (book .entry))) (atomsIn (now (set .entry))) ⌝ }
 {
-    let mut barred = [false; 255];
+    let mut barred = [false; Colouring::RULES];
     bar(book, shape, set, &mut barred);
-    let mut marks = [false; 255];
+    let mut marks = [false; Colouring::RULES];
     support(book, shape, &barred, &mut marks);
-    let mut least = [false; 255];
+    let mut least = [false; Colouring::ATOMS];
     heads_of(book, shape, &marks, &mut least);
     same_atoms(shape.atoms, set, &least)
 }

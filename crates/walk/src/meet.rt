@@ -13,6 +13,7 @@ use crate::tally::Halt;
 use crate::tally::Tally;
 use book::Shape;
 use book::heads_of;
+use meaning::Colouring;
 
 // The reading is given by its on rules. It is passed over, or written behind the rows before it.
 pub fn meet(
@@ -36,7 +37,7 @@ pub fn meet(
     if t.sets < pass {
         return t.tried(t.sets + 1, Halt::Going);
     }
-    let mut set = [false; 255];
+    let mut set = [false; Colouring::ATOMS];
     heads_of(book, shape, on, &mut set);
     if !is_answer_set(book, shape, &set) {
         return t.tried(t.sets, Halt::NotLeast);

@@ -55,7 +55,7 @@ pub fn write_branch(
     let mut on = c.on;
     let mut off = c.off;
     let marks = c.marks;
-    let mut dropped = [false; 255];
+    let mut dropped = [false; Colouring::RULES];
     let mut n = at;
     loop {
         match next_step(book, shape, atom, &on, &off, &mut dropped) {

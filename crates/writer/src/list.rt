@@ -16,6 +16,7 @@ use crate::draft::write;
 use book::Shape;
 use book::wide;
 use closing::support;
+use meaning::Colouring;
 
 // Writes the rules that are neither marked nor off over whatever the array held; how many they
 // are.
@@ -28,7 +29,7 @@ fn list_unmarked<'a>(
     ensures { λ m. ⌜ ((b : Book) → count b ≡ rules → Listed b m (now (dropped .exit))
         (rulesIn b (outside (now (marks .entry)) (now (off .entry))))) ⌝ }
 {
-    *dropped = [false; 255];
+    *dropped = [false; Colouring::RULES];
     let mut m: u8 = 0;
     let mut r: u8 = 0;
     while r < rules {
@@ -57,7 +58,7 @@ pub fn list_unsupported(
         (rulesIn (bookIn (now (book .entry)))
         (unsupported (bookIn (now (book .entry))) (lent on (now (off .entry)))))) ⌝ }
 {
-    let mut marks = [false; 255];
+    let mut marks = [false; Colouring::RULES];
     support(book, shape, off, &mut marks);
     list_unmarked(shape.rules, &marks, off, dropped)
 }

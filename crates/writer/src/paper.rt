@@ -25,7 +25,7 @@ fn name_in(book: &[u8], shape: Shape, atom: AtomNo, limit: u32, paper: &mut [u8]
     ensures { λ r. ⌜ _≡_ {A = Answered} (record { told = told r; buffer = now (paper .exit) })
         (nameIn (bookIn (now (book .entry))) (named atom) limit (now (paper .entry))) ⌝ }
 {
-    let mut row = [0u8; 255];
+    let mut row = [0u8; Colouring::ATOMS];
     let reading = first(book, shape, limit, &mut row);
     let halt = reading.halt;
     match halt {

@@ -12,6 +12,7 @@ use book::heads_of;
 use book::lost_in;
 use book::wide;
 use meaning::AtomNo;
+use meaning::Colouring;
 use meaning::RuleNo;
 use walk::Picked;
 use walk::clashes;
@@ -54,12 +55,12 @@ pub fn next_step<'a>(
     if clashes(shape.rules, on, off) {
         return Step::Stops(Tip::Ended);
     }
-    let mut headed = [false; 255];
+    let mut headed = [false; Colouring::ATOMS];
     heads_of(book, shape, on, &mut headed);
     if headed[wide(atom.0)] {
         return Step::Stops(Tip::Ended);
     }
-    let mut lost = [false; 255];
+    let mut lost = [false; Colouring::ATOMS];
     lost_in(book, shape, off, &mut lost);
     if let Picked::Rule(r) = lowest_on(book, shape, on, &headed, &lost) {
         return Step::On(r);

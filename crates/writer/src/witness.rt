@@ -20,6 +20,7 @@ use book::every_in;
 use book::heads_of;
 use book::positives;
 use book::wide;
+use meaning::Colouring;
 use meaning::RuleNo;
 use walk::Picked;
 use walk::generates;
@@ -62,7 +63,7 @@ fn next_listed(book: &[u8], shape: Shape, row: &[u8; 255], listed: &[bool; 255])
         (generating (bookIn (now (book .entry))) (setIn (now (row .entry))))
         (now (listed .entry))) ⌝ }
 {
-    let mut headed = [false; 255];
+    let mut headed = [false; Colouring::ATOMS];
     heads_of(book, shape, listed, &mut headed);
     let mut r: u8 = 0;
     while r < shape.rules {
@@ -88,7 +89,7 @@ pub fn write_witness(
         × Writes (numbers (witnessOf (bookIn (now (book .entry))) (setIn (now (row .entry))))) at
         (now (draft .entry)) (w .length) (now (draft .exit)) ⌝ }
 {
-    let mut listed = [false; 255];
+    let mut listed = [false; Colouring::RULES];
     let mut n = at;
     let mut count: u8 = 0;
     while count < shape.rules {
