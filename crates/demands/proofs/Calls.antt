@@ -1,9 +1,10 @@
 -- Calls of good books: our answers are those of what the bytes say, the book keeps the format's limits, and there is one list of all
--- readings and one number of tries, so that demand 2 says something of every call. From the laws of book, walk and writer.
+-- readings and one number of tries of each walk, so that demand 2 says something of every call. From the laws of book, walk and writer.
 use mathlib.Core.Path.{_≡_, sym, _∙_}
 use mathlib.Core.Logic.{_↔_}
 use mathlib.Core.List.{List}
 use Prim.Native.Nat.{ℕ}
+use native.Mathlib.Omega.{arith}
 use Rattle.meaning.specs.declared.AtomNo.{AtomNo}
 use Rattle.meaning.specs.Books.{Atoms, Book}
 use Rattle.meaning.specs.Claim.{named, claimed}
@@ -16,9 +17,11 @@ use Rattle.walk.specs.Tries.{Needs}
 use Rattle.walk.specs.Find.{findIn, findOf}
 use Rattle.walk.proofs.Readings.{readings-all}
 use Rattle.walk.proofs.Order.{readings-only}
-use Rattle.walk.proofs.Needs.{needs-some}
+use Rattle.walk.proofs.Needs.{needs-some, needs-one}
 use Rattle.walk.proofs.Demand.{find-good-book}
+use Rattle.writer.specs.Needs.{Needs as PaperNeeds}
 use Rattle.writer.specs.Name.{nameIn, nameOf}
+use Rattle.writer.proofs.Needs.{needs-some as paper-needs-some, needs-one as paper-needs-one}
 use Rattle.writer.proofs.Stages.{name-good-book}
 use Rattle.writer.proofs.Ways.{Nameable, fits-nameable}
 use Rattle.demands.specs.Damaged.{GoodBook}
@@ -52,6 +55,21 @@ pub call-counts : {book : List ℕ} {b : Book} {k : ℕ} {answer : List ℕ} →
     → (l : List Atoms) × AllReadings b l × (n : ℕ) × Needs b k n
 call-counts {b = b} {k = k} c =
     let (n, needs) = needs-some b k (c .good-number) in (readings b, readings-there (c .good-book) (c .bytes), n, needs)
+
+-- and one only; a call for a paper has two numbers of tries, of the first walk and of the paper's, and one only of each
+module _ (b : Book) where
+  pub call-counts-one : {k n i : ℕ} {l m : List Atoms} → AllReadings b l → AllReadings b m → Needs b k n → Needs b k i
+      → (l ≡ m) × (n ≡ i)
+  call-counts-one p q u v = (readings-only b _ _ p q, needs-one b u v)
+
+  module _ (a : AtomNo) where
+    pub naming-counts : (n : ℕ) × Needs b 1 n × (m : ℕ) × PaperNeeds b (named a) m
+    naming-counts =
+        let (n, needs) = needs-some b 1 (omega arith) in let (m, paper) = paper-needs-some b (named a) in (n, needs, m, paper)
+
+    pub naming-counts-one : {n i m j : ℕ} → Needs b 1 n → Needs b 1 i → PaperNeeds b (named a) m → PaperNeeds b (named a) j
+        → (n ≡ i) × (m ≡ j)
+    naming-counts-one p q u v = (needs-one b p q, paper-needs-one b (named a) u v)
 
 pub nameable : {book : List ℕ} {b : Book} {a : AtomNo} → Naming book b a → Nameable b (named a)
 unfolding claimed

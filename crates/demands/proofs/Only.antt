@@ -49,7 +49,7 @@ module _ (book : List ℕ) (bytes : Bytes book) (k limit : ℕ) (answer : List �
   unfolding Finds
   refuses t n f e p q =
       let told = f e p q in
-      let kept = p .find-keeps book bytes k limit answer (λ u z. n u (sym told ∙ z)) in
+      let kept = p .find-keeps book k limit answer (λ u z. n u (sym told ∙ z)) in
       λ i. record { told = told i; buffer = kept i }
 
   module _ {b : Book} (c : Call book b k answer) where

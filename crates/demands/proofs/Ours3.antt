@@ -1,6 +1,6 @@
 -- Our engine meets demand 3: from the checker's laws of acceptance and the writer's laws of naming; and the paper that naming hands over
 -- is accepted by checking.
-use mathlib.Core.Path.{_≡_, refl, sym, _∙_, ap}
+use mathlib.Core.Path.{_≡_, refl, sym, _∙_, ap, subst}
 use mathlib.Core.Logic.{_⊎_, inl, inr, ⊎-elim, _↔_}
 use mathlib.Core.Bool.{true}
 use mathlib.Core.List.{List, _++_}
@@ -20,10 +20,9 @@ use Rattle.meaning.proofs.Claim.{named-certain}
 use Rattle.book.specs.Format.{bookIn}
 use Rattle.book.specs.Rows.{Bytes}
 use Rattle.walk.specs.Tries.{Kth, to-reading}
-use Rattle.walk.proofs.Run.{apart}
 use Rattle.writer.specs.Branches.{branches}
 use Rattle.writer.specs.Needs.{settled, Stuck, to-stuck, to-end, paperFor}
-use Rattle.writer.specs.Name.{paper, refused, Answered, nameIn, nameOf}
+use Rattle.writer.specs.Name.{Told, paper, fewer, refusedAt, refused, Answered, nameIn, nameOf}
 use Rattle.writer.proofs.Needs.{stuck-some, needs-one}
 use Rattle.writer.proofs.Papers.{settled-each, unsettled-one, certain-settled}
 use Rattle.writer.proofs.First.{kth-answer}
@@ -37,7 +36,7 @@ use Rattle.checker.proofs.Accepted.{check-sound, check-complete}
 use Rattle.demands.specs.Engine.{Engine, ours}
 use Rattle.demands.specs.Damaged.{GoodBook}
 use Rattle.demands.specs.Demand2.{Naming}
-use Rattle.demands.specs.Demand3.{Sound, Complete, InLimit, Demand3}
+use Rattle.demands.specs.Demand3.{Sound, Complete, InLimit, WritesOnly, Demand3}
 use Rattle.demands.proofs.Damaged.{good-is, every-book, good-bytes, bytes-good}
 use Rattle.demands.proofs.Calls.{along, named-as, nameable}
 use Rattle.demands.proofs.Ours1.{ours-1}
@@ -121,16 +120,41 @@ module _ (book : List ℕ) (b : Book) (a : AtomNo) (limit : ℕ) (buffer : List 
           (w .paper-within) .1 (stuck-uncertain u),
     )
 
-  writes-only : (t n : ℕ) → nameOf book a limit buffer .told ≡ paper t n
-      → (n ≤ 60000) × (n ≤ length buffer) × Keeps b (named a) (take n (nameOf book a limit buffer .buffer))
-      × (drop n (nameOf book a limit buffer .buffer) ≡ drop n buffer)
-  writes-only t n e =
-      let told = ap (λ (r : Answered). r .told) (sym as-named) ∙ e in
-      let (x, answer, p, size, room, most, stands, k) = name-written b (named a) limit buffer good told in
-      let there = ap (λ (r : Answered). r .buffer) as-named ∙ stands in
-      let front : take n (nameOf book a limit buffer .buffer) ≡ paperFor b (named a) x =
-      ap (take n) there ∙ take-at (paperFor b (named a) x) _ n (sym size) in
-      (most, room, rw front k, ap (drop n) there ∙ drop-at (paperFor b (named a) x) _ n (sym size))
+-- answers to calls with a good book and an atom of it
+pub data GoodNaming : Told → Type 0 where
+  told-paper : {t n : ℕ} → GoodNaming (paper t n)
+  told-none : {t n : ℕ} → GoodNaming (fewer t n)
+
+-- a call that we answer so has them
+pub naming-of : (book : List ℕ) → Bytes book → (a : AtomNo) (limit : ℕ) (buffer : List ℕ) {t : Told}
+    → GoodNaming t → nameOf book a limit buffer .told ≡ t → (b : Book) × Naming book b a
+naming-of book bytes a limit buffer w told = ⊎-elim
+    (λ (b, g). (b, record { bytes = bytes; good-book = g; good-number = below b g }))
+    (λ (i, at, d). not-placed (other (ours-1 .name-book book a limit buffer i at .1 d))) (every-book book)
+  where
+    other : {u : Told} → nameOf book a limit buffer .told ≡ u → GoodNaming u
+    other p = subst GoodNaming (sym told ∙ p) w
+
+    not-placed : {A : Type 0} {i at : ℕ} → GoodNaming (refusedAt i at) → A
+    not-placed x = elim x [ ]
+
+    not-numbered : {A : Type 0} {i : ℕ} → GoodNaming (refused i) → A
+    not-numbered x = elim x [ ]
+
+    below : (b : Book) → GoodBook book b → a .0 < b .atoms
+    below b g = ⊎-elim (λ h. h) (λ h. not-numbered (other (ours-1 .name-atom book a limit buffer .1 (b, g, h))))
+        (lt-or-le (a .0) (b .atoms))
+
+writes-only : WritesOnly ours
+writes-only book bytes a limit buffer t n e =
+    let (b, c) = naming-of book bytes a limit buffer told-paper e in
+    let same = as-named book b a limit buffer c in
+    let told = ap (λ (r : Answered). r .told) (sym same) ∙ e in
+    let (x, answer, p, size, room, most, stands, k) = name-written b (named a) limit buffer (nameable c) told in
+    let there = ap (λ (r : Answered). r .buffer) same ∙ stands in
+    let front : take n (nameOf book a limit buffer .buffer) ≡ paperFor b (named a) x =
+    ap (take n) there ∙ take-at (paperFor b (named a) x) _ n (sym size) in
+    (b, c .good-book, most, room, rw front k, ap (drop n) there ∙ drop-at (paperFor b (named a) x) _ n (sym size))
 
 pub ours-3 : Demand3 ours
 ours-3 = record {
@@ -145,24 +169,12 @@ ours-3 = record {
 -- ---- end to end
 
 -- whatever engine meets demand 3: the paper that it tells is accepted by its own checker
-pub paper-accepted : {e : Engine} → Demand3 e → (book : List ℕ) (b : Book) (a : AtomNo) (limit : ℕ) (buffer : List ℕ) → Naming book b a
-    → (t n : ℕ) → e .name book a limit buffer .told ≡ paper t n
-    → e .check book (take n (e .name book a limit buffer .buffer)) ≡ certain (a .0)
-paper-accepted {e} d book b a limit buffer c t n told =
-    let (most, room, k, later) = d .writes-only book b a limit buffer c t n told in
-    d .complete book _ b a (c .good-book) k (simp length-take (omega arith))
-
--- a call that is told a paper has a good book and an atom of it
-pub naming-of : (book : List ℕ) → Bytes book → (a : AtomNo) (limit : ℕ) (buffer : List ℕ) {t n : ℕ}
-    → nameOf book a limit buffer .told ≡ paper t n → (b : Book) × Naming book b a
-naming-of book bytes a limit buffer told = ⊎-elim
-    (λ (b, g). (b, record { bytes = bytes; good-book = g; good-number = below b g }))
-    (λ (i, at, d). let q = ours-1 .name-book book a limit buffer i at .1 d in apart (cc)) (every-book book)
-  where
-    below : (b : Book) → GoodBook book b → a .0 < b .atoms
-    below b g = ⊎-elim (λ h. h) (λ h. let q = ours-1 .name-atom book a limit buffer .1 (b, g, h) in apart (cc)) (lt-or-le (a .0) (b .atoms))
+pub paper-accepted : {e : Engine} → Demand3 e → (book : List ℕ) → Bytes book → (a : AtomNo) (limit : ℕ) (buffer : List ℕ) (t n : ℕ)
+    → e .name book a limit buffer .told ≡ paper t n → e .check book (take n (e .name book a limit buffer .buffer)) ≡ certain (a .0)
+paper-accepted {e} d book bytes a limit buffer t n told =
+    let (b, g, most, room, k, later) = d .writes-only book bytes a limit buffer t n told in
+    d .complete book _ b a g k (simp length-take (omega arith))
 
 pub our-paper-accepted : (book : List ℕ) → Bytes book → (a : AtomNo) (limit : ℕ) (buffer : List ℕ) (t n : ℕ)
     → nameOf book a limit buffer .told ≡ paper t n → checkOf book (take n (nameOf book a limit buffer .buffer)) ≡ certain (a .0)
-our-paper-accepted book bytes a limit buffer t n told =
-    let (b, c) = naming-of book bytes a limit buffer told in paper-accepted ours-3 book b a limit buffer c t n told
+our-paper-accepted = paper-accepted ours-3

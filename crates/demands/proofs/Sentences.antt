@@ -1,10 +1,11 @@
--- What one sentence of a demand says of any engine at a call, told by our answer to the same call: where ours gives a reading, writes a
--- paper, accepts or stops, so does every engine of which that sentence holds. Each is the sentence at the values that our laws find.
+-- What one sentence of a demand says of any engine at a call, told by our answer to the same call: where ours gives a reading, tells
+-- fewer, writes a paper, accepts or stops, so does every engine of which that sentence holds. Each is the sentence at the values that our
+-- laws find.
 use mathlib.Core.Path.{_≡_, sym, _∙_, ap, subst}
 use mathlib.Core.Logic.{⊎-elim, _↔_}
 use mathlib.Core.Bool.{true}
 use mathlib.Core.List.{List, [], _∷_}
-use Prim.Native.Nat.{ℕ, zero, suc, _≤_}
+use Prim.Native.Nat.{ℕ, zero, suc, _≤_, _<_}
 use native.Mathlib.Omega.{arith}
 use lib.Dec.{ltb}
 use lib.ListN.{length}
@@ -13,29 +14,33 @@ use Rattle.meaning.specs.declared.AtomNo.{AtomNo}
 use Rattle.meaning.specs.Sets.{every}
 use Rattle.meaning.specs.Books.{Atoms, atomNo, Book}
 use Rattle.meaning.specs.Claim.{named}
+use Rattle.meaning.specs.Written.{nothing}
 use Rattle.meaning.proofs.Tests.{left, right, lt-or-le}
 use Rattle.book.specs.Format.{bookIn}
 use Rattle.book.specs.Rows.{Bytes}
-use Rattle.walk.specs.Tries.{to-reading}
-use Rattle.walk.specs.Find.{Told, set, stopped, refusedAt, refused, Answered, findOf}
+use Rattle.walk.specs.Events.{events}
+use Rattle.walk.specs.Readings.{readings}
+use Rattle.walk.specs.Tries.{to-reading, to-end as to-last}
+use Rattle.walk.specs.Find.{Told, set, fewer, stopped, refusedAt, refused, Answered, findOf}
 use Rattle.walk.proofs.Run.{apart}
 use Rattle.walk.proofs.Needs.{kth-count}
 use Rattle.walk.proofs.Demand.{find-set}
 use Rattle.writer.specs.Needs.{to-end, paperFor}
-use Rattle.writer.specs.Name.{paper, Answered as Named, nameOf}
+use Rattle.writer.specs.Name.{paper, fewer as nameFewer, Answered as Named, nameOf}
+use Rattle.writer.proofs.First.{fewer-none}
 use Rattle.writer.proofs.Ways.{Found, Settled, Outcome, first-stopped, no-reading, paper-stopped, got-stuck, too-long, handed-over}
 use Rattle.writer.proofs.Ways.{name-outcome}
 use Rattle.checker.specs.Numbers.{certain}
 use Rattle.checker.specs.Check.{checkOf}
 use Rattle.checker.proofs.Accepted.{check-exact}
 use Rattle.demands.specs.Engine.{Engine}
-use Rattle.demands.specs.Demand2.{Call, GivesReadings, Stops}
+use Rattle.demands.specs.Demand2.{Call, GivesReadings, Stops, TellsFewer, NamingFewer}
 use Rattle.demands.specs.Demand3.{Complete, InLimit, Writes}
 use Rattle.demands.proofs.Damaged.{every-book, bytes-good}
-use Rattle.demands.proofs.Calls.{found-as, named-as, book-fits, readings-there, nameable}
+use Rattle.demands.proofs.Calls.{found-as, named-as, book-fits, readings-there, call-counts, nameable}
 use Rattle.demands.proofs.Ours1.{ours-1}
 use Rattle.demands.proofs.Ours2.{ours-2}
-use Rattle.demands.proofs.Ours3.{settled-certain, ours-3, naming-of}
+use Rattle.demands.proofs.Ours3.{settled-certain, told-paper, told-none, naming-of, ours-3}
 
 pub bytes-of : (l : List ℕ) → every (λ n. ltb n 256) l ≡ true → Bytes l
 unfolding every
@@ -48,6 +53,7 @@ bytes-of (x ∷ l) e (suc i) = bytes-of l (right (ltb x 256) _ e) i
 -- the answers to good calls
 pub data Good : Told → Type 0 where
   good-set : {t : ℕ} → Good (set t)
+  good-fewer : {t n : ℕ} → Good (fewer t n)
   good-stop : {l : ℕ} → Good (stopped l)
 
 module _ (book : List ℕ) (bytes : Bytes book) (k limit : ℕ) (answer : List ℕ) where
@@ -100,6 +106,18 @@ module _ (book : List ℕ) (bytes : Bytes book) (k limit : ℕ) (answer : List �
       let (u, v) = ours-2 .stops book b k limit answer c in
       (λ p. v (f p), λ p. g (u p))
 
+  pub fewer-as-ours : (e : Engine) → TellsFewer e → {t m : ℕ} → findOf book k limit answer .told ≡ fewer t m
+      → e .find book k limit answer .told ≡ fewer t m
+  fewer-as-ours e tells told =
+      let (b, c) = call-of good-fewer told in
+      let (l, all, n, needs) = call-counts c in
+      let within : n ≤ limit = ⊎-elim (λ h. let p = ours-2 .stops book b k limit answer c .1 (n, needs, h) in apart (cc)) (λ h. h)
+      (lt-or-le limit n) in
+      let few : length l < k = ⊎-elim (λ h. h)
+      (λ h. let p = ours-2 .gives-readings book b k limit answer c l all n needs within h .0 in apart (cc)) (lt-or-le (length l) k) in
+      tells book b k limit answer c l all n needs within .1 few
+      ∙ sym (ours-2 .tells-fewer book b k limit answer c l all n needs within .1 few) ∙ told
+
 -- ---- checking
 
 module _ (book s : List ℕ) (bytes : Bytes s) where
@@ -122,11 +140,31 @@ handed (got-stuck f u h) e = apart (cc)
 handed (too-long f s l) e = apart (cc)
 handed (handed-over {x} f s h l) e = (x, f, s, h, l)
 
+-- where fewer was told, there is no reading, and the whole walk was within the limit
+none : {b : Book} {a : AtomNo} {limit : ℕ} {buffer : List ℕ} {r : Named} → Outcome b (named a) limit buffer r
+    → {t n : ℕ} → r .told ≡ nameFewer t n → (length (readings b) < 1) × (length (events b nothing) ≤ limit)
+none (first-stopped p h) e = apart (cc)
+none (no-reading h l) e = (h, l)
+none (paper-stopped f p h) e = apart (cc)
+none (got-stuck f u h) e = apart (cc)
+none (too-long f s l) e = apart (cc)
+none (handed-over f s h l) e = apart (cc)
+
 module _ (book : List ℕ) (bytes : Bytes book) (a : AtomNo) (limit : ℕ) (buffer : List ℕ) where
+  pub unnamed-as-ours : (e : Engine) → NamingFewer e → {t n : ℕ} → nameOf book a limit buffer .told ≡ nameFewer t n
+      → e .name book a limit buffer .told ≡ nameFewer t n
+  unnamed-as-ours e tells told =
+      let (b, c) = naming-of book bytes a limit buffer told-none told in
+      let in-book = ap (λ (r : Named). r .told) (sym (named-as (c .good-book) a limit buffer)) ∙ told in
+      let (few, within) = none (name-outcome b (named a) limit buffer (nameable c)) in-book in
+      let lacks = fewer-none b (nameable c .few-rules) few in
+      tells book b a limit buffer c _ (to-last few) within .1 lacks
+      ∙ sym (ours-2 .naming-fewer book b a limit buffer c _ (to-last few) within .1 lacks) ∙ told
+
   pub written-as-ours : (e : Engine) → Writes e → {t n : ℕ} → nameOf book a limit buffer .told ≡ paper t n
       → e .name book a limit buffer ≡ nameOf book a limit buffer
   written-as-ours e writes {t} told =
-      let (b, c) = naming-of book bytes a limit buffer told in
+      let (b, c) = naming-of book bytes a limit buffer told-paper told in
       let in-book = ap (λ (r : Named). r .told) (sym (named-as (c .good-book) a limit buffer)) ∙ told in
       let (x, (i, first, h), (all, m), room, most) = handed (name-outcome b (named a) limit buffer (nameable c)) in-book in
       let w : InLimit b a limit x _ =

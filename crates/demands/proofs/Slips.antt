@@ -20,6 +20,7 @@ use Rattle.meaning.proofs.Answers.{nothing-certain}
 use Rattle.meaning.proofs.Papers.{keeps-certain}
 use Rattle.book.specs.Format.{u16At, partOf, bytesOf, recordOf, lengthOf, ruleOf, recordsOf, rulesOf, readingOf, bodyOf, readOf}
 use Rattle.book.specs.Format.{andThen as recordsThen, bookOf, bookIn}
+use Rattle.book.specs.Rows.{Bytes}
 use Rattle.walk.specs.Find.{set, findOf}
 use Rattle.writer.specs.Name.{paper, refused as unnamed, nameOf}
 use Rattle.checker.specs.Numbers.{certain, refused}
@@ -29,7 +30,6 @@ use Rattle.checker.specs.Witness.{andThen as witnessThen, follows, orderOf, blo
 use Rattle.checker.specs.Check.{witnessTold, branchTold, stepsTold, trailerTold, paperOf, checkReading, checkOf}
 use Rattle.demands.specs.Engine.{Engine}
 use Rattle.demands.specs.Damaged.{GoodBook}
-use Rattle.demands.specs.Demand2.{Naming}
 use Rattle.demands.specs.Demand3.{Sound, WritesOnly}
 use Rattle.demands.specs.Printed.{choice, circular}
 use Rattle.demands.specs.Worked.{Holds, sevens}
@@ -65,10 +65,10 @@ none-certain e sound book none s a told = let (p, (b, g, c)) = sound book s a to
 -- ---- "A name taken from the first answer set."
 
 -- a paper is told only if the atom is in every answer set, of any engine of which demand 3's last sentence holds
-pub told-certain : (e : Engine) → WritesOnly e → {book : List ℕ} {b : Book} {a : AtomNo} {limit : ℕ} {buffer : List ℕ} → Naming book b a
-    → {t n : ℕ} → e .name book a limit buffer .told ≡ paper t n → Certain b a
-told-certain e only {book} {b} {a} {limit} {buffer} c {t} {n} told =
-    let (most, room, k, later) = only book b a limit buffer c t n told in keeps-certain b a k
+pub told-certain : (e : Engine) → WritesOnly e → (book : List ℕ) → Bytes book → (a : AtomNo) (limit : ℕ) (buffer : List ℕ) (t n : ℕ)
+    → e .name book a limit buffer .told ≡ paper t n → (b : Book) × GoodBook book b × Certain b a
+told-certain e only book bytes a limit buffer t n told =
+    let (b, g, most, room, k, later) = only book bytes a limit buffer t n told in (b, g, keeps-certain b a k)
 
 -- so 0 is not named in "0 if not 1; 1 if not 0", where the first answer set has it and the second has not
 pub first-set-names-nobody : (findOf choice 1 1000 (sevens 3) ≡ record { told = set 2; buffer = 1 ∷ 0 ∷ sevens 1 })

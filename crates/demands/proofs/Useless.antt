@@ -1,31 +1,34 @@
 -- The five useless versions do not meet the demands (specs/Useless): each is refuted by the sentence of a demand that document 01 names for
--- it, at one or two of the worked books. The sentence makes the version answer as ours does there, and it does not.
+-- it, at one or two of the worked books. The sentence makes the version answer as ours does there, and it does not. Whoever refuses every
+-- call, by whatever excuses, is refuted so too, and so is whoever tells other tries than ours at any call.
 use mathlib.Core.Path.{_≡_, refl, sym, _∙_, ap}
 use mathlib.Core.Logic.{⊎-elim, _↔_}
 use mathlib.Core.List.{List, _∷_, _++_}
 use Prim.Native.Nat.{ℕ, _<_}
 use native.Mathlib.Omega.{arith}
 use lib.ListN.{getD}
+use Rattle.meaning.specs.declared.AtomNo.{AtomNo}
 use Rattle.meaning.specs.Sets.{every}
 use Rattle.meaning.specs.Books.{atomNo, Book}
 use Rattle.meaning.proofs.Tests.{lt-or-le}
 use Rattle.book.specs.Rows.{Bytes}
-use Rattle.walk.specs.Find.{Told, Answered as Found, set, stopped, findOf}
+use Rattle.walk.specs.Find.{Told, Answered as Found, set, fewer, stopped, findOf}
 use Rattle.walk.specs.Tries.{Needs}
 use Rattle.walk.proofs.Run.{apart}
 use Rattle.walk.proofs.Needs.{needs-one}
-use Rattle.writer.specs.Name.{Answered as Named, paper, nameOf}
+use Rattle.writer.specs.Name.{Answered as Named, paper, fewer as nameFewer, nameOf}
 use Rattle.checker.specs.Numbers.{certain}
 use Rattle.checker.specs.Check.{checkOf}
 use Rattle.demands.specs.Engine.{Engine}
-use Rattle.demands.specs.Demand2.{Call, GivesReadings, Stops}
+use Rattle.demands.specs.Demand2.{Call, GivesReadings, Stops, TellsFewer, NamingFewer}
 use Rattle.demands.specs.Demand3.{Complete, Writes}
 use Rattle.demands.specs.Printed.{fact, factPaper, choice}
 use Rattle.demands.specs.Worked.{Holds, sevens}
 use Rattle.demands.specs.Useless.{Excuse, at-limit, too-few, by-number, by-place, findExcuse, nameExcuse, refusesAll, sameSet}
-use Rattle.demands.specs.Useless.{doesNothing, withTries, inventsTries}
+use Rattle.demands.specs.Useless.{NeverFinds, NeverNames, NeverAccepts, doesNothing, withTries, inventsTries}
 use Rattle.demands.proofs.Worked.{At, row}
-use Rattle.demands.proofs.Sentences.{bytes-of, good-set, good-stop, given-as-ours, stops-as-ours, accepts-as-ours, written-as-ours}
+use Rattle.demands.proofs.Sentences.{bytes-of, good-set, good-stop, given-as-ours, stops-as-ours, fewer-as-ours, accepts-as-ours}
+use Rattle.demands.proofs.Sentences.{unnamed-as-ours, written-as-ours}
 
 abbrev told : Found → Told
 told a = a .told
@@ -96,6 +99,17 @@ module _ (e : Engine) where
 
 -- ---- "One refuses each call: demand 2's "exactly" and demand 3's last two sentences stop it."
 
+module _ (e : Engine) where
+  pub never-finds-fails : NeverFinds e → GivesReadings e → ⊥
+  never-finds-fails never s = never fact 1 1000 (sevens 2) 1 (ap told (gives-fact e s))
+
+  pub never-names-fails : NeverNames e → Writes e → ⊥
+  never-names-fails never s = never fact (atomNo 0) 1000 (sevens 12) 1 10 (ap (λ (r : Named). r .told) (writes-fact e s))
+
+  pub never-accepts-fails : NeverAccepts e → Complete e → ⊥
+  never-accepts-fails never s = never fact factPaper 0 (accepts-fact e s)
+
+-- with one and the same excuse, it does not stop as demand 2 says either
 module _ (i at : ℕ) where
   refuses-all-stops : (w : Excuse) → Stops (refusesAll w i at) → ⊥
   unfolding findExcuse
@@ -104,20 +118,20 @@ module _ (i at : ℕ) where
   refuses-all-stops (by-number j) s = let e = stops-fact (refusesAll (by-number j) i at) s in apart (cc)
   refuses-all-stops (by-place j p) s = let e = stops-fact (refusesAll (by-place j p) i at) s in apart (cc)
 
-  refuses-all-writes : (w : Excuse) → Writes (refusesAll w i at) → ⊥
+  refuses-all-names : (w : Excuse) → NeverNames (refusesAll w i at)
   unfolding nameExcuse
-  refuses-all-writes w s = no-paper w (ap (λ (r : Named). r .told) (writes-fact (refusesAll w i at) s))
-    where
-      no-paper : (w : Excuse) → nameExcuse w 1000 ≡ paper 1 10 → ⊥
-      no-paper at-limit e = apart (cc)
-      no-paper (too-few t n) e = apart (cc)
-      no-paper (by-number j) e = apart (cc)
-      no-paper (by-place j p) e = apart (cc)
+  refuses-all-names at-limit book a limit buffer t n e = apart (cc)
+  refuses-all-names (too-few u m) book a limit buffer t n e = apart (cc)
+  refuses-all-names (by-number j) book a limit buffer t n e = apart (cc)
+  refuses-all-names (by-place j p) book a limit buffer t n e = apart (cc)
 
   pub refuses-all-fails : (w : Excuse)
       → (Stops (refusesAll w i at) → ⊥) × (Complete (refusesAll w i at) → ⊥) × (Writes (refusesAll w i at) → ⊥)
-  refuses-all-fails w =
-      (refuses-all-stops w, λ s. let e = accepts-fact (refusesAll w i at) s in apart (cc), refuses-all-writes w)
+  refuses-all-fails w = (
+    refuses-all-stops w,
+    never-accepts-fails (refusesAll w i at) (λ book s a e. apart (cc)),
+    never-names-fails (refusesAll w i at) (refuses-all-names w),
+  )
 
 -- ---- "One gives the same answer set": demand 2
 
@@ -141,6 +155,27 @@ invents-tries-fails n s =
     let p : set n ≡ set 1 = sym (ap (withTries n) (ap told fact-found)) ∙ ap told (gives-fact (inventsTries n) s) in
     let q : set n ≡ set 2 = sym (ap (withTries n) (ap told choice-first)) ∙ ap told (gives-first (inventsTries n) s) in
     let u : n ≡ 1 = cc in let v : n ≡ 2 = cc in absurd (omega arith)
+
+-- of any engine of which the sentence holds, at every call: the tries that it tells with a reading, with fewer readings than asked, with a
+-- paper and with no reading to name from are ours
+module _ (e : Engine) (book : List ℕ) (bytes : Bytes book) (limit : ℕ) where
+  module _ (k : ℕ) (answer : List ℕ) where
+    pub set-tries-ours : GivesReadings e → {t u : ℕ} → findOf book k limit answer .told ≡ set t
+        → e .find book k limit answer .told ≡ set u → u ≡ t
+    set-tries-ours s p q = let same = ap told (given-as-ours book bytes k limit answer e s p) in cc
+
+    pub fewer-tries-ours : TellsFewer e → {t n u m : ℕ} → findOf book k limit answer .told ≡ fewer t n
+        → e .find book k limit answer .told ≡ fewer u m → u ≡ t
+    fewer-tries-ours s p q = let same = fewer-as-ours book bytes k limit answer e s p in cc
+
+  module _ (a : AtomNo) (buffer : List ℕ) where
+    pub paper-tries-ours : Writes e → {t n u m : ℕ} → nameOf book a limit buffer .told ≡ paper t n
+        → e .name book a limit buffer .told ≡ paper u m → u ≡ t
+    paper-tries-ours s p q = let same = ap (λ (r : Named). r .told) (written-as-ours book bytes a limit buffer e s p) in cc
+
+    pub unnamed-tries-ours : NamingFewer e → {t n u m : ℕ} → nameOf book a limit buffer .told ≡ nameFewer t n
+        → e .name book a limit buffer .told ≡ nameFewer u m → u ≡ t
+    unnamed-tries-ours s p q = let same = unnamed-as-ours book bytes a limit buffer e s p in cc
 
 -- whatever an engine counts for the limit: if it stops exactly when its count passes the limit, its count is the tries of the fixed walk
 pub counts-tries : (e : Engine) → Stops e → (book : List ℕ) (b : Book) (k : ℕ) (answer : List ℕ) → Call book b k answer

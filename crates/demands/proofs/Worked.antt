@@ -24,7 +24,8 @@ use Rattle.walk.specs.Page.{setIn}
 use Rattle.writer.specs.Branches.{behind, branchBy, branchIn, branch, below, branchesIn, branches}
 use Rattle.writer.specs.Scan.{courseAt, scan}
 use Rattle.writer.specs.Scan.{met as branchMet}
-use Rattle.writer.specs.Name.{firstWalk, paperWalk, wholePaper, handOver, afterPaperWalk, afterFirstWalk, nameIn, nameReading, nameOf}
+use Rattle.writer.specs.Needs.{wholePaper}
+use Rattle.writer.specs.Name.{firstWalk, paperWalk, handOver, afterPaperWalk, afterFirstWalk, nameIn, nameReading, nameOf}
 use Rattle.checker.specs.Steps.{withRule, properList, withList, stepBy, stepOf}
 use Rattle.checker.specs.Branches.{afterStep, branchOf}
 use Rattle.checker.specs.Branches.{andThen as branchThen}

@@ -2,7 +2,7 @@
 -- or paper, by place; the caller need not have looked first, and a refusal changes no byte of any buffer lent to it."
 --
 -- An engine is a function of what it is handed, so it answers every call; that every call comes to an end is the toolchain's own check of
--- every function. Each number is given exactly where its row of document 01's table holds. Bytes book: each is a byte, below 256.
+-- every function. Each number is given exactly where its row of document 01's table holds.
 use mathlib.Core.Path.{_≡_}
 use mathlib.Core.List.{List}
 use mathlib.Core.Logic.{_⊎_, _↔_}
@@ -10,7 +10,6 @@ use Prim.Native.Nat.{ℕ, _≤_, _<_}
 use lib.ListN.{length}
 use Rattle.meaning.specs.declared.AtomNo.{AtomNo}
 use Rattle.meaning.specs.Books.{Book}
-use Rattle.book.specs.Rows.{Bytes}
 use Rattle.walk.specs.Find.{set, refusedAt, refused}
 use Rattle.writer.specs.Name.{paper, refusedAt as unnamedAt, refused as unnamed}
 use Rattle.checker.specs.Numbers.{refused as unchecked}
@@ -33,7 +32,7 @@ pub record Demand1 (e : Engine) : Type 0 where
   pub name-atom : (book : List ℕ) (a : AtomNo) (limit : ℕ) (buffer : List ℕ)
       → (e .name book a limit buffer .told ≡ unnamed 13) ↔ ((b : Book) × GoodBook book b × (b .atoms ≤ a .0))
   -- whatever is told but success, every lent byte is as it was
-  pub find-keeps : (book : List ℕ) → Bytes book → (k limit : ℕ) (answer : List ℕ)
+  pub find-keeps : (book : List ℕ) (k limit : ℕ) (answer : List ℕ)
       → ((t : ℕ) → e .find book k limit answer .told ≡ set t → ⊥) → e .find book k limit answer .buffer ≡ answer
   pub name-keeps : (book : List ℕ) (a : AtomNo) (limit : ℕ) (buffer : List ℕ)
       → ((t n : ℕ) → e .name book a limit buffer .told ≡ paper t n → ⊥) → e .name book a limit buffer .buffer ≡ buffer

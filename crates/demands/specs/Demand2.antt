@@ -4,6 +4,7 @@
 --
 --   Call book b k answer     a call for a reading whose book, numbers and room are good
 --   Naming book b a          a call for a paper whose book and number are good
+--   Bytes book               (of book) each number is a byte, below 256
 --   AllReadings b l          (of walk) the list l holds exactly the answer sets of b, each once, in the order that speaks of no walk
 --   Needs b k n              (of walk) the fixed walk needs n tries for the k-th reading, or to its end where there are fewer
 --   PaperNeeds b claim n     (of writer) the paper's walk needs n tries

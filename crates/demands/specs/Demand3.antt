@@ -17,6 +17,7 @@ use Rattle.meaning.specs.Books.{Atoms, atomNo, Book}
 use Rattle.meaning.specs.AnswerSet.{Certain}
 use Rattle.meaning.specs.Claim.{named}
 use Rattle.meaning.specs.Paper.{Keeps}
+use Rattle.book.specs.Rows.{Bytes}
 use Rattle.walk.specs.Tries.{Kth}
 use Rattle.writer.specs.Needs.{Needs, paperFor}
 use Rattle.writer.specs.Name.{paper, refused}
@@ -66,11 +67,11 @@ TellsUncertain e = (book : List ℕ) (b : Book) (a : AtomNo) (limit : ℕ) (buff
     → (x : Atoms) (m : ℕ) → InLimit b a limit x m
     → (e .name book a limit buffer .told ≡ refused 12) ↔ (Certain b a → ⊥)
 
--- whatever the call was: where a paper is told, such a paper stands in the buffer
+-- whatever the call was: where a paper is told, the book is good, and such a paper stands in the buffer
 abbrev pub WritesOnly : Engine → Type 0
-WritesOnly e = (book : List ℕ) (b : Book) (a : AtomNo) (limit : ℕ) (buffer : List ℕ) → Naming book b a
+WritesOnly e = (book : List ℕ) → Bytes book → (a : AtomNo) (limit : ℕ) (buffer : List ℕ)
     → (t n : ℕ) → e .name book a limit buffer .told ≡ paper t n
-    → (n ≤ 60000) × (n ≤ length buffer) × Keeps b (named a) (take n (e .name book a limit buffer .buffer))
+    → (b : Book) × GoodBook book b × (n ≤ 60000) × (n ≤ length buffer) × Keeps b (named a) (take n (e .name book a limit buffer .buffer))
     × (drop n (e .name book a limit buffer .buffer) ≡ drop n buffer)
 
 pub record Demand3 (e : Engine) : Type 0 where

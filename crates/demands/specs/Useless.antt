@@ -1,16 +1,23 @@
--- The five useless versions of document 01, each an engine of its own and as sharp as it can be: what its fault does not touch it does as
--- ours does. Document 01, "What the promises say": "Five useless versions are to be tried."
+-- The five useless versions of document 01. What the fault of an engine here does not touch, it does as ours does; a parameter e or f may
+-- be anything. A predicate is there for every engine with that fault, whatever else it does. Document 01, "What the promises say": "Five
+-- useless versions are to be tried."
 --
 --   refusesAll w i at    "One refuses each call": with the excuse w, and the paper with number i at the place `at`
+--   NeverFinds e         the same with excuses that may differ from call to call: e never tells a reading
+--   NeverNames e         e never tells a paper
+--   NeverAccepts e       e never tells that an atom is certain
 --   sameSet f            "One gives the same answer set": f finds it without a look at k
 --   alwaysAccepts        "or always accepts": every paper in which nothing of 1 to 23 is wrong
 --   closesOnce           "One closes once and calls the rest off"
 --   firstBranch          "or checks only the first branch": of each split; the second is passed over by its form
 --   doesNothing e        "One does nothing and reports success": whatever e reports
---   inventsTries n       "One invents tries": always n
+--   inventsTries n       "One invents tries": always n, in finding. Of every engine it is shown (proofs/Useless) that demand 2 or 3 does
+--                        not hold of it if, at any call, it tells other tries than ours with a reading, with a paper or with 11
+use mathlib.Core.Path.{_≡_}
 use mathlib.Core.List.{List, [], _∷_}
 use Prim.Native.Nat.{ℕ, zero, suc, _+_}
 use lib.ListN.{length, getD}
+use Rattle.meaning.specs.declared.AtomNo.{AtomNo}
 use Rattle.meaning.specs.declared.colouring.Colouring.{Colouring}
 use Rattle.meaning.specs.Books.{Book}
 use Rattle.meaning.specs.Colours.{Pair, onSide, put, start, clashing}
@@ -24,7 +31,7 @@ use Rattle.walk.specs.Readings.{readingOf}
 use Rattle.walk.specs.Run.{rowOf, writeAt}
 use Rattle.walk.specs.Find.{set, fewer, stopped, refusedAt, refused, findOf}
 use Rattle.walk.specs.Find.{Told as FindTold, Answered as Found}
-use Rattle.writer.specs.Name.{Told as NameTold, nameOf}
+use Rattle.writer.specs.Name.{Told as NameTold, paper, nameOf}
 use Rattle.writer.specs.Name.{fewer as nameFewer, stopped as nameStopped, refusedAt as unnamedAt, refused as unnamed}
 use Rattle.checker.specs.Numbers.{certain}
 use Rattle.checker.specs.Numbers.{Told as CheckTold, refused as unchecked}
@@ -62,6 +69,15 @@ refusesAll w i at = record {
   name = λ book a limit buffer. record { told = nameExcuse w limit; buffer = buffer };
   check = λ book s. unchecked i at;
 }
+
+abbrev pub NeverFinds : Engine → Type 0
+NeverFinds e = (book : List ℕ) (k limit : ℕ) (answer : List ℕ) (t : ℕ) → e .find book k limit answer .told ≡ set t → ⊥
+
+abbrev pub NeverNames : Engine → Type 0
+NeverNames e = (book : List ℕ) (a : AtomNo) (limit : ℕ) (buffer : List ℕ) (t n : ℕ) → e .name book a limit buffer .told ≡ paper t n → ⊥
+
+abbrev pub NeverAccepts : Engine → Type 0
+NeverAccepts e = (book s : List ℕ) (a : ℕ) → e .check book s ≡ certain a → ⊥
 
 -- ---- gives the same answer set, or always accepts
 

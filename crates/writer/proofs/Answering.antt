@@ -20,11 +20,13 @@ use Rattle.book.specs.Numbers.{shape, numberOf, placeOf, refused as badly, told
 use Rattle.book.specs.Format.{Reading, good, bad, readOf, toldOf, bookOf, bookIn, ReadAs}
 use Rattle.book.proofs.Places.{shape-atoms}
 use Rattle.walk.specs.Run.{State}
+use Rattle.walk.specs.Page.{setIn}
 use Rattle.walk.specs.declared.tally.Tally.{Tally}
 use Rattle.walk.specs.declared.tally.Halt.the-variants.{Going, Full, Limit, NotLeast}
 use Rattle.writer.specs.Branches.{branches}
 use Rattle.writer.specs.Scan.{Progress, writing, scan}
-use Rattle.writer.specs.Name.{fewer, stopped, refused, Answered, firstWalk, paperWalk, wholePaper, handOver, afterPaperWalk}
+use Rattle.writer.specs.Needs.{wholePaper}
+use Rattle.writer.specs.Name.{fewer, stopped, refused, Answered, firstWalk, paperWalk, handOver, afterPaperWalk}
 use Rattle.writer.specs.Name.{refusedAt, afterFirstWalk, nameIn, nameReading, nameOf}
 use Rattle.writer.specs.Draft.{whole, courseOf, Stage}
 use Rattle.writer.specs.declared.split.Course.the-variants.{Writing, Limited, Refuted}
@@ -79,7 +81,7 @@ module _ (b : Book) (k : Claim) (limit : ℕ) (buffer : List ℕ) (below : claim
     name-refuted f = sym (name-paper ∙ rw f)
 
     pub name-handed : q .course ≡ Writing → {a : Answered}
-        → a ≡ handOver (q .tries) (wholePaper b k (paperWalk b k limit .bytes) row) buffer → a ≡ nameIn b k limit buffer
+        → a ≡ handOver (q .tries) (wholePaper b k (paperWalk b k limit .bytes) (setIn row)) buffer → a ≡ nameIn b k limit buffer
     unfolding afterPaperWalk
     name-handed f g = g ∙ rw (d .tries) (sym (name-paper ∙ rw f))
 

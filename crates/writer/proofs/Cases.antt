@@ -22,7 +22,8 @@ use Rattle.walk.specs.Run.{rowFrom, rowOf, writeAt, readingMet, tried, met as e
 use Rattle.walk.specs.Page.{setIn}
 use Rattle.writer.specs.Branches.{behind, branchBy, branchIn, branch, below, branchesIn, branches}
 use Rattle.writer.specs.Scan.{courseAt, met, scan}
-use Rattle.writer.specs.Name.{paper, fewer, stopped, refused, firstWalk, paperWalk, wholePaper, handOver, afterPaperWalk}
+use Rattle.writer.specs.Needs.{wholePaper}
+use Rattle.writer.specs.Name.{paper, fewer, stopped, refused, firstWalk, paperWalk, handOver, afterPaperWalk}
 use Rattle.writer.specs.Name.{afterFirstWalk, nameIn, nameReading, nameOf}
 
 -- "Fact 0: 00 00 00 | 00 00 | 01 01 03 00 52 42"

@@ -8,13 +8,13 @@ use native.Mathlib.Numerals.{add-one}
 use native.Mathlib.Omega.{arith}
 use lib.ListN.{length, getD, take, drop, set, length-append}
 use lib.Seq.{paste-suc, length-take-le}
-use Rattle.meaning.specs.Books.{Book}
+use Rattle.meaning.specs.Books.{Atoms, Book}
 use Rattle.meaning.specs.Claim.{Claim}
 use Rattle.meaning.specs.Paper.{numbers, trailer}
 use Rattle.meaning.specs.Engine.{witnessOf}
 use Rattle.walk.specs.Run.{writeAt}
-use Rattle.walk.specs.Page.{setIn}
-use Rattle.writer.specs.Name.{paper, refused, wholePaper, handOver}
+use Rattle.writer.specs.Needs.{wholePaper}
+use Rattle.writer.specs.Name.{paper, refused, handOver}
 use Rattle.writer.specs.Draft.{Stands, whole, passed, Writes}
 use Rattle.writer.proofs.Stages.{only, hand-no-room, hand-long, hand-over}
 
@@ -60,14 +60,14 @@ module _ (tries : ℕ) (buffer : List ℕ) {w : List ℕ} {n : ℕ} {draft : Lis
 
 -- ---- the paper put together
 
-module _ (b : Book) (k : Claim) (row steps : List ℕ) {from m n count : ℕ} {before draft out : List ℕ} where
-  pub paper-whole : Stands steps from before → count ≡ length (witnessOf b (setIn row))
-      → Writes (numbers (witnessOf b (setIn row))) from before m draft → Writes (trailer k count from) m draft n out
-      → Stands (wholePaper b k steps row) n out
+module _ (b : Book) (k : Claim) (x : Atoms) (steps : List ℕ) {from m n count : ℕ} {before draft out : List ℕ} where
+  pub paper-whole : Stands steps from before → count ≡ length (witnessOf b x)
+      → Writes (numbers (witnessOf b x)) from before m draft → Writes (trailer k count from) m draft n out
+      → Stands (wholePaper b k steps x) n out
   unfolding wholePaper
   paper-whole (whole g e h f) c w v = rw (← c, ← e, ← append-assoc) (v .behind _ (w .behind steps (whole g e h f)))
   paper-whole (passed g e h) c w v =
       passed (stands-long s) (stands-counted s (simp length-append (omega arith))) (simp length-append (omega arith))
     where
-      s : Stands ((steps ++ numbers (witnessOf b (setIn row))) ++ trailer k count from) n out
+      s : Stands ((steps ++ numbers (witnessOf b x)) ++ trailer k count from) n out
       s = v .behind _ (w .behind steps (passed g e h))

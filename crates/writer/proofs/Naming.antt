@@ -1,6 +1,7 @@
 -- What a naming answers (demand 3; blueprint, N2, N3, N5 and N7), for a good book and an atom of it: in document 01's order 9, 11, 9, 12
--- and 14, each exactly under its condition, else the paper, which keeps the printed rules; where the claim holds throughout it is never
--- 11 or 12; where it fails of an answer set it is 12 or 9. All of it is read off the ways that a call can go (proofs/Ways).
+-- and 14, each exactly under its condition, else the paper, which keeps the printed rules; where the claim holds throughout it is a paper,
+-- 9 or 14, never 11 or 12; where it does not, and there is an answer set, 12 or 9. All of it is read off the ways that a call can go
+-- (proofs/Ways).
 use mathlib.Core.Path.{_≡_, refl, ap, subst}
 use mathlib.Core.Logic.{_⊎_, inl, inr, ⊎-elim, _↔_}
 use mathlib.Core.Bool.{true}
@@ -168,6 +169,20 @@ module _ (b : Book) (k : Claim) (limit : ℕ) (buffer : List ℕ) where
       λ e. let (x, answer, n) = name-lacks e in clash (c .each x answer) n,
     )
 
+    -- so it is a paper, 9 or 14
+    pub name-certain-told : Throughout b (meant k) → ((t : ℕ) × (n : ℕ) × (nameIn b k limit buffer .told ≡ paper t n))
+        ⊎ ((nameIn b k limit buffer .told ≡ stopped limit) ⊎ (nameIn b k limit buffer .told ≡ refused 14))
+    name-certain-told c = by (name-outcome b k limit buffer good)
+      where
+        by : {a : Answered} → Outcome b k limit buffer a
+            → ((t : ℕ) × (n : ℕ) × (a .told ≡ paper t n)) ⊎ ((a .told ≡ stopped limit) ⊎ (a .told ≡ refused 14))
+        by (first-stopped p h) = inr (inl refl)
+        by (no-reading h l) = absurd (fewer-none b (good .few-rules) h (c .one .0) (c .one .1))
+        by (paper-stopped f p h) = inr (inl refl)
+        by (got-stuck f u h) = clash (certain-settled b k (good .few-rules) c) (stuck-unsettled b k u)
+        by (too-long f s l) = inr (inr refl)
+        by (handed-over f s h l) = inl (_, _, refl)
+
     -- "When the atom is in all answer sets, and there is at least one, the engine writes such a paper unless document 01's walks pass the
     -- tries limit or its paper passes the room given or 60,000 bytes"
     pub name-writes : Throughout b (meant k) → {t : ℕ} {x : Atoms} → Kth b 1 t x → t ≤ limit → length (branches b k start) ≤ limit
@@ -179,17 +194,17 @@ module _ (b : Book) (k : Claim) (limit : ℕ) (buffer : List ℕ) where
           paper-keeps b k (good .few-rules) s (good .atom-below) x (kth-answer b (good .few-rules) first),
         )
 
-    -- where it fails of an answer set, the answer is 12 or 9
-    pub name-uncertain : (x : Atoms) → AnswerSet b x → x ∉ meant k
+    -- where there is an answer set and the claim does not hold throughout, the answer is 12 or 9
+    pub name-uncertain : (x : Atoms) × AnswerSet b x → (Throughout b (meant k) → ⊥)
         → (nameIn b k limit buffer .told ≡ refused 12) ⊎ (nameIn b k limit buffer .told ≡ stopped limit)
-    name-uncertain x answer n = by (name-outcome b k limit buffer good)
+    name-uncertain some not = by (name-outcome b k limit buffer good)
       where
         open-branch : {A : Type 0} → Settled b k limit → A
-        open-branch s = clash (settled-each b k (good .few-rules) (s .0) x answer) n
+        open-branch s = absurd (not (record { one = some; each = settled-each b k (good .few-rules) (s .0) }))
 
         by : {a : Answered} → Outcome b k limit buffer a → (a .told ≡ refused 12) ⊎ (a .told ≡ stopped limit)
         by (first-stopped p h) = inr refl
-        by (no-reading h l) = absurd (fewer-none b (good .few-rules) h x answer)
+        by (no-reading h l) = absurd (fewer-none b (good .few-rules) h (some .0) (some .1))
         by (paper-stopped f p h) = inr refl
         by (got-stuck f u h) = inl refl
         by (too-long f s l) = open-branch s

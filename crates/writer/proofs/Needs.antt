@@ -1,5 +1,6 @@
 -- How the writer's way along the branches ends (blueprint, N7): stopped by the limit exactly if more branches are needed, else refuted
--- where one is left unsettled, else with all bytes written. The branches that are needed are counted by a function, along the list.
+-- where one is left unsettled, else with all bytes written. The branches that are needed are counted by a function, along the list. And
+-- how many branches there are in all (N4).
 use mathlib.Core.Path.{_≡_, refl, sym, _∙_, ap}
 use mathlib.Core.Logic.{_⊎_, inl, inr, ⊎-elim}
 use mathlib.Core.Bool.{true, false, true≢false, false≢true}
@@ -7,10 +8,10 @@ use mathlib.Core.List.{List, [], _∷_, _++_, append-assoc, append-nil}
 use Prim.Native.Nat.{ℕ, suc, _+_, _≤_, _<_}
 use native.Mathlib.Nat.{eq-or-lt-of-le}
 use native.Mathlib.Omega.{arith}
-use lib.ListN.{length}
+use lib.ListN.{length, length-append}
 use Rattle.meaning.specs.Sets.{_∈_, _∉_, every}
-use Rattle.meaning.specs.Books.{Book}
-use Rattle.meaning.specs.Colours.{start}
+use Rattle.meaning.specs.Books.{Book, count}
+use Rattle.meaning.specs.Colours.{Pair, start}
 use Rattle.meaning.specs.Claim.{Claim}
 use Rattle.meaning.specs.Choice.{ifb}
 use Rattle.meaning.proofs.Tests.{both, left, right, not-first, not-second, absent, decided}
@@ -20,6 +21,7 @@ use Rattle.writer.specs.Branches.{Tip, ended, parted, unsettled, Branch,
 use Rattle.writer.specs.Scan.{writing, limited, refuted, Progress, courseAt, scan}
 use Rattle.writer.specs.Needs.{settles, settled, Stuck, Needs, to-stuck, to-end, stepsOf}
 use Rattle.writer.specs.Name.{paperWalk}
+use Rattle.writer.proofs.Branches.{Parts, no-more, left-open, two-more, branches-parts}
 use Rattle.writer.proofs.Scan.{refuted-not-writing, taken, scan-nil, scan-over, scan-taken, scan-stops}
 
 -- the branches up to the first that is unsettled, or all
@@ -194,3 +196,33 @@ module _ (b : Book) (k : Claim) where
     paper-written s h =
         let n : 0 + length all ≡ length all = omega arith in
         scan-written limit all _ refl s (omega arith) ∙ (λ i. record { tries = n i; bytes = stepsOf all; course = writing })
+
+-- ---- tries and splits
+
+-- one for a branch that ends in a split
+unfoldable pub splitAt : Tip → ℕ
+splitAt ended = 0
+splitAt (parted r c) = 1
+splitAt unsettled = 0
+
+unfoldable pub splitsIn : List Branch → ℕ
+splitsIn [] = 0
+splitsIn (t ∷ l) = splitAt (t .tip) + splitsIn l
+
+splits-append : (l m : List Branch) → splitsIn (l ++ m) ≡ splitsIn l + splitsIn m
+unfolding splitsIn
+splits-append [] m = omega arith
+splits-append (t ∷ l) m = let e = splits-append l m in omega arith
+
+parts-tries : (b : Book) (k : Claim) {c : Pair} {l : List Branch} → Parts b k c l → length l ≡ splitsIn l + splitsIn l + 1
+unfolding splitsIn splitAt
+parts-tries b k (no-more e) = rw e
+parts-tries b k (left-open e) = rw e
+parts-tries b k (two-more {l = l} {m = m} e p q) =
+    let f = parts-tries b k p in let g = parts-tries b k q in
+    rw (e, length-append l m, splits-append l m) (omega arith)
+
+-- the tries of the whole paper's walk are one more than twice its splits (blueprint, N4)
+pub tries-splits : (b : Book) (k : Claim) → count b ≤ 255
+    → length (branches b k start) ≡ splitsIn (branches b k start) + splitsIn (branches b k start) + 1
+tries-splits b k fits = parts-tries b k (branches-parts b k fits start)

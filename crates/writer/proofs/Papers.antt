@@ -19,10 +19,8 @@ use Rattle.meaning.proofs.Sets.{every-append}
 use Rattle.meaning.proofs.Engine.{next-ends, next-puts-on, next-puts-off, next-drops, next-splits, next-stuck}
 use Rattle.meaning.proofs.Papers.{branch-each}
 use Rattle.meaning.proofs.Listing.{witness-of}
-use Rattle.walk.specs.Page.{setIn}
 use Rattle.writer.specs.Branches.{Tip, ended, parted, unsettled, Branch, behind, branch, branches}
-use Rattle.writer.specs.Needs.{settles, settled, stepsOf, paperFor}
-use Rattle.writer.specs.Name.{wholePaper}
+use Rattle.writer.specs.Needs.{settles, settled, stepsOf, wholePaper, paperFor}
 use Rattle.writer.proofs.Branches.{Steps, at-end, at-split, step-on, step-off, step-all, branch-steps}
 use Rattle.writer.proofs.Branches.{Reached, reached-stuck, branch-reached, Parts, no-more, left-open, two-more, branches-parts}
 
@@ -30,10 +28,6 @@ pub steps-append : (l m : List Branch) → stepsOf (l ++ m) ≡ stepsOf l ++ ste
 unfolding stepsOf
 steps-append [] m = refl
 steps-append (t ∷ l) m = rw (steps-append l m) (sym (append-assoc (t .bytes) (stepsOf l) (stepsOf m)))
-
-pub paper-whole : (b : Book) (k : Claim) (row : List ℕ) → wholePaper b k (stepsOf (branches b k start)) row ≡ paperFor b k (setIn row)
-unfolding wholePaper paperFor
-paper-whole b k row = refl
 
 module _ (b : Book) (k : Claim) (fits : count b ≤ 255) where
   -- ---- the steps are legal
@@ -97,7 +91,7 @@ module _ (b : Book) (k : Claim) (fits : count b ≤ 255) where
 
   pub paper-keeps : every settled (branches b k start) ≡ true → claimed k .0 < b .atoms → (x : Atoms) → AnswerSet b x
       → Keeps b k (paperFor b k x)
-  unfolding paperFor
+  unfolding paperFor wholePaper
   paper-keeps s h x answer = record {
     steps = stepsOf (branches b k start);
     witness = witnessOf b x;

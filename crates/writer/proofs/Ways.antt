@@ -30,7 +30,6 @@ use Rattle.writer.specs.Needs.{to-end as to-last}
 use Rattle.writer.specs.Name.{paper, fewer, stopped, refused, Answered, firstWalk, paperWalk, handOver}
 use Rattle.writer.specs.Name.{afterPaperWalk, afterFirstWalk, nameIn}
 use Rattle.writer.proofs.Needs.{stuck-some, paper-limited, paper-stuck, paper-written}
-use Rattle.writer.proofs.Papers.{paper-whole}
 use Rattle.writer.proofs.Stages.{only, hand-no-room, hand-long, hand-over}
 use Rattle.writer.proofs.First.{set-in-first, kth-answer, first-limited, first-none, first-found}
 
@@ -115,8 +114,8 @@ module _ (b : Book) (k : Claim) (limit : ℕ) (buffer : List ℕ) where
 
       module _ (all : Settled b k limit) where
         handed : answer ≡ handOver (length (branches b k start)) (paperFor b k x) buffer
-        unfolding afterPaperWalk
-        handed = after-first ∙ rw (paper-written b k limit (all .0) (all .1), paper-whole b k (firstWalk b limit .out), ended .1)
+        unfolding afterPaperWalk paperFor
+        handed = after-first ∙ rw (paper-written b k limit (all .0) (all .1), ended .1)
 
         pub way-too-long : TooLong b k buffer x → nameIn b k limit buffer ≡ only buffer (refused 14)
         way-too-long l = handed ∙ ⊎-elim (hand-no-room _ (paperFor b k x) buffer) (hand-long _ (paperFor b k x) buffer) l

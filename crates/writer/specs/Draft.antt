@@ -1,5 +1,5 @@
--- The draft, an array in which a paper is made, and how far the paper's walk has come in it. "At most 60,000 bytes": what comes behind that
--- is counted as one byte more, and the paper is refused with 14.
+-- What the functions of src/ hand each other: the draft, an array in which a paper is made, and how far the paper's walk has come in it.
+-- Document 01, "The paper": "At most 60,000 bytes". What comes behind that is counted as one byte more, and the paper is refused with 14.
 --
 --   Stands l n out         the bytes l are the first n of the array's 60,000; or there are more of them, and n says so
 --   Writes l m out n out'  whatever stands in the array, l stands behind it afterwards

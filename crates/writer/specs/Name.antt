@@ -3,15 +3,13 @@
 --
 --   told             an answer's number and values, case by case
 --   nameOf book a limit paper    the answer and the buffer, of the bytes of the book and of the buffer before
-use mathlib.Core.List.{List, [], _++_}
+use mathlib.Core.List.{List, []}
 use Prim.Native.Nat.{ℕ}
 use lib.ListN.{length, replicate}
 use Rattle.meaning.specs.declared.AtomNo.{AtomNo}
 use Rattle.meaning.specs.Books.{Book}
 use Rattle.meaning.specs.Colours.{start}
 use Rattle.meaning.specs.Claim.{Claim, named, claimed}
-use Rattle.meaning.specs.Paper.{numbers, trailer}
-use Rattle.meaning.specs.Engine.{witnessOf}
 use Rattle.meaning.specs.Written.{nothing}
 use Rattle.meaning.specs.Choice.{ifLt}
 use Rattle.book.specs.Numbers.{numberOf, placeOf}
@@ -24,6 +22,7 @@ use Rattle.walk.specs.declared.tally.Halt.{Halt}
 use Rattle.walk.specs.declared.tally.Halt.the-variants.{Going, Full, Limit, NotLeast}
 use Rattle.writer.specs.Branches.{branches}
 use Rattle.writer.specs.Scan.{Course, writing, limited, refuted, Progress, scan}
+use Rattle.writer.specs.Needs.{wholePaper}
 use Rattle.writer.specs.declared.answer.Named.{Named}
 use Rattle.writer.specs.declared.answer.Named.the-variants.{Paper, Fewer, Stopped, NotCertain, NoAtom, TooLong}
 use Rattle.writer.specs.declared.answer.Named.the-variants.{Book as BadBook, NotLeast as Wrong}
@@ -37,7 +36,7 @@ pub data Told : Type 0 where
   refused : ℕ → Told
 
 abbrev pub told : Named → Told
-told (Paper tries length) = paper tries length
+told (Paper tries size) = paper tries size
 told (Fewer tries) = fewer tries 0
 told (Stopped limit) = stopped limit
 told (BadBook f) = refusedAt (numberOf f) (placeOf f)
@@ -58,11 +57,6 @@ firstWalk b limit = run b (record { pass = 0; room = 1; limit = limit }) (startO
 unfoldable pub paperWalk : Book → Claim → ℕ → Progress
 paperWalk b k limit = scan limit (record { tries = 0; bytes = []; course = writing }) (branches b k start)
 
--- the whole paper: steps, witness, trailer
-unfoldable pub wholePaper : Book → Claim → List ℕ → List ℕ → List ℕ
-wholePaper b k steps row =
-    steps ++ (numbers (witnessOf b (setIn row)) ++ trailer k (length (witnessOf b (setIn row))) (length steps))
-
 -- "14: engine's paper longer than the buffer or 60,000"
 unfoldable pub handOver : ℕ → List ℕ → List ℕ → Answered
 handOver tries whole buffer =
@@ -71,7 +65,7 @@ handOver tries whole buffer =
     (record { told = paper tries (length whole); buffer = writeAt 0 whole buffer }))
 
 unfoldable pub afterPaperWalk : Course → Book → Claim → ℕ → Progress → List ℕ → List ℕ → Answered
-afterPaperWalk writing b k limit p row buffer = handOver (p .tries) (wholePaper b k (p .bytes) row) buffer
+afterPaperWalk writing b k limit p row buffer = handOver (p .tries) (wholePaper b k (p .bytes) (setIn row)) buffer
 afterPaperWalk limited b k limit p row buffer = record { told = stopped limit; buffer = buffer }
 afterPaperWalk refuted b k limit p row buffer = record { told = refused 12; buffer = buffer }
 

@@ -2,11 +2,12 @@
 -- counts as one try. A branch with no step left, all rules coloured and 45 not allowed settles that the atom isn't certain, and the walk
 -- stops there."
 --
---   settled t        the branch t ends with its 45 or with a split
---   Stuck b k n      the paper's walk gets stuck, and that at its n-th branch
---   Needs b k n      the paper's walk needs n branches: up to the one where it gets stuck, or all of them
---   stepsOf l        the bytes of the branches, one after the other
---   paperFor b k x   the engine's own paper with the witness of the answer set x
+--   settled t                the branch t ends with its 45 or with a split
+--   Stuck b k n              the paper's walk gets stuck, and that at its n-th branch
+--   Needs b k n              the paper's walk needs n branches: up to the one where it gets stuck, or all of them
+--   stepsOf l                the bytes of the branches, one after the other
+--   wholePaper b k steps x   the paper of these steps with the witness of the answer set x
+--   paperFor b k x           the engine's own paper with that witness
 use mathlib.Core.Path.{_≡_}
 use mathlib.Core.Bool.{true, false}
 use mathlib.Core.List.{List, [], _∷_, _++_}
@@ -46,7 +47,8 @@ stepsOf [] = []
 stepsOf (t ∷ l) = t .bytes ++ stepsOf l
 
 -- "Steps from byte 0, then the witness, then a trailer"
+unfoldable pub wholePaper : Book → Claim → List ℕ → Atoms → List ℕ
+wholePaper b k steps x = steps ++ (numbers (witnessOf b x) ++ trailer k (length (witnessOf b x)) (length steps))
+
 unfoldable pub paperFor : Book → Claim → Atoms → List ℕ
-paperFor b k x =
-    stepsOf (branches b k start)
-    ++ (numbers (witnessOf b x) ++ trailer k (length (witnessOf b x)) (length (stepsOf (branches b k start))))
+paperFor b k x = wholePaper b k (stepsOf (branches b k start)) x

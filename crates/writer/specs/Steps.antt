@@ -1,4 +1,6 @@
--- The code's steps in the words of the meaning, and the tests of its searches: what the functions of src/ promise each other.
+-- What the functions of src/ hand each other, in the words of the meaning: the code's steps and the tests of its searches. Document 01,
+-- "The paper": "in each branch write 45 as soon as allowed. Else write the first of: 41 ...; 42 ...; 55 with all rules outside V that
+-- aren't off."
 --
 --   lent on off          the pair that two written-out sets stand for
 --   newOn, newOff        the rules that 41 and 42 are for, asked by tables of atoms: "may go on and isn't on", "may go off so and isn't

@@ -6,8 +6,10 @@ ghost use lib.ListN.{length, take};
 ghost use Rattle.meaning.specs.Claim.{named};
 ghost use Rattle.book.specs.Format.{bookIn, ReadAs};
 ghost use Rattle.walk.specs.Run.{writeAt};
+ghost use Rattle.walk.specs.Page.{setIn};
 ghost use Rattle.writer.specs.Draft.{Stands};
-ghost use Rattle.writer.specs.Name.{told, Answered, handOver, wholePaper};
+ghost use Rattle.writer.specs.Needs.{wholePaper};
+ghost use Rattle.writer.specs.Name.{told, Answered, handOver};
 use crate::answer::Named;
 use crate::draft::write_trailer;
 use crate::witness::write_witness;
@@ -25,8 +27,8 @@ pub fn finish(
 ) -> usize
     requires { ⌜ ReadAs (now book) shape × (from < 65536) ⌝ }
     ensures { λ n. ⌜ ((steps : List ℕ) → Stands steps from (now (draft .entry)) →
-        Stands (wholePaper (bookIn (now (book .entry))) (named atom) steps (now (row .entry)))
-        n (now (draft .exit))) ⌝ }
+        Stands (wholePaper (bookIn (now (book .entry))) (named atom) steps
+        (setIn (now (row .entry)))) n (now (draft .exit))) ⌝ }
 {
     let witness = write_witness(book, shape, row, draft, from);
     write_trailer(draft, witness.length, atom, witness.count, from)
