@@ -13,7 +13,7 @@ use Rattle.meaning.specs.Sets.{every, ascending}
 use Rattle.meaning.specs.Choice.{ifb, ifLt, ifEq}
 use Rattle.meaning.proofs.Sets.{every-at}
 use Rattle.book.specs.Format.{u16At, partOf, andThen, bytesOf, recordOf, lengthOf, ruleOf, recordsOf, rulesOf}
-use Rattle.book.specs.Format.{Reading, good, bad, readingOf, bodyOf, readOf}
+use Rattle.book.specs.Format.{BookRead, good, bad, ifFine, bodyOf, readOf}
 use Rattle.book.specs.Writing.{BodyFits, Fits, recordBytes, recordsBytes, indexBytes, trailerBytes, bytesOfBook}
 use Rattle.book.proofs.Refusals.{refused-length}
 use Rattle.book.proofs.ReadBack.{read-write}
@@ -34,7 +34,7 @@ abbrev full : Rule
 full = record { head = atomNo 0; pos = map atomNo sixteen; neg = map atomNo sixteen }
 
 -- the bytes, and what they are read as
-abbrev pub edges : List (List ℕ × Reading)
+abbrev pub edges : List (List ℕ × BookRead)
 edges =
     -- no bytes, and five
     ([], bad 1 0)
@@ -64,7 +64,7 @@ edges =
     ∷ []
 
 pub edges-read : map (λ c. readOf (c .0)) edges ≡ map (λ c. c .1) edges
-unfolding u16At partOf andThen bytesOf recordOf lengthOf ruleOf recordsOf rulesOf readingOf bodyOf readOf ifb ifLt ifEq
+unfolding u16At partOf andThen bytesOf recordOf lengthOf ruleOf recordsOf rulesOf ifFine bodyOf readOf ifb ifLt ifEq
 edges-read = refl
 
 -- ---- the longest book: 255 rules with sixteen atoms in each part

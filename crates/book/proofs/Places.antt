@@ -12,7 +12,7 @@ use Rattle.meaning.specs.declared.RuleNo.{RuleNo}
 use Rattle.meaning.specs.Books.{atomNo, count, rule, InBook}
 use Rattle.book.specs.declared.reader.Shape.{Shape}
 use Rattle.book.specs.Format.{u16At, ruleOf, partFrom, readOf, bookOf, bookIn, ReadAs}
-use Rattle.book.specs.Rows.{recordEnd, RecordGood, GoodBook}
+use Rattle.book.specs.Rows.{recordEnd, RecordGood, GoodAs}
 use Rattle.book.specs.Places.{RuleAt}
 use Rattle.book.specs.Writing.{atomBytes, RuleFits}
 use Rattle.book.specs.Tables.{Below}
@@ -49,7 +49,7 @@ member (x ∷ l) zero d h = List·Memᴰ·head refl
 member (x ∷ l) (suc i) d h = List·Memᴰ·tail (member l i d (le-of-suc-le-suc h))
 
 module _ (s : List ℕ) (h : Shape) (e : ReadAs s h) where
-  pub shape-good : GoodBook s (h .atoms) (h .rules) (h .index) (bookIn s .rules)
+  pub shape-good : GoodAs s (h .atoms) (h .rules) (h .index) (bookIn s .rules)
   shape-good = good-book s _ _ _ e
 
   pub shape-length : h .index + 2 * h .rules + 6 ≡ length s

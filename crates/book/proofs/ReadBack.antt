@@ -11,7 +11,7 @@ use Rattle.meaning.specs.declared.AtomNo.{AtomNo}
 use Rattle.meaning.specs.Books.{atomNo, Rule, Book, count}
 use Rattle.meaning.proofs.Choice.{eq-yes}
 use Rattle.book.specs.Format.{u16At, fine, positiveBytes, negativeBytes, lengthOf, ruleOf, partFrom, recordsOf, rulesOf, good, readOf}
-use Rattle.book.specs.Rows.{MarkGood, ruleCount, indexStart, GoodBook}
+use Rattle.book.specs.Rows.{MarkGood, ruleCount, indexStart, GoodAs}
 use Rattle.book.specs.Writing.{atomBytes, BodyFits, RuleFits, Fits, recordBytes, recordsBytes, indexBytes, trailerBytes, bytesOfBook}
 use Rattle.book.proofs.Slices.{part-after, positive-is, negative-is}
 use Rattle.book.proofs.Parts.{PartFine, RecordFine, record-checked, then-fine}
@@ -169,7 +169,7 @@ module _ (b : Book) (f : Fits b) where
       let high : getD (bytesOfBook b) (n - 4 + 1) 0 ≡ index / 256 = trailer-at 3 _ (omega (arith, book-length)) in
       omega arith
 
-  book-read : GoodBook (bytesOfBook b) (b .atoms) (count b) index (b .rules)
+  book-read : GoodAs (bytesOfBook b) (b .atoms) (count b) index (b .rules)
   unfolding trailerBytes count
   book-read =
       let s = bytesOfBook b in

@@ -7,15 +7,15 @@ use mathlib.Core.Logic.{_↔_}
 use Prim.Native.Nat.{ℕ, _-_, _≤_}
 use native.Mathlib.Omega.{arith}
 use lib.ListN.{length}
-use Rattle.meaning.specs.Books.{Rule}
+use Rattle.meaning.specs.Books.{Rule, Book}
 use Rattle.meaning.proofs.Choice.{lt-no, lt-either, eq-yes, eq-no, eq-either}
-use Rattle.book.specs.Format.{Check, fine, wrong, rulesOf, Reading, good, bad, readingOf, bodyOf, readOf}
+use Rattle.book.specs.Format.{Check, fine, wrong, rulesOf, BookRead, good, bad, ifFine, bodyOf, readOf, bookOf, bookIn}
 use Rattle.book.specs.Rows.{LengthGood, MarkGood, atomCount, ruleCount, indexStart, TrailerGood, Framed, RecordsGood, none}
-use Rattle.book.specs.Rows.{EntryWrong, RecordWrong, BytesWrong, GoodBook}
+use Rattle.book.specs.Rows.{EntryWrong, RecordWrong, BytesWrong, GoodAs, GoodBook}
 use Rattle.book.proofs.Records.{RecordsRow, all-good, at-entry, at-record, at-atom, at-order, records-row, records-told}
 
 -- what reading a book tells
-pub data BookRow (s : List ℕ) : Reading → Type 0 where
+pub data BookRow (s : List ℕ) : BookRead → Type 0 where
   at-length : ¬ LengthGood s → BookRow s (bad 1 0)
   at-mark : LengthGood s → ¬ MarkGood s → BookRow s (bad 2 (length s - 2))
   at-trailer : LengthGood s → MarkGood s → ¬ TrailerGood s → BookRow s (bad 3 (length s - 4))
@@ -34,16 +34,16 @@ module _ (s : List ℕ) where
   abbrev index : ℕ
   index = indexStart s
 
-  reading-row : Framed s → (c : Check) → RecordsRow s n k index c → BookRow s (readingOf c (good n k index (rulesOf k s index 0)))
-  unfolding readingOf
-  reading-row f fine (all-good g) = nowhere f g
-  reading-row f (wrong number place) row = in-records f row
+  read-row : Framed s → (c : Check) → RecordsRow s n k index c → BookRow s (ifFine c (good n k index (rulesOf k s index 0)))
+  unfolding ifFine
+  read-row f fine (all-good g) = nowhere f g
+  read-row f (wrong number place) row = in-records f row
 
   body-row : LengthGood s → MarkGood s → BookRow s (bodyOf s n k index)
   unfolding bodyOf
   body-row size mark =
       eq-either (BookRow s) _ _ _ _
-      (λ e. reading-row (record { size = size; mark = mark; trailer = e }) _
+      (λ e. read-row (record { size = size; mark = mark; trailer = e }) _
       (records-row s n index (omega arith) k k 0 0 (omega arith) none))
       (at-trailer size mark)
 
@@ -61,19 +61,19 @@ module _ (s : List ℕ) where
   unfolding readOf
   marked-read l m = lt-no _ _ _ _ (l .at-least) ∙ lt-no _ _ _ _ (l .at-most) ∙ eq-yes _ _ _ _ (m .first) ∙ eq-yes _ _ _ _ (m .second)
 
-  framed-read : (c : Check) → Framed s → RecordsRow s n k index c → readOf s ≡ readingOf c (good n k index (rulesOf k s index 0))
+  framed-read : (c : Check) → Framed s → RecordsRow s n k index c → readOf s ≡ ifFine c (good n k index (rulesOf k s index 0))
   unfolding bodyOf
   framed-read c f row =
       let t = f .trailer in
       marked-read (f .size) (f .mark) ∙ eq-yes _ _ _ _ t ∙ rw (records-told s n index (omega arith) k row)
 
-  book-told : {x : Reading} → BookRow s x → readOf s ≡ x
-  unfolding readOf bodyOf readingOf
+  book-told : {x : BookRead} → BookRow s x → readOf s ≡ x
+  unfolding readOf bodyOf ifFine
   book-told (at-length m) =
       lt-either (λ x. x ≡ bad 1 0) _ _ _ _ (λ _. refl) λ h. lt-either (λ x. x ≡ bad 1 0) _ _ _ _ (λ _. refl)
       λ k. absurd (m (record { at-least = h; at-most = k }))
   book-told (at-mark l m) =
-      let P : Reading → Type 0 = λ x. x ≡ bad 2 (length s - 2) in
+      let P : BookRead → Type 0 = λ x. x ≡ bad 2 (length s - 2) in
       lt-no _ _ _ _ (l .at-least)
       ∙ lt-no _ _ _ _ (l .at-most)
       ∙ eq-either P _ _ _ _ (λ e. eq-either P _ _ _ _ (λ f. absurd (m (record { first = e; second = f }))) (λ _. refl)) (λ _. refl)
@@ -81,7 +81,7 @@ module _ (s : List ℕ) where
   book-told (in-records f row) = framed-read _ f row
   book-told (nowhere f g) = framed-read _ f (all-good g)
 
-  pub row-of : {x : Reading} → readOf s ≡ x → BookRow s x
+  pub row-of : {x : BookRead} → readOf s ≡ x → BookRow s x
   row-of e = subst (BookRow s) e book-row
 
   -- 1, at 0: the length is wrong
@@ -147,13 +147,25 @@ module _ (s : List ℕ) where
       small (in-records f (at-order w)) = omega arith
 
   -- none of these: a good book
-  pub accepted : (m r i : ℕ) (l : List Rule) → (readOf s ≡ good m r i l) ↔ GoodBook s m r i l
+  pub accepted : (m r i : ℕ) (l : List Rule) → (readOf s ≡ good m r i l) ↔ GoodAs s m r i l
   accepted m r i l = (λ e. there (row-of e), back)
     where
-      there : {m r i : ℕ} {l : List Rule} → BookRow s (good m r i l) → GoodBook s m r i l
+      there : {m r i : ℕ} {l : List Rule} → BookRow s (good m r i l) → GoodAs s m r i l
       there (nowhere f g) = record { framed = f; atoms = refl; rules = refl; start = refl; records = g; each = refl }
 
-      back : GoodBook s m r i l → readOf s ≡ good m r i l
+      back : GoodAs s m r i l → readOf s ≡ good m r i l
       back g =
           book-told (nowhere (g .framed) (rw (g .atoms, g .rules, g .start) (g .records)))
           ∙ rw (g .atoms, g .rules, g .start, g .each)
+
+  -- the book that good bytes hold
+  pub good-read : {b : Book} (g : GoodBook s b) → readOf s ≡ good (b .atoms) (g .rule-count) (g .index) (b .rules)
+  good-read g = accepted _ _ _ _ .1 (g .bytes)
+
+  pub good-is : {b : Book} → GoodBook s b → bookIn s ≡ b
+  unfolding bookIn bookOf
+  good-is g = rw (good-read g)
+
+  pub read-good : {m r i : ℕ} {l : List Rule} → readOf s ≡ good m r i l → GoodBook s (bookIn s)
+  unfolding bookIn bookOf
+  read-good e = rw e (record { rule-count = _; index = _; bytes = accepted _ _ _ _ .0 e })

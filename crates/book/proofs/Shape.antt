@@ -10,9 +10,9 @@ use lib.ListN.{length, getD, length-map, length-take}
 use Rattle.meaning.specs.Books.{atomNo, Rule, count}
 use Rattle.meaning.proofs.Choice.{eq-either}
 use Rattle.book.specs.Format.{u16At, fine, recordOf, lengthOf, ruleOf, partFrom, recordsOf, rulesOf}
-use Rattle.book.specs.Format.{Reading, good, bad, readOf, toldOf, bookOf, bookIn}
+use Rattle.book.specs.Format.{BookRead, good, bad, readOf, toldOf, bookOf, bookIn}
 use Rattle.book.specs.Numbers.{shape}
-use Rattle.book.specs.Rows.{Bytes, RecordGood, RecordsGood, none, more, GoodBook}
+use Rattle.book.specs.Rows.{Bytes, RecordGood, RecordsGood, none, more, GoodAs}
 use Rattle.book.specs.Writing.{atomBytes, BodyFits, RuleFits, Fits}
 use Rattle.book.proofs.Slices.{part-length}
 use Rattle.book.proofs.Parts.{not-fine, then-first, then-second, PartFine, RecordFine, record-fine}
@@ -100,16 +100,16 @@ record-at (more {r = k} g e f) r h =
 -- ---- the whole book
 
 -- what is told of a good book leaves out the rules only
-pub told-good : (x : Reading) (n k index : ℕ) → toldOf x ≡ shape n k index → x ≡ good n k index (bookOf x .rules)
+pub told-good : (x : BookRead) (n k index : ℕ) → toldOf x ≡ shape n k index → x ≡ good n k index (bookOf x .rules)
 unfolding toldOf bookOf
 told-good (good m r i l) n k index e = cc
 told-good (bad i at) n k index e = let z : _≡_ {A = ℕ} 0 1 = cc in absurd (omega arith)
 
-pub good-book : (s : List ℕ) (n k index : ℕ) → toldOf (readOf s) ≡ shape n k index → GoodBook s n k index (bookIn s .rules)
+pub good-book : (s : List ℕ) (n k index : ℕ) → toldOf (readOf s) ≡ shape n k index → GoodAs s n k index (bookIn s .rules)
 unfolding bookIn
 good-book s n k index e = accepted s n k index _ .0 (told-good (readOf s) n k index e)
 
-module _ {s : List ℕ} {n k index : ℕ} {l : List Rule} (g : GoodBook s n k index l) where
+module _ {s : List ℕ} {n k index : ℕ} {l : List Rule} (g : GoodAs s n k index l) where
   -- records, index and trailer are the whole book
   pub good-length : length s ≡ index + 2 * k + 6
   good-length = sym (rw (g .rules, g .start) at (g .framed .trailer))

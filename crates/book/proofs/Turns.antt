@@ -11,7 +11,7 @@ use Rattle.meaning.specs.Choice.{ifLt, ifEq}
 use Rattle.meaning.proofs.Choice.{lt-yes, lt-no, eq-yes}
 use Rattle.book.specs.Numbers.{shape, refused}
 use Rattle.book.specs.Format.{u16At, Check, fine, wrong, partOf, andThen, positiveBytes, negativeBytes, bytesOf, recordOf, lengthOf}
-use Rattle.book.specs.Format.{partFrom, recordsOf, rulesOf, Reading, good, bad, readingOf, bodyOf, readOf, toldOf}
+use Rattle.book.specs.Format.{partFrom, recordsOf, rulesOf, BookRead, good, bad, ifFine, bodyOf, readOf, toldOf}
 
 module _ (s : List ℕ) (i n at least : ℕ) where
   pub part-end : length s ≤ i → partOf n at least (drop i s) ≡ fine
@@ -65,7 +65,7 @@ module _ (c d x : Check) (e : x ≡ c) where
 
 -- ---- the whole book, at the trailer's rule count k and index start as the reader has them
 
-pub told-bad : (x : Reading) (i at : ℕ) → x ≡ bad i at → refused i at ≡ toldOf x
+pub told-bad : (x : BookRead) (i at : ℕ) → x ≡ bad i at → refused i at ≡ toldOf x
 unfolding toldOf
 told-bad x i at e = rw e
 
@@ -73,16 +73,16 @@ told-bad x i at e = rw e
 module _ (s : List ℕ) (k index : ℕ) (ek : k ≡ getD s (length s - 5) 0) (ei : index ≡ u16At s (length s - 4))
     (h : 6 ≤ length s) (l : length s ≤ 9441) (m : getD s (length s - 2) 0 ≡ 0x52) (m′ : getD s (length s - 1) 0 ≡ 0x42)
     (e : index + 2 * k + 6 ≡ length s) (x : Check) (ex : x ≡ recordsOf k s (getD s (length s - 6) 0) index 0 0) where
-  found : readOf s ≡ readingOf x (good (getD s (length s - 6) 0) k index (rulesOf k s index 0))
+  found : readOf s ≡ ifFine x (good (getD s (length s - 6) 0) k index (rulesOf k s index 0))
   unfolding readOf bodyOf
   found =
       rw (ex, ek, ei)
       (lt-no _ _ _ _ h ∙ lt-no _ _ _ _ l ∙ eq-yes _ _ _ _ m ∙ eq-yes _ _ _ _ m′ ∙ eq-yes _ _ _ _ (rw (← ek, ← ei) e))
 
   pub read-wrong : (i at : ℕ) → x ≡ wrong i at → refused i at ≡ toldOf (readOf s)
-  unfolding readingOf
+  unfolding ifFine
   read-wrong i at f = told-bad _ i at (found ∙ rw f)
 
   pub read-fine : x ≡ fine → shape (getD s (length s - 6) 0) (getD s (length s - 5) 0) index ≡ toldOf (readOf s)
-  unfolding readingOf toldOf
+  unfolding ifFine toldOf
   read-fine f = rw (found, f, ek)

@@ -10,7 +10,7 @@ use lib.ListN.{length, getD, take, drop, length-map, length-drop, take-append-dr
 use lib.Seq.{take-add, drop-drop, drop-cons, length-take-le}
 use Rattle.meaning.specs.Books.{atomNo, Rule, count}
 use Rattle.book.specs.Format.{u16At, fine, lengthOf, ruleOf, partFrom, recordsOf, rulesOf, good, readOf, bookOf, bookIn}
-use Rattle.book.specs.Rows.{Bytes, GoodBook}
+use Rattle.book.specs.Rows.{Bytes, GoodAs}
 use Rattle.book.specs.Writing.{recordBytes, recordsBytes, indexBytes, trailerBytes, bytesOfBook}
 use Rattle.book.proofs.Slices.{part-after, positive-is, negative-is}
 use Rattle.book.proofs.Parts.{RecordFine}
@@ -75,11 +75,11 @@ module _ (s : List ℕ) (n index : ℕ) (bytes : Bytes s) where
       rw (t, drop-two s (index + 2 * r) (omega arith), j, f .entry, low, high, record-size n part (f .here), rest)
 
 -- the records fill the bytes before the index, in rule order
-pub records-fill : {s : List ℕ} {n k index : ℕ} {l : List Rule} → GoodBook s n k index l → recordsBytes l ≡ take index s
+pub records-fill : {s : List ℕ} {n k index : ℕ} {l : List Rule} → GoodAs s n k index l → recordsBytes l ≡ take index s
 records-fill {s} {n} {k} {index} g =
     rw (g .each, sub-zero) at (records-written s n index (good-inside g) k 0 0 (omega arith) (good-checked g))
 
-module _ (s : List ℕ) (n k index : ℕ) (l : List Rule) (bytes : Bytes s) (g : GoodBook s n k index l) where
+module _ (s : List ℕ) (n k index : ℕ) (l : List Rule) (bytes : Bytes s) (g : GoodAs s n k index l) where
   trailer-written : trailerBytes n k index ≡ drop (index + 2 * k) s
   unfolding trailerBytes
   trailer-written =

@@ -1,4 +1,4 @@
--- What a check of some bytes finds, in the format's terms: the answer that the parts of the reader hand to one another.
+-- What the functions of the reader hand one another: what a check of some bytes has found, in the format's terms.
 use Rattle.book.specs.Numbers.{numberOf, placeOf}
 use Rattle.book.specs.Format.{Check, fine, wrong}
 use Rattle.book.specs.declared.part.Checked.{Checked}

@@ -82,20 +82,21 @@ rulesOf zero s index r = []
 rulesOf (suc k) s index r = ruleOf (partFrom s index (u16At s (index + 2 * r))) ∷ rulesOf k s index (r + 1)
 
 -- what reading a book finds: its atom count, rule count, start of the index and rules; or a refusal's number and place
-pub data Reading : Type 0 where
-  good : ℕ → ℕ → ℕ → List Rule → Reading
-  bad : ℕ → ℕ → Reading
+pub data BookRead : Type 0 where
+  good : ℕ → ℕ → ℕ → List Rule → BookRead
+  bad : ℕ → ℕ → BookRead
 
-unfoldable pub readingOf : Check → Reading → Reading
-readingOf fine r = r
-readingOf (wrong i at) r = bad i at
+-- r where the check found nothing wrong
+unfoldable pub ifFine : Check → BookRead → BookRead
+ifFine fine r = r
+ifFine (wrong i at) r = bad i at
 
 -- a book of the trailer's atom count n, rule count k and index start
-unfoldable pub bodyOf : List ℕ → ℕ → ℕ → ℕ → Reading
+unfoldable pub bodyOf : List ℕ → ℕ → ℕ → ℕ → BookRead
 bodyOf s n k index =
-    ifEq (index + 2 * k + 6) (length s) (readingOf (recordsOf k s n index 0 0) (good n k index (rulesOf k s index 0))) (bad 3 (length s - 4))
+    ifEq (index + 2 * k + 6) (length s) (ifFine (recordsOf k s n index 0 0) (good n k index (rulesOf k s index 0))) (bad 3 (length s - 4))
 
-unfoldable pub readOf : List ℕ → Reading
+unfoldable pub readOf : List ℕ → BookRead
 readOf s =
     ifLt (length s) 6 (bad 1 0)
     (ifLt 9441 (length s) (bad 1 0)
@@ -105,11 +106,11 @@ readOf s =
     (bad 2 (length s - 2)))
     (bad 2 (length s - 2))))
 
-unfoldable pub toldOf : Reading → Told
+unfoldable pub toldOf : BookRead → Told
 toldOf (good n k index l) = shape n k index
 toldOf (bad i at) = refused i at
 
-unfoldable pub bookOf : Reading → Book
+unfoldable pub bookOf : BookRead → Book
 bookOf (good n k index l) = record { atoms = n; rules = l }
 bookOf (bad i at) = record { atoms = 0; rules = [] }
 

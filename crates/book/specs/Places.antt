@@ -1,4 +1,5 @@
--- Where a rule stands in a good book: what the readers of its parts go by.
+-- Where a rule stands in a good book: what the functions that read its parts go by. Document 01, "The rule book": "head, count p of
+-- positive atoms, count n of negative atoms, the positive atoms, the negative atoms".
 use mathlib.Core.Path.{_≡_}
 use mathlib.Core.List.{List}
 use Prim.Native.Nat.{ℕ, _+_, _≤_}

@@ -5,12 +5,13 @@
 --   RecordFits, ByteWrong                the opposite of 5; 6 and 7 of one byte
 --   RecordsGood s n index r at           nothing is wrong with the first r records, and the next is to start at `at`
 --   EntryWrong, RecordWrong, BytesWrong  4, 5, and 6 or 7, each with its place, in a book of n atoms, k rules and this index
---   GoodBook s n k index l               nothing is wrong, and these are the trailer's numbers and the rules
+--   GoodAs s n k index l                 nothing is wrong, and these are the trailer's numbers and the rules
+--   GoodBook s b                         nothing is wrong, and b is the book that the bytes hold
 use mathlib.Core.Path.{_≡_}
 use mathlib.Core.List.{List}
 use Prim.Native.Nat.{ℕ, suc, _+_, _*_, _-_, _≤_, _<_}
 use lib.ListN.{length, getD}
-use Rattle.meaning.specs.Books.{Rule}
+use Rattle.meaning.specs.Books.{Rule, Book}
 use Rattle.book.specs.Format.{u16At, rulesOf}
 
 -- every byte is below 256, as a byte is
@@ -81,11 +82,12 @@ pub data ByteWrong (s : List ℕ) (n at i : ℕ) : ℕ → Type 0 where
   -- 7: "body part not ascending"
   order : Follows s at i → getD s i 0 < n → getD s i 0 ≤ getD s (i - 1) 0 → ByteWrong s n at i 7
 
--- neither 6 nor 7 at byte i; nor at any byte before i
+-- neither 6 nor 7 at byte i
 pub record ByteGood (s : List ℕ) (n at i : ℕ) : Type 0 where
   pub below : IsAtom s at i → getD s i 0 < n
   pub rises : Follows s at i → getD s (i - 1) 0 < getD s i 0
 
+-- neither 6 nor 7 at any byte before i
 abbrev pub GoodBefore : List ℕ → ℕ → ℕ → ℕ → Type 0
 GoodBefore s n at i = (j : ℕ) → j < i → ByteGood s n at j
 
@@ -118,10 +120,15 @@ pub data BytesWrong (s : List ℕ) (n k index : ℕ) : ℕ → ℕ → Type 0 wh
   byte : {r at number place : ℕ} → Next s n k index r at → u16At s (index + 2 * r) ≡ at → RecordFits s index at
       → GoodBefore s n at place → ByteWrong s n at place number → BytesWrong s n k index number place
 
-pub record GoodBook (s : List ℕ) (n k index : ℕ) (l : List Rule) : Type 0 where
+pub record GoodAs (s : List ℕ) (n k index : ℕ) (l : List Rule) : Type 0 where
   pub framed : Framed s
   pub atoms : atomCount s ≡ n
   pub rules : ruleCount s ≡ k
   pub start : indexStart s ≡ index
   pub records : RecordsGood s n index k index
   pub each : rulesOf k s index 0 ≡ l
+
+pub record GoodBook (s : List ℕ) (b : Book) : Type 0 where
+  pub rule-count : ℕ
+  pub index : ℕ
+  pub bytes : GoodAs s (b .atoms) rule-count index (b .rules)

@@ -1,4 +1,5 @@
--- Sets of atoms written out: place a of a list of 255 says whether atom a is in the set. The tables by which a pass asks of atoms.
+-- Sets of atoms written out, as functions hand them to one another: place a of a list of 255 says whether atom a is in the set. By these
+-- tables a pass over the rules asks of atoms.
 --
 --   atomTable x      the set, written out
 --   atomsIn l        the set that a table stands for

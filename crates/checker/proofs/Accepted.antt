@@ -17,13 +17,13 @@ use Rattle.meaning.specs.Claim.{named, claimed, mark}
 use Rattle.meaning.specs.Paper.{numbers, Branch, Witness, trailer, Keeps}
 use Rattle.meaning.proofs.Papers.{keeps-certain}
 use Rattle.book.specs.Format.{u16At, partFrom, bookIn}
-use Rattle.book.specs.Rows.{Bytes}
+use Rattle.book.specs.Rows.{Bytes, GoodBook}
 use Rattle.book.proofs.Slices.{part-length}
 use Rattle.checker.specs.Numbers.{certain}
 use Rattle.checker.specs.Branches.{done, branchOf}
-use Rattle.checker.specs.Witness.{fine, witnessOf}
+use Rattle.checker.specs.Witness.{fine, witnessVerdict}
 use Rattle.checker.specs.Check.{paperOf, checkOf}
-use Rattle.checker.specs.Rows.{GoodBytes, atomOf, countOf, startOf, claimOf, witnessBytes, Framed}
+use Rattle.checker.specs.Rows.{atomOf, countOf, startOf, claimOf, witnessBytes, Framed}
 use Rattle.checker.proofs.Bytes.{rules-back, numbers-back, part-none, part-two, part-split, read-two, read-past}
 use Rattle.checker.proofs.Branches.{done-branch, branch-done}
 use Rattle.checker.proofs.Witnesses.{fine-witness, witness-fine}
@@ -176,7 +176,7 @@ module _ (b : Book) (s : List ℕ) where
         } in
         let walked : branchOf (suc from) b (named a) s from 0 start ≡ done from =
         branch-done b (named a) s from (g .branch) 0 _ (g .bytes) (omega arith) (suc from) (omega arith) ∙ ap done z in
-        let grounds : witnessOf b s from w ≡ fine = witness-fine b s from w (rw (l, rules-back (g .witness)) (g .grounds)) in
+        let grounds : witnessVerdict b s from w ≡ fine = witness-fine b s from w (rw (l, rules-back (g .witness)) (g .grounds)) in
         row-told b s (nowhere f (rw (r .begins, k) walked) (rw (r .begins, r .count) grounds)) ∙ ap certain (r .atom)
 
   pub check-keeps : Bytes s → (a : ℕ) → (paperOf b s ≡ certain a) ↔ (Keeps b (named (atomNo a)) s × (length s ≤ 60000))
@@ -210,15 +210,15 @@ module _ (book paper : List ℕ) where
       by-row (at-paper g r) = accepted-certain (bookIn book) paper (row-told (bookIn book) paper r)
 
   -- a paper that keeps the printed rules of a good book is accepted, and tells the claimed atom
-  pub check-complete : GoodBytes book → (a : AtomNo) → Keeps (bookIn book) (named a) paper → length paper ≤ 60000
+  pub check-complete : GoodBook book (bookIn book) → (a : AtomNo) → Keeps (bookIn book) (named a) paper → length paper ≤ 60000
       → checkOf book paper ≡ certain (a .0)
   check-complete read a g h = row-checked book paper (at-paper read (row-of (bookIn book) paper (keeps-accepted (bookIn book) paper a g h)))
 
   pub check-exact : Bytes paper → (a : ℕ)
-      → (checkOf book paper ≡ certain a) ↔ (GoodBytes book × Keeps (bookIn book) (named (atomNo a)) paper × (length paper ≤ 60000))
+      → (checkOf book paper ≡ certain a) ↔ (GoodBook book (bookIn book) × Keeps (bookIn book) (named (atomNo a)) paper × (length paper ≤ 60000))
   check-exact bytes a = (λ e. there (checked-row book paper e), λ (read, g, h). check-complete read (atomNo a) g h)
     where
       there : {a : ℕ} → CheckRow book paper (certain a)
-          → GoodBytes book × Keeps (bookIn book) (named (atomNo a)) paper × (length paper ≤ 60000)
+          → GoodBook book (bookIn book) × Keeps (bookIn book) (named (atomNo a)) paper × (length paper ≤ 60000)
       there (at-paper read r) =
           let (g, h) = accepted-keeps (bookIn book) paper bytes (row-told (bookIn book) paper r) in (read, g, h)

@@ -13,7 +13,7 @@ use Rattle.meaning.specs.Claim.{Claim}
 use Rattle.meaning.specs.Written.{colourOn, colourOff, pair}
 use Rattle.meaning.proofs.Written.{pair-on, pair-off}
 use Rattle.checker.specs.Steps.{goes, parts, ends, fails, stepOf}
-use Rattle.checker.specs.Branches.{Walked, done, stopped, andThen, afterStep, branchOf, BranchTo}
+use Rattle.checker.specs.Branches.{Walked, done, refusedAt, andThen, afterStep, branchOf, BranchTo}
 use Rattle.checker.specs.declared.step.Stop.{Stop}
 use Rattle.checker.specs.declared.step.Stop.the-variants.{End, Split, Form, Fails}
 use Rattle.checker.specs.declared.run.Ran.{Ran}
@@ -29,7 +29,7 @@ module _ (b : Book) (k : Claim) (s : List ℕ) (from at : ℕ) (c : Pair) where
   branch-ends next e zero g = absurd (omega arith)
   branch-ends next e (suc f) g = rw e
 
-  branch-fails : (i : ℕ) → stepOf b k s from at c ≡ fails i → BranchTo b k s from at c (stopped i at)
+  branch-fails : (i : ℕ) → stepOf b k s from at c ≡ fails i → BranchTo b k s from at c (refusedAt i at)
   unfolding branchOf afterStep
   branch-fails i e zero g = absurd (omega arith)
   branch-fails i e (suc f) g = rw e
@@ -43,7 +43,7 @@ module _ (b : Book) (k : Claim) (s : List ℕ) (from at : ℕ) (c : Pair) where
   -- a split, after its first branch has come to w
   module _ (next : ℕ) (r : RuleNo) (w : Walked) (h : at < next) (l : next ≤ from) (e : stepOf b k s from at c ≡ parts next r)
       (p : BranchTo b k s from next (put onSide (r ∷ []) c) w) where
-    split-first : (i place : ℕ) → w ≡ stopped i place → BranchTo b k s from at c (stopped i place)
+    split-first : (i place : ℕ) → w ≡ refusedAt i place → BranchTo b k s from at c (refusedAt i place)
     unfolding branchOf afterStep andThen
     split-first i place q zero g = absurd (omega arith)
     split-first i place q (suc f) g = rw (e, sym (p f (omega arith)) ∙ q)
@@ -100,10 +100,10 @@ module _ {b : Book} {k : Claim} {s : List ℕ} {from at : ℕ} {c : Pair} {ran :
   pub run-ends : ran .stop ≡ End → Branches b k s from at c (done (ran .at + 1))
   run-ends e = run-leads (branch-ends b k s from _ _ _ (step-is End e), past {m = ran .at + 1} (omega arith) (within-is e))
 
-  pub run-bad : ran .stop ≡ Form → Branches b k s from at c (stopped 24 (ran .at))
+  pub run-bad : ran .stop ≡ Form → Branches b k s from at c (refusedAt 24 (ran .at))
   run-bad e = run-leads (branch-fails b k s from _ _ _ (step-is Form e), refused)
 
-  pub run-fails : ran .stop ≡ Fails → Branches b k s from at c (stopped 25 (ran .at))
+  pub run-fails : ran .stop ≡ Fails → Branches b k s from at c (refusedAt 25 (ran .at))
   run-fails e = run-leads (branch-fails b k s from _ _ _ (step-is Fails e), refused)
 
   pub run-splits : {q : RuleNo} → ran .stop ≡ Split q
@@ -118,10 +118,10 @@ module _ (b : Book) (k : Claim) (s : List ℕ) (from at : ℕ) (r : RuleNo) (c f
   first-branch : BranchTo b k s from (at + 2) (put onSide (r ∷ []) (pair c)) (walked w)
   first-branch = rw (ap pair on ∙ pair-on c r (omega arith)) at (p .0)
 
-  pub split-bad : (place : ℕ) → w ≡ BadForm place → Branches b k s from at (pair c) (stopped 24 place)
+  pub split-bad : (place : ℕ) → w ≡ BadForm place → Branches b k s from at (pair c) (refusedAt 24 place)
   split-bad place q = (split-first b k s from at _ _ r _ (omega arith) (f .1) e first-branch _ _ (ap walked q), refused)
 
-  pub split-fails : (place : ℕ) → w ≡ BadFails place → Branches b k s from at (pair c) (stopped 25 place)
+  pub split-fails : (place : ℕ) → w ≡ BadFails place → Branches b k s from at (pair c) (refusedAt 25 place)
   split-fails place q = (split-first b k s from at _ _ r _ (omega arith) (f .1) e first-branch _ _ (ap walked q), refused)
 
   pub split-done : (m : ℕ) → w ≡ Done m → length (c .off) ≡ 255 → (second : Colouring) → second ≡ colourOff r c → (v : Walked)

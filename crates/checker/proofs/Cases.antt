@@ -9,13 +9,13 @@ use Rattle.meaning.specs.Colours.{put, heads, allIn, mayOn, blocked, uncoloured
 use Rattle.meaning.specs.Claim.{shown, ended}
 use Rattle.meaning.specs.Paper.{unfounded, fails}
 use Rattle.meaning.specs.Choice.{ifb, ifLt, ifEq}
-use Rattle.book.specs.Format.{u16At, partOf, bytesOf, recordOf, lengthOf, ruleOf, recordsOf, rulesOf, readingOf, bodyOf, readOf}
+use Rattle.book.specs.Format.{u16At, partOf, bytesOf, recordOf, lengthOf, ruleOf, recordsOf, rulesOf, ifFine, bodyOf, readOf}
 use Rattle.book.specs.Format.{andThen as recordsThen}
 use Rattle.checker.specs.Numbers.{Told, certain, refused}
 use Rattle.checker.specs.Steps.{withRule, properList, withList, stepBy, stepOf}
 use Rattle.checker.specs.Branches.{andThen, afterStep, branchOf}
-use Rattle.checker.specs.Witness.{andThen as witnessThen, follows, orderOf, blockedOf, restFails, listOf, witnessOf}
-use Rattle.checker.specs.Check.{witnessTold, branchTold, stepsTold, trailerTold, paperOf, checkReading, checkOf}
+use Rattle.checker.specs.Witness.{andThen as witnessThen, follows, orderOf, blockedOf, restFails, listOf, witnessVerdict}
+use Rattle.checker.specs.Check.{witnessTold, branchTold, stepsTold, trailerTold, paperOf, checkRead, checkOf}
 
 -- "Fact 0"
 abbrev fact : List ℕ
@@ -65,10 +65,10 @@ papers =
 
 pub papers-checked : map (λ (c : List ℕ × List ℕ × Told). checkOf (c .0) (c .1)) papers
     ≡ map (λ (c : List ℕ × List ℕ × Told). c .2) papers
-unfolding checkOf checkReading paperOf trailerTold stepsTold branchTold witnessTold
-    witnessOf listOf restFails blockedOf orderOf follows witnessThen
+unfolding checkOf checkRead paperOf trailerTold stepsTold branchTold witnessTold
+    witnessVerdict listOf restFails blockedOf orderOf follows witnessThen
     branchOf afterStep andThen stepOf stepBy withList properList withRule
-    readOf bodyOf readingOf recordsOf rulesOf ruleOf lengthOf recordOf bytesOf partOf recordsThen u16At
+    readOf bodyOf ifFine recordsOf rulesOf ruleOf lengthOf recordOf bytesOf partOf recordsThen u16At
     unfounded fails ended shown clashing uncoloured blocked mayOn allIn heads put
     someRule everyRule rule count sameRule sameAtom ascending someBelow everyBelow some every ifb ifLt ifEq
 papers-checked = refl

@@ -13,7 +13,7 @@ use Rattle.meaning.specs.Books.{Atoms, Rules, atomNo, ruleNo, sameAtom, Book, c
 use Rattle.meaning.specs.Colours.{heads, allIn, plus, clashing, uncoloured}
 use Rattle.meaning.specs.Claim.{named, shown, ended}
 use Rattle.meaning.specs.Paper.{unfounded}
-use Rattle.meaning.specs.Written.{of}
+use Rattle.meaning.specs.Written.{of, lent}
 use Rattle.meaning.proofs.Tests.{first, not-first, not-second}
 use Rattle.meaning.proofs.Sets.{every-here, every-all-next, every-all-end}
 use Rattle.meaning.proofs.Rules.{heads-of}
@@ -23,7 +23,6 @@ use Rattle.book.specs.Tables.{atomTable, atomsIn, Below}
 use Rattle.book.specs.Writing.{atomBytes}
 use Rattle.book.proofs.Bodies.{some-part}
 use Rattle.book.proofs.Asked.{every-table, some-table, pos-small, neg-small}
-use Rattle.checker.specs.Parts.{lent}
 use Rattle.checker.proofs.Lists.{every-map, every-same}
 
 -- ---- 53: the rule has no colour

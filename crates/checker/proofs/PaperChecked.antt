@@ -13,11 +13,11 @@ use Rattle.meaning.proofs.Choice.{lt-yes, lt-no, eq-yes, eq-no}
 use Rattle.meaning.proofs.Written.{pair-nothing}
 use Rattle.book.specs.declared.reader.Shape.{Shape}
 use Rattle.book.specs.Numbers.{shape, refused as book-refused}
-use Rattle.book.specs.Format.{u16At, Reading, good, bad, readOf, toldOf, bookOf, bookIn, ReadAs}
+use Rattle.book.specs.Format.{u16At, BookRead, good, bad, readOf, toldOf, bookOf, bookIn, ReadAs}
 use Rattle.checker.specs.Numbers.{certain, refused}
-use Rattle.checker.specs.Branches.{Walked, done, stopped, BranchTo}
-use Rattle.checker.specs.Witness.{fine, wrong, witnessOf}
-use Rattle.checker.specs.Check.{witnessTold, branchTold, stepsTold, trailerTold, paperOf, checkReading, checkOf}
+use Rattle.checker.specs.Branches.{Walked, done, refusedAt, BranchTo}
+use Rattle.checker.specs.Witness.{fine, wrong, witnessVerdict}
+use Rattle.checker.specs.Check.{witnessTold, branchTold, stepsTold, trailerTold, paperOf, checkRead, checkOf}
 
 -- ---- the steps and the witness, where the first branch, from the empty colouring, has come to x
 
@@ -27,7 +27,7 @@ module _ (b : Book) (k : Claim) (s : List ℕ) (a w from : ℕ) (c : Colouring) 
   unfolding stepsTold
   steps-are = ap (branchTold b s a w from) (sym (rw (ap pair e ∙ pair-nothing) at (p (suc from) (omega arith))))
 
-  pub steps-stopped : (i at : ℕ) → x ≡ stopped i at → stepsTold b k s a w from ≡ refused i at
+  pub steps-stopped : (i at : ℕ) → x ≡ refusedAt i at → stepsTold b k s a w from ≡ refused i at
   unfolding branchTold
   steps-stopped i at q = steps-are ∙ rw q
 
@@ -36,11 +36,11 @@ module _ (b : Book) (k : Claim) (s : List ℕ) (a w from : ℕ) (c : Colouring) 
   steps-gap at q n = steps-are ∙ rw q (eq-no _ _ _ _ n)
 
   module _ (at : ℕ) (q : x ≡ done at) (h : at ≡ from) where
-    pub witness-wrong : (place : ℕ) → witnessOf b s from w ≡ wrong place → stepsTold b k s a w from ≡ refused 27 place
+    pub witness-wrong : (place : ℕ) → witnessVerdict b s from w ≡ wrong place → stepsTold b k s a w from ≡ refused 27 place
     unfolding branchTold witnessTold
     witness-wrong place t = steps-are ∙ rw (q, t) (eq-yes _ _ _ _ h)
 
-    pub witness-fine : witnessOf b s from w ≡ fine → stepsTold b k s a w from ≡ certain a
+    pub witness-fine : witnessVerdict b s from w ≡ fine → stepsTold b k s a w from ≡ certain a
     unfolding branchTold witnessTold
     witness-fine t = steps-are ∙ rw (q, t) (eq-yes _ _ _ _ h)
 
@@ -87,20 +87,20 @@ module _ (b : Book) (s : List ℕ) where
 
 -- ---- the book
 
-reading-refused : (x : Reading) (p : List ℕ) (i at : ℕ) → toldOf x ≡ book-refused i at → checkReading x p ≡ refused i at
-unfolding toldOf checkReading
-reading-refused (good n k index l) p i at e = let z : _≡_ {A = ℕ} 0 1 = cc in absurd (omega arith)
-reading-refused (bad j place) p i at e = cc
+read-refused : (x : BookRead) (p : List ℕ) (i at : ℕ) → toldOf x ≡ book-refused i at → checkRead x p ≡ refused i at
+unfolding toldOf checkRead
+read-refused (good n k index l) p i at e = let z : _≡_ {A = ℕ} 0 1 = cc in absurd (omega arith)
+read-refused (bad j place) p i at e = cc
 
 pub check-refused : (s p : List ℕ) (i at : ℕ) → toldOf (readOf s) ≡ book-refused i at → checkOf s p ≡ refused i at
 unfolding checkOf
-check-refused s p i at e = reading-refused (readOf s) p i at e
+check-refused s p i at e = read-refused (readOf s) p i at e
 
-reading-good : (x : Reading) (p : List ℕ) (n k index : ℕ) → toldOf x ≡ shape n k index → checkReading x p ≡ paperOf (bookOf x) p
-unfolding toldOf checkReading bookOf
-reading-good (good n k index l) p i j m e = refl
-reading-good (bad j place) p n k index e = let z : _≡_ {A = ℕ} 0 1 = cc in absurd (omega arith)
+read-good : (x : BookRead) (p : List ℕ) (n k index : ℕ) → toldOf x ≡ shape n k index → checkRead x p ≡ paperOf (bookOf x) p
+unfolding toldOf checkRead bookOf
+read-good (good n k index l) p i j m e = refl
+read-good (bad j place) p n k index e = let z : _≡_ {A = ℕ} 0 1 = cc in absurd (omega arith)
 
 pub check-good : (s p : List ℕ) (h : Shape) → ReadAs s h → checkOf s p ≡ paperOf (bookIn s) p
 unfolding checkOf bookIn
-check-good s p h e = reading-good (readOf s) p _ _ _ e
+check-good s p h e = read-good (readOf s) p _ _ _ e

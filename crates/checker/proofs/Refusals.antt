@@ -12,13 +12,14 @@ use Rattle.meaning.specs.Colours.{Pair, start}
 use Rattle.meaning.specs.Claim.{Claim}
 use Rattle.meaning.specs.Paper.{Branch}
 use Rattle.book.specs.Format.{bad, readOf, bookIn}
+use Rattle.book.specs.Rows.{GoodBook}
 use Rattle.book.proofs.Refusals.{bad-number}
 use Rattle.checker.specs.Numbers.{refused}
 use Rattle.checker.specs.Steps.{fails}
-use Rattle.checker.specs.Branches.{done, stopped}
-use Rattle.checker.specs.Witness.{witnessOf}
+use Rattle.checker.specs.Branches.{done, refusedAt}
+use Rattle.checker.specs.Witness.{witnessVerdict}
 use Rattle.checker.specs.Check.{checkOf}
-use Rattle.checker.specs.Rows.{GoodBytes, startOf, claimOf, witnessBytes, LengthGood, MarkGood, TrailerGood, AtomGood, Framed}
+use Rattle.checker.specs.Rows.{startOf, claimOf, witnessBytes, LengthGood, MarkGood, TrailerGood, AtomGood, Framed}
 use Rattle.checker.specs.Rows.{Malformed, Unheld, Comes, first-step}
 use Rattle.checker.specs.Places.{WrongAt}
 use Rattle.checker.proofs.Steps.{StepIs, malformed, unheld}
@@ -60,17 +61,17 @@ module _ (book paper : List ℕ) where
 
   -- a number beyond the book's, and what its row says
   exactly : {A : Type 0} {i at : ℕ} → 7 < i → (PaperRow b paper (refused i at) → A) → (A → PaperRow b paper (refused i at))
-      → (checkOf book paper ≡ refused i at) ↔ (GoodBytes book × A)
+      → (checkOf book paper ≡ refused i at) ↔ (GoodBook book b × A)
   exactly {A} h there back = (λ e. this h there (checked-row book paper e), λ (g, a). row-checked book paper (at-paper g (back a)))
     where
-      this : {i at : ℕ} → 7 < i → (PaperRow b paper (refused i at) → A) → CheckRow book paper (refused i at) → GoodBytes book × A
+      this : {i at : ℕ} → 7 < i → (PaperRow b paper (refused i at) → A) → CheckRow book paper (refused i at) → GoodBook book b × A
       this h there (at-book e) = absurd (omega (arith, bad-number book e))
       this h there (at-paper g r) = (g, there r)
 
   -- ---- 20 to 23
 
   -- 20, at 0: the paper has under 6 or over 60,000 bytes
-  pub refused-length : (at : ℕ) → (checkOf book paper ≡ refused 20 at) ↔ (GoodBytes book × ((¬ LengthGood paper) × (at ≡ 0)))
+  pub refused-length : (at : ℕ) → (checkOf book paper ≡ refused 20 at) ↔ (GoodBook book b × ((¬ LengthGood paper) × (at ≡ 0)))
   refused-length at = exactly (omega arith) there (λ (l, p). rw p (at-length l))
     where
       there : {at : ℕ} → PaperRow b paper (refused 20 at) → (¬ LengthGood paper) × (at ≡ 0)
@@ -78,7 +79,7 @@ module _ (book paper : List ℕ) where
 
   -- 21, at length - 2: the length is right, and the mark isn't 50 46
   pub refused-mark : (at : ℕ) → (checkOf book paper ≡ refused 21 at)
-      ↔ (GoodBytes book × (LengthGood paper × (¬ MarkGood paper) × (at ≡ length paper - 2)))
+      ↔ (GoodBook book b × (LengthGood paper × (¬ MarkGood paper) × (at ≡ length paper - 2)))
   refused-mark at = exactly (omega arith) there (λ (l, m, p). rw p (at-mark l m))
     where
       there : {at : ℕ} → PaperRow b paper (refused 21 at) → LengthGood paper × (¬ MarkGood paper) × (at ≡ length paper - 2)
@@ -86,7 +87,7 @@ module _ (book paper : List ℕ) where
 
   -- 22, at length - 4: these are right, and witness start + w + 6 isn't the length
   pub refused-trailer : (at : ℕ) → (checkOf book paper ≡ refused 22 at)
-      ↔ (GoodBytes book × (LengthGood paper × MarkGood paper × (¬ TrailerGood paper) × (at ≡ length paper - 4)))
+      ↔ (GoodBook book b × (LengthGood paper × MarkGood paper × (¬ TrailerGood paper) × (at ≡ length paper - 4)))
   refused-trailer at = exactly (omega arith) there (λ (l, m, t, p). rw p (at-trailer l m t))
     where
       there : {at : ℕ} → PaperRow b paper (refused 22 at)
@@ -95,7 +96,7 @@ module _ (book paper : List ℕ) where
 
   -- 23, at length - 6: these are right, and the claimed atom isn't below A
   pub refused-atom : (at : ℕ) → (checkOf book paper ≡ refused 23 at)
-      ↔ (GoodBytes book × (LengthGood paper × MarkGood paper × TrailerGood paper × (¬ AtomGood b paper) × (at ≡ length paper - 6)))
+      ↔ (GoodBook book b × (LengthGood paper × MarkGood paper × TrailerGood paper × (¬ AtomGood b paper) × (at ≡ length paper - 6)))
   refused-atom at = exactly (omega arith) there (λ (l, m, t, a, p). rw p (at-atom l m t a))
     where
       there : {at : ℕ} → PaperRow b paper (refused 23 at)
@@ -108,12 +109,12 @@ module _ (book paper : List ℕ) where
     inside : from ≤ length paper
     inside = let t = f .trailer in omega arith
 
-    came : {i at : ℕ} → walkOf b paper ≡ stopped i at → (c : Pair) × Comes b k paper from at c × StepIs b k paper from at c (fails i)
+    came : {i at : ℕ} → walkOf b paper ≡ refusedAt i at → (c : Pair) × Comes b k paper from at c × StepIs b k paper from at c (fails i)
     came e = stopped-comes b k paper from inside (suc from) 0 start (omega arith) e first-step
 
   -- 24: none of these, and the checker comes to a step that is malformed
   pub refused-form : (at : ℕ) → (checkOf book paper ≡ refused 24 at)
-      ↔ (GoodBytes book × (Framed b paper × (c : Pair) × Comes b k paper from at c × Malformed b paper from at))
+      ↔ (GoodBook book b × (Framed b paper × (c : Pair) × Comes b k paper from at c × Malformed b paper from at))
   refused-form at = exactly (omega arith) there
       (λ (f, c, p, m). at-form f (comes-stopped b k paper from (inside f) 24 at p (malformed m)))
     where
@@ -125,7 +126,7 @@ module _ (book paper : List ℕ) where
 
   -- 25: none of these, and the checker comes to a step that is well-formed and whose condition does not hold
   pub refused-step : (at : ℕ) → (checkOf book paper ≡ refused 25 at)
-      ↔ (GoodBytes book × (Framed b paper × (c : Pair) × Comes b k paper from at c × Unheld b k paper from at c))
+      ↔ (GoodBook book b × (Framed b paper × (c : Pair) × Comes b k paper from at c × Unheld b k paper from at c))
   refused-step at = exactly (omega arith) there
       (λ (f, c, p, u). at-step f (comes-stopped b k paper from (inside f) 25 at p (unheld (u .formed) (u .fails))))
     where
@@ -149,7 +150,7 @@ module _ (book paper : List ℕ) where
 
   -- 26: none of these, and the branch from byte 0 ends before the witness; at the first byte behind it
   pub refused-gap : (at : ℕ) → (checkOf book paper ≡ refused 26 at)
-      ↔ (GoodBytes book × (Framed b paper × Branch b k start (take at paper) × (at < from)))
+      ↔ (GoodBook book b × (Framed b paper × Branch b k start (take at paper) × (at < from)))
   refused-gap at = exactly (omega arith) there (λ (f, p, h). at-gap f (first-done f (omega arith) p) (λ e. omega arith))
     where
       there : PaperRow b paper (refused 26 at) → Framed b paper × Branch b k start (take at paper) × (at < from)
@@ -157,8 +158,8 @@ module _ (book paper : List ℕ) where
 
   -- 27: none of these, so that the steps are one branch up to the witness, and the witness is wrong
   pub refused-witness : (at : ℕ) → (checkOf book paper ≡ refused 27 at)
-      ↔ (GoodBytes book × (Framed b paper × Branch b k start (take from paper) × WrongAt b paper from (witnessBytes paper) at))
-  unfolding witnessOf
+      ↔ (GoodBook book b × (Framed b paper × Branch b k start (take from paper) × WrongAt b paper from (witnessBytes paper) at))
+  unfolding witnessVerdict
   refused-witness at = exactly (omega arith) there
       (λ (f, p, w). at-witness f (first-done f (omega arith) p) (wrong-list b paper from (witnessBytes paper) w))
     where

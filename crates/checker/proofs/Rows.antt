@@ -9,12 +9,14 @@ use lib.ListN.{length}
 use Rattle.meaning.specs.Books.{Rule, Book}
 use Rattle.meaning.specs.Colours.{start}
 use Rattle.meaning.proofs.Choice.{lt-yes, lt-no, lt-either, eq-yes, eq-no, eq-either}
-use Rattle.book.specs.Format.{Reading, good, bad, readOf, bookOf, bookIn}
+use Rattle.book.specs.Format.{BookRead, good, bad, readOf, bookOf, bookIn}
+use Rattle.book.specs.Rows.{GoodBook}
+use Rattle.book.proofs.Refusals.{good-read, read-good}
 use Rattle.checker.specs.Numbers.{Told, certain, refused}
-use Rattle.checker.specs.Branches.{Walked, done, stopped, branchOf}
-use Rattle.checker.specs.Witness.{Check, fine, wrong, witnessOf}
-use Rattle.checker.specs.Check.{witnessTold, branchTold, stepsTold, trailerTold, paperOf, checkReading, checkOf}
-use Rattle.checker.specs.Rows.{GoodBytes, atomOf, countOf, startOf, claimOf, LengthGood, MarkGood, TrailerGood, AtomGood, Framed}
+use Rattle.checker.specs.Branches.{Walked, done, refusedAt, branchOf}
+use Rattle.checker.specs.Witness.{Check, fine, wrong, witnessVerdict}
+use Rattle.checker.specs.Check.{witnessTold, branchTold, stepsTold, trailerTold, paperOf, checkRead, checkOf}
+use Rattle.checker.specs.Rows.{atomOf, countOf, startOf, claimOf, LengthGood, MarkGood, TrailerGood, AtomGood, Framed}
 use Rattle.checker.proofs.Branches.{stopped-between}
 
 -- the branch from byte 0
@@ -26,17 +28,18 @@ pub data PaperRow (b : Book) (s : List ℕ) : Told → Type 0 where
   at-mark : LengthGood s → ¬ MarkGood s → PaperRow b s (refused 21 (length s - 2))
   at-trailer : LengthGood s → MarkGood s → ¬ TrailerGood s → PaperRow b s (refused 22 (length s - 4))
   at-atom : LengthGood s → MarkGood s → TrailerGood s → ¬ AtomGood b s → PaperRow b s (refused 23 (length s - 6))
-  at-form : {at : ℕ} → Framed b s → walkOf b s ≡ stopped 24 at → PaperRow b s (refused 24 at)
-  at-step : {at : ℕ} → Framed b s → walkOf b s ≡ stopped 25 at → PaperRow b s (refused 25 at)
+  at-form : {at : ℕ} → Framed b s → walkOf b s ≡ refusedAt 24 at → PaperRow b s (refused 24 at)
+  at-step : {at : ℕ} → Framed b s → walkOf b s ≡ refusedAt 25 at → PaperRow b s (refused 25 at)
   at-gap : {at : ℕ} → Framed b s → walkOf b s ≡ done at → ¬ (at ≡ startOf s) → PaperRow b s (refused 26 at)
-  at-witness : {at : ℕ} → Framed b s → walkOf b s ≡ done (startOf s) → witnessOf b s (startOf s) (countOf s) ≡ wrong at
+  at-witness : {at : ℕ} → Framed b s → walkOf b s ≡ done (startOf s) → witnessVerdict b s (startOf s) (countOf s) ≡ wrong at
       → PaperRow b s (refused 27 at)
-  nowhere : Framed b s → walkOf b s ≡ done (startOf s) → witnessOf b s (startOf s) (countOf s) ≡ fine → PaperRow b s (certain (atomOf s))
+  nowhere : Framed b s → walkOf b s ≡ done (startOf s) → witnessVerdict b s (startOf s) (countOf s) ≡ fine
+      → PaperRow b s (certain (atomOf s))
 
 module _ (b : Book) (s : List ℕ) where
   -- ---- every answer has its row
 
-  witness-row : Framed b s → walkOf b s ≡ done (startOf s) → (c : Check) → witnessOf b s (startOf s) (countOf s) ≡ c
+  witness-row : Framed b s → walkOf b s ≡ done (startOf s) → (c : Check) → witnessVerdict b s (startOf s) (countOf s) ≡ c
       → PaperRow b s (witnessTold (atomOf s) c)
   unfolding witnessTold
   witness-row f e fine w = nowhere f e w
@@ -46,7 +49,7 @@ module _ (b : Book) (s : List ℕ) where
   unfolding branchTold
   walk-row f (done at) e =
       eq-either (PaperRow b s) _ _ _ _ (λ p. witness-row f (rw p at e) _ refl) (λ n. at-gap f e n)
-  walk-row f (stopped i at) e =
+  walk-row f (refusedAt i at) e =
       ⊎-elim (λ (p : i ≡ 24). rw p (at-form f (rw p at e))) (λ (p : i ≡ 25). rw p (at-step f (rw p at e)))
       (stopped-between b (claimOf s) s (startOf s) _ 0 start (omega arith) e .number)
 
@@ -106,22 +109,21 @@ module _ (b : Book) (s : List ℕ) where
 
 pub data CheckRow (book paper : List ℕ) : Told → Type 0 where
   at-book : {i at : ℕ} → readOf book ≡ bad i at → CheckRow book paper (refused i at)
-  at-paper : {x : Told} → GoodBytes book → PaperRow (bookIn book) paper x → CheckRow book paper x
+  at-paper : {x : Told} → GoodBook book (bookIn book) → PaperRow (bookIn book) paper x → CheckRow book paper x
 
 module _ (book paper : List ℕ) where
-  reading-good : {n k index : ℕ} {l : List Rule} → readOf book ≡ good n k index l → checkOf book paper ≡ paperOf (bookIn book) paper
-  unfolding checkOf bookIn checkReading bookOf
-  reading-good e = rw e
+  checks-paper : {n k index : ℕ} {l : List Rule} → readOf book ≡ good n k index l → checkOf book paper ≡ paperOf (bookIn book) paper
+  unfolding checkOf bookIn checkRead bookOf
+  checks-paper e = rw e
 
   pub row-checked : {x : Told} → CheckRow book paper x → checkOf book paper ≡ x
-  unfolding checkOf checkReading
+  unfolding checkOf checkRead
   row-checked (at-book e) = rw e
-  row-checked (at-paper g r) = reading-good (g .read) ∙ row-told (bookIn book) paper r
+  row-checked (at-paper g r) = checks-paper (good-read book g) ∙ row-told (bookIn book) paper r
 
   pub checked-row : {x : Told} → checkOf book paper ≡ x → CheckRow book paper x
-  checked-row e = subst (CheckRow book paper) e (by-reading (readOf book) refl)
+  checked-row e = subst (CheckRow book paper) e (by-read (readOf book) refl)
     where
-      by-reading : (x : Reading) → readOf book ≡ x → CheckRow book paper (checkOf book paper)
-      by-reading (good n k index l) r =
-          at-paper (record { atoms = n; rules = k; index = index; each = l; read = r }) (row-of (bookIn book) paper (sym (reading-good r)))
-      by-reading (bad i at) r = let c : CheckRow book paper (refused i at) = at-book r in rw (row-checked c) c
+      by-read : (x : BookRead) → readOf book ≡ x → CheckRow book paper (checkOf book paper)
+      by-read (good n k index l) r = at-paper (read-good book r) (row-of (bookIn book) paper (sym (checks-paper r)))
+      by-read (bad i at) r = let c : CheckRow book paper (refused i at) = at-book r in rw (row-checked c) c

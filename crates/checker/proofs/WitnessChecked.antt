@@ -31,7 +31,7 @@ use Rattle.book.proofs.Asked.{every-table}
 use Rattle.book.specs.declared.reader.Shape.{Shape}
 use Rattle.book.specs.Format.{bookIn, ReadAs}
 use Rattle.book.proofs.Places.{in-shape}
-use Rattle.checker.specs.Witness.{fine, wrong, andThen, follows, orderOf, blockedOf, restFails, listOf, witnessOf}
+use Rattle.checker.specs.Witness.{fine, wrong, andThen, follows, orderOf, blockedOf, restFails, listOf, witnessVerdict}
 use Rattle.checker.proofs.Lists.{part-is, below-rest}
 use Rattle.checker.proofs.Conditions.{positive-every, negative-some}
 
@@ -220,21 +220,21 @@ module _ (b : Book) (s : Rules) where
 
 -- l is the witness as the code has it, a part of the paper
 module _ (b : Book) (s : List ℕ) (from w : ℕ) (l : List ℕ) (part : l ≡ take (from + w - from) (drop from s)) where
-  listed-part : witnessOf b s from w ≡ listOf b from (length s - 6) l
-  unfolding witnessOf
+  listed-part : witnessVerdict b s from w ≡ listOf b from (length s - 6) l
+  unfolding witnessVerdict
   listed-part = rw (part, part-is s from w)
 
-  pub witness-order : (at : ℕ) → orderOf b from [] l ≡ wrong at → witnessOf b s from w ≡ wrong at
+  pub witness-order : (at : ℕ) → orderOf b from [] l ≡ wrong at → witnessVerdict b s from w ≡ wrong at
   unfolding listOf andThen
   witness-order at o = listed-part ∙ rw o
 
   module _ (o : orderOf b from [] l ≡ fine) where
-    witness-blocked : (at : ℕ) → blockedOf b (heads b (among (map ruleNo l))) from l ≡ wrong at → witnessOf b s from w ≡ wrong at
+    witness-blocked : (at : ℕ) → blockedOf b (heads b (among (map ruleNo l))) from l ≡ wrong at → witnessVerdict b s from w ≡ wrong at
     unfolding listOf andThen
     witness-blocked at u = listed-part ∙ rw (o, u)
 
     witness-last : blockedOf b (heads b (among (map ruleNo l))) from l ≡ fine
-        → witnessOf b s from w ≡ ifb (restFails b (heads b (among (map ruleNo l))) (map ruleNo l)) fine (wrong (length s - 6))
+        → witnessVerdict b s from w ≡ ifb (restFails b (heads b (among (map ruleNo l))) (map ruleNo l)) fine (wrong (length s - 6))
     unfolding listOf andThen
     witness-last u = listed-part ∙ rw (o, u)
 
@@ -260,14 +260,14 @@ module _ (s : List ℕ) (h : Shape) (e : ReadAs s h) (n : h .atoms < 256) (paper
       ∙ ap (λ t. among (map ruleNo l) r || t) (fails-same _ _ _ (positive-every s h e n r k _ headed headed-is)
       (negative-some s h e n r k _ headed headed-is)))
 
-  pub finds-blocked : (at : ℕ) → blockedOf (bookIn s) (atomsIn headed) from l ≡ wrong at → witnessOf (bookIn s) paper from w ≡ wrong at
+  pub finds-blocked : (at : ℕ) → blockedOf (bookIn s) (atomsIn headed) from l ≡ wrong at → witnessVerdict (bookIn s) paper from w ≡ wrong at
   finds-blocked at u = witness-blocked (bookIn s) paper from w l part o at (sym blocked-is ∙ u)
 
   module _ (u : blockedOf (bookIn s) (atomsIn headed) from l ≡ fine) where
     pub finds-rest : everyRule (bookIn s) (λ r. of listed r || fails (atomsIn headed) (rule (bookIn s) r)) ≡ false
-        → witnessOf (bookIn s) paper from w ≡ wrong (length paper - 6)
+        → witnessVerdict (bookIn s) paper from w ≡ wrong (length paper - 6)
     finds-rest t = witness-last (bookIn s) paper from w l part o (sym blocked-is ∙ u) ∙ b-no _ _ _ (sym rest-is ∙ t)
 
     pub finds-right : everyRule (bookIn s) (λ r. of listed r || fails (atomsIn headed) (rule (bookIn s) r)) ≡ true
-        → witnessOf (bookIn s) paper from w ≡ fine
+        → witnessVerdict (bookIn s) paper from w ≡ fine
     finds-right t = witness-last (bookIn s) paper from w l part o (sym blocked-is ∙ u) ∙ b-yes _ _ _ (sym rest-is ∙ t)

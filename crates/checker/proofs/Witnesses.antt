@@ -18,7 +18,7 @@ use Rattle.meaning.specs.Choice.{ifb}
 use Rattle.meaning.proofs.Choice.{b-yes, b-no, b-either}
 use Rattle.meaning.proofs.Tests.{both, left, right, either, first, other, decided, clash}
 use Rattle.meaning.proofs.Rules.{every-rule-at, every-rule-all}
-use Rattle.checker.specs.Witness.{Check, fine, wrong, andThen, follows, orderOf, blockedOf, restFails, listOf, witnessOf}
+use Rattle.checker.specs.Witness.{Check, fine, wrong, andThen, follows, orderOf, blockedOf, restFails, listOf, witnessVerdict}
 use Rattle.checker.specs.Places.{Follows}
 use Rattle.checker.proofs.Bytes.{number-member, member-rule}
 
@@ -121,8 +121,8 @@ module _ (b : Book) where
 
   -- ---- the whole witness
 
-  pub fine-witness : (s : List ℕ) (from w : ℕ) → witnessOf b s from w ≡ fine → Witness b (map ruleNo (take w (drop from s)))
-  unfolding witnessOf listOf
+  pub fine-witness : (s : List ℕ) (from w : ℕ) → witnessVerdict b s from w ≡ fine → Witness b (map ruleNo (take w (drop from s)))
+  unfolding witnessVerdict listOf
   fine-witness s from w e =
       let l = take w (drop from s) in
       let x = heads b (among (map ruleNo l)) in
@@ -137,8 +137,8 @@ module _ (b : Book) where
         unlisted = rest-all x (map ruleNo l) (fine-yes _ _ _ e₂ .0);
       }
 
-  pub witness-fine : (s : List ℕ) (from w : ℕ) → Witness b (map ruleNo (take w (drop from s))) → witnessOf b s from w ≡ fine
-  unfolding witnessOf listOf andThen
+  pub witness-fine : (s : List ℕ) (from w : ℕ) → Witness b (map ruleNo (take w (drop from s))) → witnessVerdict b s from w ≡ fine
+  unfolding witnessVerdict listOf andThen
   witness-fine s from w g = rw (fine-order from [] l o, fine-blocked x from l (λ n m. g .listed (ruleNo n) (member-rule l n m)))
       (b-yes _ _ _ (all-rest x (map ruleNo l) (g .unlisted)))
     where

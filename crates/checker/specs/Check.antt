@@ -9,10 +9,10 @@ use Rattle.meaning.specs.Books.{atomNo, Book}
 use Rattle.meaning.specs.Colours.{start}
 use Rattle.meaning.specs.Claim.{Claim, named}
 use Rattle.meaning.specs.Choice.{ifLt, ifEq}
-use Rattle.book.specs.Format.{u16At, Reading, good, bad, readOf}
+use Rattle.book.specs.Format.{u16At, BookRead, good, bad, readOf}
 use Rattle.checker.specs.Numbers.{Told, certain, refused}
-use Rattle.checker.specs.Branches.{Walked, done, stopped, branchOf}
-use Rattle.checker.specs.Witness.{Check, fine, wrong, witnessOf}
+use Rattle.checker.specs.Branches.{Walked, done, refusedAt, branchOf}
+use Rattle.checker.specs.Witness.{Check, fine, wrong, witnessVerdict}
 
 -- the witness stands just behind the last 45, and is right
 unfoldable pub witnessTold : ℕ → Check → Told
@@ -20,8 +20,8 @@ witnessTold a fine = certain a
 witnessTold a (wrong at) = refused 27 at
 
 unfoldable pub branchTold : Book → List ℕ → ℕ → ℕ → ℕ → Walked → Told
-branchTold b s a w from (done at) = ifEq at from (witnessTold a (witnessOf b s from w)) (refused 26 at)
-branchTold b s a w from (stopped i at) = refused i at
+branchTold b s a w from (done at) = ifEq at from (witnessTold a (witnessVerdict b s from w)) (refused 26 at)
+branchTold b s a w from (refusedAt i at) = refused i at
 
 -- the steps, with the claim that the paper makes
 unfoldable pub stepsTold : Book → Claim → List ℕ → ℕ → ℕ → ℕ → Told
@@ -44,9 +44,9 @@ paperOf b s =
     (refused 21 (length s - 2)))
     (refused 21 (length s - 2))))
 
-unfoldable pub checkReading : Reading → List ℕ → Told
-checkReading (good n k index l) paper = paperOf (record { atoms = n; rules = l }) paper
-checkReading (bad i at) paper = refused i at
+unfoldable pub checkRead : BookRead → List ℕ → Told
+checkRead (good n k index l) paper = paperOf (record { atoms = n; rules = l }) paper
+checkRead (bad i at) paper = refused i at
 
 unfoldable pub checkOf : List ℕ → List ℕ → Told
-checkOf book paper = checkReading (readOf book) paper
+checkOf book paper = checkRead (readOf book) paper

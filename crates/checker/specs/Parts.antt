@@ -1,6 +1,5 @@
--- What the parts of the checker hand one another, in the terms of a step, a branch and a witness.
+-- What the functions of the checker hand one another, in the terms of a step, a branch and a witness.
 --
---   lent on off           the pair that two lent tables of rules stand for
 --   stepped s at c x      the step x at byte `at` of the paper s, with the pair c
 --   StepWithin b s from at x   the step's rules are in the book, and it ends before the witness
 --   Leads b k s from at c i d   steps lead from byte `at` with the pair c to byte i with the pair d
@@ -10,7 +9,6 @@
 --   walked w, verdict v   what a branch and a witness come to
 --   Ends at from w        a branch that is done ends past its start, and not past the witness
 use mathlib.Core.Path.{_≡_}
-use mathlib.Core.Bool.{Bool}
 use mathlib.Core.List.{List, [], _∷_, map}
 use Prim.Native.Nat.{ℕ, _+_, _<_, _≤_}
 use lib.ListN.{length, take, drop}
@@ -18,7 +16,7 @@ use Rattle.meaning.specs.declared.RuleNo.{RuleNo}
 use Rattle.meaning.specs.Books.{ruleNo, Book, count, InBook}
 use Rattle.meaning.specs.Colours.{Pair, onSide, offSide, put}
 use Rattle.meaning.specs.Claim.{Claim}
-use Rattle.meaning.specs.Written.{of, pair}
+use Rattle.meaning.specs.Written.{pair}
 use Rattle.book.specs.declared.reader.Shape.{Shape}
 use Rattle.book.specs.Format.{ReadAs}
 use Rattle.book.specs.Tables.{Below}
@@ -32,11 +30,8 @@ use Rattle.checker.specs.declared.branch.Walked.the-variants.{Done, Form
 use Rattle.checker.specs.declared.witness.Verdict.{Verdict}
 use Rattle.checker.specs.declared.witness.Verdict.the-variants.{Right, Wrong}
 use Rattle.checker.specs.Steps.{Stepped, goes, parts, ends, fails, stepOf}
-use Rattle.checker.specs.Branches.{Walked, done, stopped}
+use Rattle.checker.specs.Branches.{Walked, done, refusedAt}
 use Rattle.checker.specs.Witness.{Check, fine, wrong}
-
-abbrev pub lent : List Bool → List Bool → Pair
-lent on off = record { on = of on; off = of off }
 
 -- the rules that a list of m bytes names
 abbrev pub listed : List ℕ → ℕ → ℕ → List RuleNo
@@ -91,12 +86,12 @@ pub record Runs (b : Book) (k : Claim) (s : List ℕ) (from at : ℕ) (c : Pair)
 
 abbrev pub walked : Branched → Walked
 walked (Done at) = done at
-walked (BadForm at) = stopped 24 at
-walked (BadFails at) = stopped 25 at
+walked (BadForm at) = refusedAt 24 at
+walked (BadFails at) = refusedAt 25 at
 
 pub data Ends (at from : ℕ) : Walked → Type 0 where
   past : {m : ℕ} → at < m → m ≤ from → Ends at from (done m)
-  refused : {i place : ℕ} → Ends at from (stopped i place)
+  refused : {i place : ℕ} → Ends at from (refusedAt i place)
 
 abbrev pub verdict : Verdict → Check
 verdict Right = fine

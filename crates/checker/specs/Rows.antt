@@ -1,7 +1,6 @@
 -- Rows 20 to 26 of document 01's table, "Numbers given back", as conditions on a book and a paper: what proofs/Refusals says of each
 -- number. Nothing is computed from these; the answer is that of Check.
 --
---   GoodBytes book               the book's bytes are good
 --   LengthGood, MarkGood, TrailerGood, AtomGood   the opposites of 20, 21, 22 and 23; Framed: all four
 --   Malformed b s from at        the four causes of 24, of the step at byte `at` where the witness starts at `from`
 --   Formed b k s from at c t x   the step is well-formed: t tests its condition with the pair c, and x comes after it if it holds
@@ -14,20 +13,12 @@ use Prim.Native.Nat.{ℕ, _+_, _-_, _≤_, _<_}
 use lib.ListN.{length, getD, take, drop}
 use Rattle.meaning.specs.declared.RuleNo.{RuleNo}
 use Rattle.meaning.specs.Sets.{ascending}
-use Rattle.meaning.specs.Books.{atomNo, ruleNo, Rule, Book, count, InBook}
+use Rattle.meaning.specs.Books.{atomNo, ruleNo, Book, count, InBook}
 use Rattle.meaning.specs.Colours.{Pair, onSide, offSide, put, start, mayOn, blocked, uncoloured}
 use Rattle.meaning.specs.Claim.{Claim, named, ended}
 use Rattle.meaning.specs.Paper.{unfounded, codeOn, codeOff, codeUnfounded, codeSplit, codeEnd, Branch}
-use Rattle.book.specs.Format.{u16At, partFrom, good, readOf}
+use Rattle.book.specs.Format.{u16At, partFrom}
 use Rattle.checker.specs.Steps.{Stepped, goes, parts, ends}
-
--- "The checker reads the book first": the book is good, and nothing of 1 to 7 is told
-pub record GoodBytes (book : List ℕ) : Type 0 where
-  pub atoms : ℕ
-  pub rules : ℕ
-  pub index : ℕ
-  pub each : List Rule
-  pub read : readOf book ≡ good atoms rules index each
 
 -- ---- the trailer
 

@@ -1,9 +1,9 @@
 -- The witness of a paper, checked. Document 01, number 27: "each byte in turn for number, repetition and positive atoms; then each byte
 -- for negative atoms, both with that byte as place; last an unlisted rule, with place length - 6."
 --
---   orderOf b at before l    the bytes l from place `at` on, where the rules `before` are listed before them
---   blockedOf b x at l       the same bytes once more: none of these rules has a negative atom in x
---   witnessOf s from w b     the whole witness: w bytes from place `from` of the paper s
+--   orderOf b at before l        the bytes l from place `at` on, where the rules `before` are listed before them
+--   blockedOf b x at l           the same bytes once more: none of these rules has a negative atom in x
+--   witnessVerdict b s from w    the whole witness: w bytes from place `from` of the paper s
 use mathlib.Core.Bool.{Bool, not, _&&_, _||_}
 use mathlib.Core.List.{List, [], _∷_, map}
 use Prim.Native.Nat.{ℕ, _+_, _-_}
@@ -48,5 +48,5 @@ listOf b from last l =
     (andThen (blockedOf b (heads b (among (map ruleNo l))) from l)
     (ifb (restFails b (heads b (among (map ruleNo l))) (map ruleNo l)) fine (wrong last)))
 
-unfoldable pub witnessOf : Book → List ℕ → ℕ → ℕ → Check
-witnessOf b s from w = listOf b from (length s - 6) (take w (drop from s))
+unfoldable pub witnessVerdict : Book → List ℕ → ℕ → ℕ → Check
+witnessVerdict b s from w = listOf b from (length s - 6) (take w (drop from s))

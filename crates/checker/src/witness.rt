@@ -9,7 +9,7 @@ ghost use Rattle.meaning.specs.Paper.{fails};
 ghost use Rattle.meaning.specs.Written.{of};
 ghost use Rattle.book.specs.Format.{bookIn, ReadAs};
 ghost use Rattle.book.specs.Tables.{atomsIn, Below};
-ghost use Rattle.checker.specs.Witness.{orderOf, blockedOf, witnessOf};
+ghost use Rattle.checker.specs.Witness.{orderOf, blockedOf, witnessVerdict};
 ghost use Rattle.checker.specs.Parts.{verdict};
 use crate::list::with_rules;
 use crate::trailer::Trailer;
@@ -124,7 +124,7 @@ pub fn check_witness(book: &[u8], shape: Shape, paper: &[u8], trailer: Trailer) 
     requires { ⌜ ReadAs (now book) shape
         × (trailer .from + trailer .count + 6 ≡ length (now paper))
         × (length (now paper) ≤ 60000) ⌝ }
-    ensures { λ v. ⌜ verdict v ≡ witnessOf (bookIn (now (book .entry))) (now (paper .entry))
+    ensures { λ v. ⌜ verdict v ≡ witnessVerdict (bookIn (now (book .entry))) (now (paper .entry))
         (trailer .from) (trailer .count) ⌝ }
 {
     let from = trailer.from;

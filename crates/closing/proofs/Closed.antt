@@ -12,7 +12,7 @@ use Rattle.meaning.specs.declared.colouring.Colouring.{Colouring}
 use Rattle.meaning.specs.Sets.{_∈_, _∉_, every, some}
 use Rattle.meaning.specs.Books.{Book, count, rule, InBook}
 use Rattle.meaning.specs.Colours.{Pair, heads, allIn, mayOn, blocked, starved, Under, Upheld, Within, Closed}
-use Rattle.meaning.specs.Written.{of}
+use Rattle.meaning.specs.Written.{of, lent}
 use Rattle.meaning.specs.Computed.{support, close}
 use Rattle.meaning.proofs.Tests.{both, left, right, either, first, other, absent}
 use Rattle.meaning.proofs.Sets.{every-mono}
@@ -26,13 +26,9 @@ use Rattle.closing.specs.Growing.{Pass}
 use Rattle.closing.specs.Conditions.{onWith, goingOn, offByTables, goingOff}
 use Rattle.closing.proofs.Good.{Asks}
 
--- the pair that two lists stand for
-abbrev pub pairOf : List Bool → List Bool → Pair
-pairOf on off = record { on = of on; off = of off }
-
 -- the sets, the marks and the tables of a closing that started from two sets
 pub record Closes (b : Book) (on₀ off₀ on off marks headed lost : List Bool) : Type 0 where
-  pub reached : Reached b (pairOf on₀ off₀) (pairOf on off)
+  pub reached : Reached b (lent on₀ off₀) (lent on off)
   pub on-long : length on ≡ 255
   pub off-long : length off ≡ 255
   pub on-outside : (r : RuleNo) → count b ≤ r .0 → of on r ≡ of on₀ r
@@ -45,7 +41,7 @@ module _ (b : Book) (asks : Asks b) {on₀ off₀ : List Bool} where
   pub closes-start : length on₀ ≡ 255 → length off₀ ≡ 255 → {marks headed lost : List Bool} → headed ≡ atomTable (heads b (of on₀))
       → lost ≡ atomTable (allIn b (of off₀)) → marks ≡ support b (of off₀) → Closes b on₀ off₀ on₀ off₀ marks headed lost
   closes-start u v e f g = record {
-    reached = reached-start b (pairOf on₀ off₀);
+    reached = reached-start b (lent on₀ off₀);
     on-long = u;
     off-long = v;
     on-outside = λ r h. refl;
@@ -61,11 +57,11 @@ module _ (b : Book) (asks : Asks b) {on₀ off₀ : List Bool} where
     by-lost : (r : RuleNo) → InBook b r → every (atomsIn lost) (rule b r .neg) ≡ every (allIn b (of off)) (rule b r .neg)
     by-lost r h = rw (s .lost-table) (asks .neg r h (allIn b (of off)))
 
-    by-blocked : (r : RuleNo) → InBook b r → some (atomsIn headed) (rule b r .neg) ≡ blocked b (pairOf on off) r
-    by-blocked r h = asks .blocked r h (pairOf on off) headed (s .heads-table)
+    by-blocked : (r : RuleNo) → InBook b r → some (atomsIn headed) (rule b r .neg) ≡ blocked b (lent on off) r
+    by-blocked r h = asks .blocked r h (lent on off) headed (s .heads-table)
 
     -- a rule without a mark is off in every closed pair above
-    unmarked-off : (d : Pair) → Within b (pairOf on off) d → Closed b d → (r : RuleNo) → InBook b r → r ∉ of marks → r ∈ d .off
+    unmarked-off : (d : Pair) → Within b (lent on off) d → Closed b d → (r : RuleNo) → InBook b r → r ∉ of marks → r ∈ d .off
     unmarked-off d w k r h n = outside b k (of marks) upheld r h n
       where
         upheld : Upheld b (d .off) (of marks)
@@ -74,7 +70,7 @@ module _ (b : Book) (asks : Asks b) {on₀ off₀ : List Bool} where
 
     -- ---- a pass keeps to the closing
 
-    on-goes : (d : Pair) → Within b (pairOf on off) d → Closed b d → Under b (goingOn b lost .goes (d .on)) (d .on)
+    on-goes : (d : Pair) → Within b (lent on off) d → Closed b d → Under b (goingOn b lost .goes (d .on)) (d .on)
     unfolding goingOn onWith mayOn
     on-goes d w k r h a = k .goes-on r h (both (left (every (heads b (d .on)) _) _ a)
         (every-mono (allIn-mono b (within-off b w)) _ (sym (by-lost r h) ∙ right (every (heads b (d .on)) (rule b r .pos)) _ a)))
@@ -93,7 +89,7 @@ module _ (b : Book) (asks : Asks b) {on₀ off₀ : List Bool} where
       supported = s .supported;
     }
 
-    off-goes : (d : Pair) → Within b (pairOf on off) d → Closed b d → Under b (goingOff b headed marks .goes (d .off)) (d .off)
+    off-goes : (d : Pair) → Within b (lent on off) d → Closed b d → Under b (goingOff b headed marks .goes (d .off)) (d .off)
     unfolding goingOff offByTables starved
     off-goes d w k r h a = ⊎-elim
         (λ a. ⊎-elim (λ n. unmarked-off d w k r h (not-true _ n))
@@ -116,12 +112,12 @@ module _ (b : Book) (asks : Asks b) {on₀ off₀ : List Bool} where
 
     -- ---- a pass that adds nothing
 
-    rests-on : {m : List Bool} → Pass b (goingOn b lost) (count b) on m false → Under b (mayOn b (pairOf on off)) (of on)
+    rests-on : {m : List Bool} → Pass b (goingOn b lost) (count b) on m false → Under b (mayOn b (lent on off)) (of on)
     unfolding goingOn onWith mayOn
     rests-on p r h m = p .none-rests refl r h (both (left (every (heads b (of on)) _) _ m)
         (by-lost r h ∙ right (every (heads b (of on)) (rule b r .pos)) _ m))
 
-    rests-blocked : {m : List Bool} → Pass b (goingOff b headed marks) (count b) off m false → Under b (blocked b (pairOf on off)) (of off)
+    rests-blocked : {m : List Bool} → Pass b (goingOff b headed marks) (count b) off m false → Under b (blocked b (lent on off)) (of off)
     unfolding goingOff offByTables
     rests-blocked p r h m = p .none-rests refl r h (other (not (of marks r)) (by-blocked r h ∙ m))
 
@@ -141,7 +137,7 @@ pub closes-end : (b : Book) → Asks b → (c : Colouring) → Sized c → {on o
 closes-end b asks c sized {on} {off} s {on'} p e {off'} q f g =
     let u = closes-on b asks s p e in let t = closes-off b asks u q f g in
     let x = p .none-same refl in let y = q .none-same refl in
-    let closed : Closed b (pairOf on' off) = closed-without-starved b (record {
+    let closed : Closed b (lent on' off) = closed-without-starved b (record {
       goes-on = rw x at (rests-on b asks s p);
       goes-off-blocked = rests-blocked b asks u q;
       goes-off-unsupported = unsupported-any b (support-is b (of off) (asks .few)) (rests-unmarked b asks u q);

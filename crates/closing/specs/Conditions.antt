@@ -1,4 +1,5 @@
--- The conditions of the three kinds of pass, over what a pass has in hand: tables of atoms, marks, and the set that grows.
+-- The conditions of the three kinds of pass, over what a pass has in hand: tables of atoms, marks, and the set that grows. Document 01,
+-- "Colours and closing": "Rule goes on", "Rule goes off", "Support".
 --
 --   marking b off    "a rule that is not off, and whose positive atoms are all heads of rules in V, is in V"
 --   goingOn b lost   each positive atom is the head of a rule in the set, and each negative atom is in the table

@@ -1,5 +1,5 @@
--- The counters of support: beside the marks, for each rule the number of its positive atoms that are still missing. They go with the
--- marks, and no promise of another crate speaks of them.
+-- What the functions that find the support hand one another: beside the marks, counters, for each rule the number of its positive atoms
+-- that are still missing. They go with the marks, and no promise of another crate speaks of them.
 --
 --   stillMissing x l k   of the atoms l the last k were missing: how many still are, where those of x are there, asked for in order
 --   Counted b v missing supported   the counters and the table of heads go with the set v of marked rules

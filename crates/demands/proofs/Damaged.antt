@@ -9,15 +9,15 @@ use lib.ListN.{length}
 use Rattle.meaning.specs.Books.{Book, atomNo}
 use Rattle.meaning.specs.Claim.{named}
 use Rattle.meaning.specs.Paper.{Keeps}
-use Rattle.book.specs.Format.{Reading, good, bad, readOf, bookOf, bookIn}
+use Rattle.book.specs.Format.{BookRead, good, bad, readOf, bookIn}
 use Rattle.book.specs.Rows.{Bytes}
 use Rattle.book.proofs.Records.{at-entry, at-record, at-atom, at-order}
 use Rattle.book.proofs.Refusals.{BookRow, row-of, in-records, at-length as no-length, at-mark as no-mark, at-trailer as no-trailer}
 use Rattle.book.proofs.Refusals.{refused-length, refused-mark, refused-trailer, refused-entry, refused-record, refused-atom, refused-order}
 use Rattle.book.proofs.Refusals.{accepted}
+pub use Rattle.book.proofs.Refusals.{good-read, good-is}
 use Rattle.checker.specs.Numbers.{Told, certain, refused}
 use Rattle.checker.specs.Check.{checkOf}
-use Rattle.checker.specs.Rows.{GoodBytes}
 use Rattle.checker.proofs.Rows.{CheckRow, at-book, at-paper, checked-row, row-checked}
 use Rattle.checker.proofs.Rows.{at-length, at-mark, at-trailer, at-form, at-step, at-gap, at-witness}
 use Rattle.checker.proofs.Rows.{at-atom as at-claim}
@@ -52,19 +52,11 @@ module _ (s : List ℕ) where
   damaged-bad (row-6 f w) = refused-atom s _ .1 (f, w)
   damaged-bad (row-7 f w) = refused-order s _ .1 (f, w)
 
-  pub good-read : {b : Book} (g : GoodBook s b) → readOf s ≡ good (b .atoms) (g .rule-count) (g .index) (b .rules)
-  good-read g = accepted s _ _ _ _ .1 (g .bytes)
-
-  -- the book that good bytes hold
-  pub good-is : {b : Book} → GoodBook s b → bookIn s ≡ b
-  unfolding bookIn bookOf
-  good-is g = rw (good-read g)
-
   -- every list of bytes is a good book or a damaged one
   pub every-book : ((b : Book) × GoodBook s b) ⊎ ((i : ℕ) × (at : ℕ) × DamagedBook s i at)
   every-book = go (readOf s) refl
     where
-      go : (x : Reading) → readOf s ≡ x → ((b : Book) × GoodBook s b) ⊎ ((i : ℕ) × (at : ℕ) × DamagedBook s i at)
+      go : (x : BookRead) → readOf s ≡ x → ((b : Book) × GoodBook s b) ⊎ ((i : ℕ) × (at : ℕ) × DamagedBook s i at)
       go (good m r i l) e =
           inl (record { atoms = m; rules = l }, record { rule-count = r; index = i; bytes = accepted s m r i l .0 e })
       go (bad i at) e = inr (i, at, bad-damaged e)
@@ -72,39 +64,31 @@ module _ (s : List ℕ) where
   -- and never both
   pub not-both : {A : Type 0} {b : Book} {i at : ℕ} → GoodBook s b → DamagedBook s i at → A
   not-both g d =
-      let p = good-read g in let q = damaged-bad d in let z : _≡_ {A = ℕ} 0 1 = cc in absurd (omega arith)
+      let p = good-read s g in let q = damaged-bad d in let z : _≡_ {A = ℕ} 0 1 = cc in absurd (omega arith)
 
 -- ---- papers
 
 module _ (book paper : List ℕ) where
-  -- a good book, as the checker's laws say it
-  pub good-bytes : {b : Book} → GoodBook book b → GoodBytes book
-  good-bytes {b} g = record { atoms = _; rules = _; index = _; each = _; read = good-read book g }
-
-  pub bytes-good : GoodBytes book → GoodBook book (bookIn book)
-  unfolding bookIn bookOf
-  bytes-good g = rw (g .read) (record { rule-count = g .rules; index = g .index; bytes = accepted book _ _ _ _ .0 (g .read) })
-
   Refuses : ℕ → ℕ → Type 0
   Refuses i at = DamagedBook book i at ⊎ ((b : Book) × GoodBook book b × DamagedPaper b paper i at)
 
   refused-row : {i at : ℕ} → checkOf book paper ≡ refused i at → CheckRow book paper (refused i at) → Refuses i at
   unfolding Refuses
   refused-row e (at-book p) = inl (bad-damaged book p)
-  refused-row e (at-paper g (at-length l)) = inr (bookIn book, bytes-good g, row-20 l)
-  refused-row e (at-paper g (at-mark l m)) = inr (bookIn book, bytes-good g, row-21 l m)
-  refused-row e (at-paper g (at-trailer l m t)) = inr (bookIn book, bytes-good g, row-22 l m t)
-  refused-row e (at-paper g (at-claim l m t a)) = inr (bookIn book, bytes-good g, row-23 l m t a)
+  refused-row e (at-paper g (at-length l)) = inr (bookIn book, g, row-20 l)
+  refused-row e (at-paper g (at-mark l m)) = inr (bookIn book, g, row-21 l m)
+  refused-row e (at-paper g (at-trailer l m t)) = inr (bookIn book, g, row-22 l m t)
+  refused-row e (at-paper g (at-claim l m t a)) = inr (bookIn book, g, row-23 l m t a)
   refused-row e (at-paper g (at-form f w)) =
-      let (framed, c, p, m) = refused-form book paper _ .0 e .1 in inr (bookIn book, bytes-good g, row-24 framed p m)
+      let (framed, c, p, m) = refused-form book paper _ .0 e .1 in inr (bookIn book, g, row-24 framed p m)
   refused-row e (at-paper g (at-step f w)) =
-      let (framed, c, p, m) = refused-step book paper _ .0 e .1 in inr (bookIn book, bytes-good g, row-25 framed p m)
+      let (framed, c, p, m) = refused-step book paper _ .0 e .1 in inr (bookIn book, g, row-25 framed p m)
   refused-row e (at-paper g (at-gap f w m)) =
-      let (framed, p, l) = refused-gap book paper _ .0 e .1 in inr (bookIn book, bytes-good g, row-26 framed p l)
+      let (framed, p, l) = refused-gap book paper _ .0 e .1 in inr (bookIn book, g, row-26 framed p l)
   refused-row e (at-paper g (at-witness f w v)) =
-      let (framed, p, l) = refused-witness book paper _ .0 e .1 in inr (bookIn book, bytes-good g, row-27 framed p l)
+      let (framed, p, l) = refused-witness book paper _ .0 e .1 in inr (bookIn book, g, row-27 framed p l)
 
-  damaged-row : {i at : ℕ} → GoodBytes book → DamagedPaper (bookIn book) paper i at → checkOf book paper ≡ refused i at
+  damaged-row : {i at : ℕ} → GoodBook book (bookIn book) → DamagedPaper (bookIn book) paper i at → checkOf book paper ≡ refused i at
   damaged-row g (row-20 l) = paper-length book paper 0 .1 (g, (l, refl))
   damaged-row g (row-21 l m) = paper-mark book paper _ .1 (g, (l, m, refl))
   damaged-row g (row-22 l m t) = paper-trailer book paper _ .1 (g, (l, m, t, refl))
@@ -121,7 +105,7 @@ module _ (book paper : List ℕ) where
   check-refused i at = (
     λ e. refused-row e (checked-row book paper e),
     λ d. ⊎-elim (λ p. row-checked book paper (at-book (damaged-bad book p)))
-        (λ (b, g, p). damaged-row (good-bytes g) (rw (← good-is book g) at p)) d,
+        (λ (b, g, p). damaged-row (rw (good-is book g) g) (rw (← good-is book g) at p)) d,
   )
 
   -- every paper for a good book keeps the printed rules, at no more than 60,000 bytes, or is damaged

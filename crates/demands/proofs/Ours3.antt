@@ -37,7 +37,7 @@ use Rattle.demands.specs.Engine.{Engine, ours}
 use Rattle.demands.specs.Damaged.{GoodBook}
 use Rattle.demands.specs.Demand2.{Naming}
 use Rattle.demands.specs.Demand3.{Sound, Complete, InLimit, WritesOnly, Demand3}
-use Rattle.demands.proofs.Damaged.{good-is, every-book, good-bytes, bytes-good}
+use Rattle.demands.proofs.Damaged.{good-is, every-book}
 use Rattle.demands.proofs.Calls.{along, named-as, nameable}
 use Rattle.demands.proofs.Ours1.{ours-1}
 
@@ -48,11 +48,11 @@ check-accepts-sound book s a e =
     let (p, g) = row (checked-row book s e) in (p, (bookIn book, g, check-sound book s e))
   where
     row : {a : ℕ} → CheckRow book s (certain a) → (a ≡ atomOf s) × GoodBook book (bookIn book)
-    row (at-paper g (nowhere f w v)) = (refl, bytes-good book s g)
+    row (at-paper g (nowhere f w v)) = (refl, g)
 
 check-accepts-all : Complete ours
 check-accepts-all book s b a g k h =
-    let e = good-is book g in check-complete book s (good-bytes book s g) a (rw e k) h
+    let e = good-is book g in check-complete book s (rw e g) a (rw e k) h
 
 -- ---- the writer
 

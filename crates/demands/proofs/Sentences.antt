@@ -36,7 +36,7 @@ use Rattle.checker.proofs.Accepted.{check-exact}
 use Rattle.demands.specs.Engine.{Engine}
 use Rattle.demands.specs.Demand2.{Call, GivesReadings, Stops, TellsFewer, NamingFewer}
 use Rattle.demands.specs.Demand3.{Complete, InLimit, Writes}
-use Rattle.demands.proofs.Damaged.{every-book, bytes-good}
+use Rattle.demands.proofs.Damaged.{every-book}
 use Rattle.demands.proofs.Calls.{found-as, named-as, book-fits, readings-there, call-counts, nameable}
 use Rattle.demands.proofs.Ours1.{ours-1}
 use Rattle.demands.proofs.Ours2.{ours-2}
@@ -124,7 +124,7 @@ module _ (book s : List ℕ) (bytes : Bytes s) where
   pub accepts-as-ours : (e : Engine) → Complete e → (a : ℕ) → checkOf book s ≡ certain a → e .check book s ≡ certain a
   accepts-as-ours e complete a told =
       let (g, k, h) = check-exact book s bytes a .0 told in
-      complete book s (bookIn book) (atomNo a) (bytes-good book s g) k h
+      complete book s (bookIn book) (atomNo a) g k h
 
 -- ---- naming
 

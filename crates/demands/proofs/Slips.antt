@@ -18,7 +18,7 @@ use Rattle.meaning.proofs.Cases.{circular-readings, choice-readings}
 use Rattle.meaning.proofs.Cases.{circular as circularBook, choice as choiceBook}
 use Rattle.meaning.proofs.Answers.{nothing-certain}
 use Rattle.meaning.proofs.Papers.{keeps-certain}
-use Rattle.book.specs.Format.{u16At, partOf, bytesOf, recordOf, lengthOf, ruleOf, recordsOf, rulesOf, readingOf, bodyOf, readOf}
+use Rattle.book.specs.Format.{u16At, partOf, bytesOf, recordOf, lengthOf, ruleOf, recordsOf, rulesOf, ifFine, bodyOf, readOf}
 use Rattle.book.specs.Format.{andThen as recordsThen, bookOf, bookIn}
 use Rattle.book.specs.Rows.{Bytes}
 use Rattle.walk.specs.Find.{set, findOf}
@@ -26,8 +26,8 @@ use Rattle.writer.specs.Name.{paper, refused as unnamed, nameOf}
 use Rattle.checker.specs.Numbers.{certain, refused}
 use Rattle.checker.specs.Steps.{withRule, properList, withList, stepBy, stepOf}
 use Rattle.checker.specs.Branches.{andThen, afterStep, branchOf}
-use Rattle.checker.specs.Witness.{andThen as witnessThen, follows, orderOf, blockedOf, restFails, listOf, witnessOf}
-use Rattle.checker.specs.Check.{witnessTold, branchTold, stepsTold, trailerTold, paperOf, checkReading, checkOf}
+use Rattle.checker.specs.Witness.{andThen as witnessThen, follows, orderOf, blockedOf, restFails, listOf, witnessVerdict}
+use Rattle.checker.specs.Check.{witnessTold, branchTold, stepsTold, trailerTold, paperOf, checkRead, checkOf}
 use Rattle.demands.specs.Engine.{Engine}
 use Rattle.demands.specs.Damaged.{GoodBook}
 use Rattle.demands.specs.Demand3.{Sound, WritesOnly}
@@ -39,7 +39,7 @@ use Rattle.demands.proofs.Worked.{At, row}
 
 -- the bytes of two worked books are the books whose readings are computed in meaning
 printed : (bookIn circular ≡ circularBook) × (bookIn choice ≡ choiceBook)
-unfolding bookIn bookOf readOf bodyOf readingOf recordsOf rulesOf ruleOf lengthOf recordOf bytesOf partOf recordsThen u16At ifb ifLt ifEq
+unfolding bookIn bookOf readOf bodyOf ifFine recordsOf rulesOf ruleOf lengthOf recordOf bytesOf partOf recordsThen u16At ifb ifLt ifEq
 printed = (refl, refl)
 
 -- ---- "Two rules that hold each other up are kept on because neither is off. Support decides."
@@ -88,10 +88,10 @@ choice-uncertain g c =
 
 pub slips-refused : (checkOf choice carriedPaper ≡ refused 25 3) × (checkOf barredBook barredPaper ≡ refused 25 2)
     × (checkOf barredBook blockedPaper ≡ certain 0)
-unfolding checkOf checkReading paperOf trailerTold stepsTold branchTold witnessTold
-    witnessOf listOf restFails blockedOf orderOf follows witnessThen
+unfolding checkOf checkRead paperOf trailerTold stepsTold branchTold witnessTold
+    witnessVerdict listOf restFails blockedOf orderOf follows witnessThen
     branchOf afterStep andThen stepOf stepBy withList properList withRule
-    readOf bodyOf readingOf recordsOf rulesOf ruleOf lengthOf recordOf bytesOf partOf recordsThen u16At
+    readOf bodyOf ifFine recordsOf rulesOf ruleOf lengthOf recordOf bytesOf partOf recordsThen u16At
     unfounded fails ended shown clashing uncoloured blocked mayOn allIn heads put
     someRule everyRule rule count sameRule sameAtom ascending someBelow everyBelow some every ifb ifLt ifEq
 slips-refused = (refl, refl, refl)

@@ -12,14 +12,14 @@ use Rattle.meaning.specs.Paper.{fails}
 use Rattle.meaning.specs.Written.{of, addFrom, added}
 use Rattle.meaning.specs.Computed.{iterate, upheld, supportMore, support, goesOff, closeMore, marked, close}
 use Rattle.meaning.specs.Choice.{ifb, ifLt, ifEq}
-use Rattle.book.specs.Format.{u16At, partOf, bytesOf, recordOf, lengthOf, ruleOf, recordsOf, rulesOf, readingOf, bodyOf, readOf}
+use Rattle.book.specs.Format.{u16At, partOf, bytesOf, recordOf, lengthOf, ruleOf, recordsOf, rulesOf, ifFine, bodyOf, readOf}
 use Rattle.book.specs.Format.{andThen as recordsThen, bookOf, bookIn}
 use Rattle.walk.specs.Run.{rowFrom, rowOf, writeAt}
 use Rattle.walk.specs.Find.{Answered as Found, set}
 use Rattle.checker.specs.Numbers.{Told, certain, refused}
 use Rattle.checker.specs.Steps.{withRule, stepBy, stepOf}
 use Rattle.checker.specs.Branches.{andThen}
-use Rattle.checker.specs.Witness.{andThen as witnessThen, follows, orderOf, blockedOf, restFails, listOf, witnessOf}
+use Rattle.checker.specs.Witness.{andThen as witnessThen, follows, orderOf, blockedOf, restFails, listOf, witnessVerdict}
 use Rattle.checker.specs.Check.{witnessTold, branchTold, checkOf}
 use Rattle.demands.specs.Demand2.{GivesReadings}
 use Rattle.demands.specs.Demand3.{Sound}
@@ -50,7 +50,7 @@ always-accepts-fails sound =
 once-choice : closesOnce .find choice 1 1000 (sevens 3) ≡ record { told = set 1; buffer = 0 ∷ 0 ∷ sevens 1 }
 unfolding onceOf onceIn every some everyBelow someBelow sameAtom count rule everyRule someRule heads allIn mayOn blocked starved clashing
     of addFrom added iterate upheld supportMore support goesOff closeMore marked close ifb ifLt ifEq rowFrom rowOf writeAt
-    readOf bodyOf readingOf recordsOf rulesOf ruleOf lengthOf recordOf bytesOf partOf recordsThen u16At
+    readOf bodyOf ifFine recordsOf rulesOf ruleOf lengthOf recordOf bytesOf partOf recordsThen u16At
 once-choice = refl
 
 pub closes-once-fails : GivesReadings closesOnce → ⊥
@@ -59,9 +59,9 @@ closes-once-fails gives =
 
 -- it accepts a paper whose second branch does not hold
 first-accepts : firstBranch .check choice carriedPaper ≡ certain 0
-unfolding formFirst branchTold witnessTold witnessOf listOf restFails blockedOf orderOf follows witnessThen
+unfolding formFirst branchTold witnessTold witnessVerdict listOf restFails blockedOf orderOf follows witnessThen
     firstOf afterFirst skipOf andThen stepOf stepBy withRule bookIn bookOf
-    readOf bodyOf readingOf recordsOf rulesOf ruleOf lengthOf recordOf bytesOf partOf recordsThen u16At
+    readOf bodyOf ifFine recordsOf rulesOf ruleOf lengthOf recordOf bytesOf partOf recordsThen u16At
     fails ended shown clashing uncoloured blocked mayOn allIn heads put
     someRule everyRule rule count sameRule sameAtom someBelow everyBelow some every ifb ifLt ifEq
 first-accepts = rw (slips-refused .0)

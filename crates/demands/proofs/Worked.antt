@@ -16,22 +16,22 @@ use Rattle.meaning.specs.Lowest.{onPick, oneOr, lowestFrom, lowest, listedIf, r
 use Rattle.meaning.specs.Engine.{firstOf, unsupported, next, listable, listing}
 use Rattle.meaning.specs.Engine.{witnessOf as ownWitness}
 use Rattle.meaning.specs.Choice.{ifb, ifLt, ifEq}
-use Rattle.book.specs.Format.{u16At, partOf, andThen, bytesOf, recordOf, lengthOf, ruleOf, recordsOf, rulesOf, readingOf, bodyOf, readOf}
+use Rattle.book.specs.Format.{u16At, partOf, andThen, bytesOf, recordOf, lengthOf, ruleOf, recordsOf, rulesOf, ifFine, bodyOf, readOf}
 use Rattle.walk.specs.Events.{after, eventsIn, events}
 use Rattle.walk.specs.Run.{rowFrom, rowOf, writeAt, readingMet, tried, met, run}
-use Rattle.walk.specs.Find.{toldBy, findIn, findReading, findOf}
+use Rattle.walk.specs.Find.{toldBy, findIn, findRead, findOf}
 use Rattle.walk.specs.Page.{setIn}
 use Rattle.writer.specs.Branches.{behind, branchBy, branchIn, branch, below, branchesIn, branches}
 use Rattle.writer.specs.Scan.{courseAt, scan}
 use Rattle.writer.specs.Scan.{met as branchMet}
 use Rattle.writer.specs.Needs.{wholePaper}
-use Rattle.writer.specs.Name.{firstWalk, paperWalk, handOver, afterPaperWalk, afterFirstWalk, nameIn, nameReading, nameOf}
+use Rattle.writer.specs.Name.{firstWalk, paperWalk, handOver, afterPaperWalk, afterFirstWalk, nameIn, nameRead, nameOf}
 use Rattle.checker.specs.Steps.{withRule, properList, withList, stepBy, stepOf}
 use Rattle.checker.specs.Branches.{afterStep, branchOf}
 use Rattle.checker.specs.Branches.{andThen as branchThen}
-use Rattle.checker.specs.Witness.{follows, orderOf, blockedOf, restFails, listOf, witnessOf}
+use Rattle.checker.specs.Witness.{follows, orderOf, blockedOf, restFails, listOf, witnessVerdict}
 use Rattle.checker.specs.Witness.{andThen as witnessThen}
-use Rattle.checker.specs.Check.{witnessTold, branchTold, stepsTold, trailerTold, paperOf, checkReading, checkOf}
+use Rattle.checker.specs.Check.{witnessTold, branchTold, stepsTold, trailerTold, paperOf, checkRead, checkOf}
 use Rattle.demands.specs.Engine.{ours}
 use Rattle.demands.specs.Worked.{Holds, Each, no-more, _and_, cases}
 
@@ -40,11 +40,11 @@ unfolding Holds every some everyBelow someBelow ascending sameAtom sameRule coun
     allIn mayOn blocked starved clashing uncoloured claimed mark shown ended unfounded fails trailer of addFrom added iterate upheld
     supportMore support goesOff closeMore marked close barred leastModel agree isAnswerSet onPick oneOr lowestFrom lowest listedIf
     rulesFrom rulesIn firstOf unsupported next listable listing ownWitness ifb ifLt ifEq u16At partOf andThen bytesOf recordOf lengthOf
-    ruleOf recordsOf rulesOf readingOf bodyOf readOf after eventsIn events rowFrom rowOf writeAt readingMet tried met run toldBy findIn
-    findReading findOf setIn behind branchBy branchIn branch below branchesIn branches courseAt branchMet scan firstWalk paperWalk
-    wholePaper handOver afterPaperWalk afterFirstWalk nameIn nameReading nameOf withRule properList withList stepBy stepOf branchThen
-    afterStep branchOf witnessThen follows orderOf blockedOf restFails listOf witnessOf witnessTold branchTold stepsTold trailerTold
-    paperOf checkReading checkOf
+    ruleOf recordsOf rulesOf ifFine bodyOf readOf after eventsIn events rowFrom rowOf writeAt readingMet tried met run toldBy findIn
+    findRead findOf setIn behind branchBy branchIn branch below branchesIn branches courseAt branchMet scan firstWalk paperWalk
+    wholePaper handOver afterPaperWalk afterFirstWalk nameIn nameRead nameOf withRule properList withList stepBy stepOf branchThen
+    afterStep branchOf witnessThen follows orderOf blockedOf restFails listOf witnessVerdict witnessTold branchTold stepsTold trailerTold
+    paperOf checkRead checkOf
 worked =
     refl and refl and refl and refl and refl and refl and refl and refl and refl and
     refl and refl and refl and refl and refl and refl and refl and refl and refl and

@@ -1,7 +1,7 @@
 -- Good and damaged books, damaged papers. Document 01, "Numbers given back": each row of the table that has a place, as a condition on the
 -- bytes alone; no row holds where an earlier one does.
 --
---   GoodBook book b          nothing is wrong with the bytes, and b is what they say
+--   GoodBook book b          (of book) nothing is wrong with the bytes, and b is what they say
 --   DamagedBook book i at    row i of the table, 1 to 7, holds of the book, at the place `at`
 --   DamagedPaper b s i at    row i of the table, 20 to 27, holds of the paper s for the book b, at the place `at`
 use mathlib.Core.List.{List}
@@ -12,15 +12,10 @@ use Rattle.meaning.specs.Colours.{Pair, start}
 use Rattle.meaning.specs.Paper.{Branch}
 use Rattle.book.specs.Rows.{LengthGood, MarkGood, TrailerGood, Framed, atomCount, ruleCount, indexStart}
 use Rattle.book.specs.Rows.{EntryWrong, RecordWrong, BytesWrong}
-use Rattle.book.specs.Rows.{GoodBook as GoodBytes}
+pub use Rattle.book.specs.Rows.{GoodBook}
 use Rattle.checker.specs.Rows.{LengthGood as PaperLengthGood, MarkGood as PaperMarkGood, TrailerGood as PaperTrailerGood, AtomGood}
 use Rattle.checker.specs.Rows.{Framed as PaperFramed, claimOf, startOf, witnessBytes, Comes, Malformed, Unheld}
 use Rattle.checker.specs.Places.{WrongAt}
-
-pub record GoodBook (book : List ℕ) (b : Book) : Type 0 where
-  pub rule-count : ℕ
-  pub index : ℕ
-  pub bytes : GoodBytes book (b .atoms) rule-count index (b .rules)
 
 -- "Order: the book first, with 1, 2, 3; then for each record 4, 5 and, byte by byte, 6 before 7; then the last end (4)."
 pub data DamagedBook (s : List ℕ) : ℕ → ℕ → Type 0 where

@@ -26,10 +26,10 @@ use Rattle.meaning.specs.Paper.{codeOn, codeOff, codeUnfounded, codeSplit, code
 use Rattle.meaning.specs.Written.{nothing, pair}
 use Rattle.meaning.specs.Computed.{close}
 use Rattle.meaning.specs.Choice.{ifb, ifLt, ifEq}
-use Rattle.book.specs.Format.{Reading, good, bad, readOf, bookIn}
+use Rattle.book.specs.Format.{BookRead, good, bad, readOf, bookIn}
 use Rattle.walk.specs.Readings.{readingOf}
 use Rattle.walk.specs.Run.{rowOf, writeAt}
-use Rattle.walk.specs.Find.{set, fewer, stopped, refusedAt, refused, findOf}
+use Rattle.walk.specs.Find.{set, refusedWith, fewer, stopped, refusedAt, refused, findOf}
 use Rattle.walk.specs.Find.{Told as FindTold, Answered as Found}
 use Rattle.writer.specs.Name.{Told as NameTold, paper, nameOf}
 use Rattle.writer.specs.Name.{fewer as nameFewer, stopped as nameStopped, refusedAt as unnamedAt, refused as unnamed}
@@ -37,7 +37,7 @@ use Rattle.checker.specs.Numbers.{certain}
 use Rattle.checker.specs.Numbers.{Told as CheckTold, refused as unchecked}
 use Rattle.checker.specs.Steps.{Stepped, goes, parts, ends, fails, stepOf}
 use Rattle.checker.specs.Branches.{Walked, done, andThen}
-use Rattle.checker.specs.Branches.{stopped as stops}
+use Rattle.checker.specs.Branches.{refusedAt as stops}
 use Rattle.checker.specs.Check.{branchTold, checkOf}
 use Rattle.checker.specs.Rows.{atomOf, countOf, startOf, claimOf}
 use Rattle.demands.specs.Engine.{Engine}
@@ -100,7 +100,7 @@ onceIn b d k answer =
     ifb (clashing b (pair d)) (record { told = fewer 1 0; buffer = answer })
     (ifEq k 1 (record { told = set 1; buffer = writeAt 0 (rowOf b (readingOf b d)) answer }) (record { told = fewer 1 1; buffer = answer }))
 
-unfoldable pub onceOf : Reading → ℕ → ℕ → List ℕ → Found
+unfoldable pub onceOf : BookRead → ℕ → ℕ → List ℕ → Found
 onceOf (good n r index l) k limit answer =
     let b : Book = record { atoms = n; rules = l } in
     ifEq k 0 (record { told = refused 15; buffer = answer })
@@ -151,10 +151,15 @@ doesNothing e = record {
 
 -- ---- invents tries
 
+-- of the values of 11, all tries and the sets, the tries are invented; the value of 9 is the limit
+unfoldable pub invented : ℕ → List ℕ → List ℕ
+invented n [] = []
+invented n (limit ∷ []) = limit ∷ []
+invented n (t ∷ (m ∷ l)) = n ∷ (m ∷ l)
+
 unfoldable pub withTries : ℕ → FindTold → FindTold
 withTries n (set t) = set n
-withTries n (fewer t m) = fewer n m
-withTries n (stopped limit) = stopped limit
+withTries n (refusedWith i l) = refusedWith i (invented n l)
 withTries n (refusedAt i at) = refusedAt i at
 withTries n (refused i) = refused i
 

@@ -1,4 +1,4 @@
--- Laws of the choices of specs/Choice: what is chosen where the test holds and where it fails. A proof goes by these and never by the test.
+-- Laws of the choices of specs/Choice: what is chosen where the test holds and where it fails. Most proofs go by these and not by the test.
 use Prim.Native.Nat.{ℕ, _<_, _≤_}
 use mathlib.Core.Bool.{Bool, true, false}
 use mathlib.Core.Path.{_≡_, refl}

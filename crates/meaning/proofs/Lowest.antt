@@ -33,35 +33,51 @@ unfolding lowestFrom
 picked s i zero = λ r g h. absurd (omega arith)
 picked s i (suc n) = picked-more s i n (s (ruleNo i)) _ refl (picked s (suc i) n)
 
-module _ (b : Book) (s : Rules) where
-  pub lowest-one : (r : RuleNo) → lowest b s ≡ one r → InBook b r × (r ∈ s) × ((q : RuleNo) → q .0 < r .0 → q ∉ s)
-  unfolding lowest
-  lowest-one r e =
-      let (g, h, m, f) = subst (Picked s 0 (count b)) e (picked s 0 (count b)) in (omega arith, m, λ q l. f q (omega arith) l)
+-- the lowest of the rules below a number
+module _ (n : ℕ) (s : Rules) where
+  from-one : (r : RuleNo) → lowestFrom 0 n s ≡ one r → (r .0 < n) × (r ∈ s) × ((q : RuleNo) → q .0 < r .0 → q ∉ s)
+  from-one r e = let (g, h, m, f) = subst (Picked s 0 n) e (picked s 0 n) in (omega arith, m, λ q l. f q (omega arith) l)
 
-  pub lowest-none : lowest b s ≡ none → (r : RuleNo) → InBook b r → r ∉ s
-  unfolding lowest
-  lowest-none e r h = subst (Picked s 0 (count b)) e (picked s 0 (count b)) r (omega arith) (omega arith)
+  from-none : lowestFrom 0 n s ≡ none → (r : RuleNo) → r .0 < n → r ∉ s
+  from-none e r h = subst (Picked s 0 n) e (picked s 0 n) r (omega arith) (omega arith)
 
-  pub none-lowest : ((r : RuleNo) → InBook b r → r ∉ s) → lowest b s ≡ none
-  none-lowest f = go (lowest b s) refl
+  pub none-from : ((r : RuleNo) → r .0 < n → r ∉ s) → lowestFrom 0 n s ≡ none
+  none-from f = go (lowestFrom 0 n s) refl
     where
-      go : (p : Pick) → lowest b s ≡ p → lowest b s ≡ none
+      go : (p : Pick) → lowestFrom 0 n s ≡ p → lowestFrom 0 n s ≡ none
       go none e = e
-      go (one r) e = let (h, m, k) = lowest-one r e in clash m (f r h)
+      go (one r) e = let (h, m, k) = from-one r e in clash m (f r h)
 
-  pub one-lowest : (r : RuleNo) → InBook b r → r ∈ s → ((q : RuleNo) → q .0 < r .0 → q ∉ s) → lowest b s ≡ one r
-  one-lowest r h m f = go (lowest b s) refl
+  pub one-from : (r : RuleNo) → r .0 < n → r ∈ s → ((q : RuleNo) → q .0 < r .0 → q ∉ s) → lowestFrom 0 n s ≡ one r
+  one-from r h m f = go (lowestFrom 0 n s) refl
     where
       below : (q p : RuleNo) → q ∈ s → ((u : RuleNo) → u .0 < p .0 → u ∉ s) → p .0 ≤ q .0
       below q p n k = ⊎-elim (λ g. clash n (k q g)) (λ g. g) (lt-or-le (q .0) (p .0))
 
-      go : (p : Pick) → lowest b s ≡ p → lowest b s ≡ one r
-      go none e = clash m (lowest-none e r h)
+      go : (p : Pick) → lowestFrom 0 n s ≡ p → lowestFrom 0 n s ≡ one r
+      go none e = clash m (from-none e r h)
       go (one q) e =
-          let (g, n, k) = lowest-one q e in
+          let (g, n, k) = from-one q e in
           let z : q .0 ≡ r .0 = le-antisymm (below r q m k) (below q r n f) in
           e ∙ (λ i. one (record { 0 = z i }))
+
+-- the lowest of a book
+module _ (b : Book) (s : Rules) where
+  pub lowest-one : (r : RuleNo) → lowest b s ≡ one r → InBook b r × (r ∈ s) × ((q : RuleNo) → q .0 < r .0 → q ∉ s)
+  unfolding lowest
+  lowest-one = from-one (count b) s
+
+  pub lowest-none : lowest b s ≡ none → (r : RuleNo) → InBook b r → r ∉ s
+  unfolding lowest
+  lowest-none = from-none (count b) s
+
+  pub none-lowest : ((r : RuleNo) → InBook b r → r ∉ s) → lowest b s ≡ none
+  unfolding lowest
+  none-lowest = none-from (count b) s
+
+  pub one-lowest : (r : RuleNo) → InBook b r → r ∈ s → ((q : RuleNo) → q .0 < r .0 → q ∉ s) → lowest b s ≡ one r
+  unfolding lowest
+  one-lowest = one-from (count b) s
 
 -- no lowest rule without a colour: every rule has one
 pub lowest-total : (b : Book) (c : Pair) → lowest b (uncoloured c) ≡ none → Total b c

@@ -3,6 +3,7 @@
 use mathlib.Core.Path.{_∙_}
 use mathlib.Core.List.{List, _∷_, List·Memᴰ, List·Memᴰ·head, List·Memᴰ·tail, Memᴰ·cast}
 use mathlib.Core.List.{List·Permᴰ, List·Permᴰ·nil, List·Permᴰ·cons, List·Permᴰ·swap, List·Permᴰ·trans, Permᴰ·symm}
+use mathlib.Core.Logic.{_↔_}
 use Rattle.meaning.specs.declared.AtomNo.{AtomNo}
 use Rattle.meaning.specs.Sets.{Set}
 use Rattle.meaning.specs.Books.{Atoms, Rule, Book}
@@ -34,6 +35,9 @@ throughout-same s fact t = record {
   each = λ x answer. t .each x (answer-same (same-rules-sym s) x answer);
 }
 
+pub certain-same : {b d : Book} → SameRules b d → (a : AtomNo) → Certain b a ↔ Certain d a
+certain-same s a = (throughout-same s _, throughout-same (same-rules-sym s) _)
+
 -- ---- permuting the rules, and repeating one
 
 permuted-member : {l m : List Rule} → List·Permᴰ l m → (r : Rule) → List·Memᴰ r l → List·Memᴰ r m
@@ -55,9 +59,9 @@ repeated b r m = record { to = λ q k. List·Memᴰ·tail k; from = back }
     back q (List·Memᴰ·head e) = Memᴰ·cast e m
     back q (List·Memᴰ·tail k) = k
 
-pub certain-permuted : (b d : Book) (a : AtomNo) → List·Permᴰ (b .rules) (d .rules) → Certain b a → Certain d a
-certain-permuted b d a p = throughout-same (permuted b d p) _
+pub certain-permuted : (b d : Book) (a : AtomNo) → List·Permᴰ (b .rules) (d .rules) → Certain b a ↔ Certain d a
+certain-permuted b d a p = certain-same (permuted b d p) a
 
 pub certain-repeated : (b : Book) (r : Rule) (a : AtomNo) → List·Memᴰ r (b .rules)
-    → Certain b a → Certain (record { atoms = b .atoms; rules = r ∷ b .rules }) a
-certain-repeated b r a m = throughout-same (repeated b r m) _
+    → Certain b a ↔ Certain (record { atoms = b .atoms; rules = r ∷ b .rules }) a
+certain-repeated b r a m = certain-same (repeated b r m) a

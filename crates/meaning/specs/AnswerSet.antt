@@ -1,4 +1,5 @@
--- Answer sets, as Gelfond and Lifschitz define them, and what is certain. Document 01, "The meaning". Nothing else is to be believed.
+-- Answer sets, as Gelfond and Lifschitz define them, and what is certain. Document 01, "The meaning". It rests on Sets and Books only:
+-- "This definition decides when anything else here differs from it."
 --
 --   reduct x l           "The reduct by a set X drops every rule with a negative atom in X and drops the negative part of the rest."
 --   obeys y r            if every positive atom of the rule is in y, its head is in y

@@ -1,4 +1,5 @@
--- A choice by a test, for definitions that mirror code. Each is shut: a proof goes by the laws in proofs/Choice.antt.
+-- A choice by a test, for definitions that mirror code; no sentence of document 01. Most proofs go by the laws in proofs/Choice.antt, and
+-- those that compute unfold them.
 use Prim.Native.Nat.{ℕ}
 use mathlib.Core.Bool.{Bool, true, false}
 use lib.Dec.{ltb, eqb}

@@ -1,4 +1,5 @@
--- Papers that keep the printed rules. Document 01, "The paper". The bytes are numbers below 256; a paper of at most 60,000 is accepted.
+-- Papers that keep the printed rules. Document 01, "The paper". Its limit, "At most 60,000 bytes", is no part of Keeps: what is said
+-- of a paper that is to be accepted, or that was written, names the limit beside it.
 --
 --   unfounded b off l    "each listed rule has a positive atom all of whose rules are off or listed"
 --   Branch b k c l       the bytes l are a branch that starts with the pair c: steps up to its 45, or up to its split and two branches

@@ -1,9 +1,11 @@
--- Sets of rules written out: place r of a list of 255 says whether rule r is in the set. Places from R on are never touched.
+-- Sets of rules written out: place r of a list of 255 says whether rule r is in the set. Document 01, "Which form to use where": "Colour
+-- and mark arrays of 255 elements". Of on and off, places from R on are never touched; closing replaces the marks.
 --
 --   of l             the set that a list stands for
 --   added b s l      the list with the rules of the book that are in s added
 --   nothing          the empty colouring
 --   colourOn r c, colourOff r c   the colouring with rule r put in on, in off
+--   lent on off      the pair of sets that two lists stand for, each lent by itself
 --   pair c           the pair of sets that a colouring stands for
 use mathlib.Core.Bool.{Bool, true, false, _||_}
 use mathlib.Core.List.{List, [], _∷_}
@@ -36,5 +38,8 @@ colourOn r c = record { on = set (c .on) (r .0) true; off = c .off; marks = c .m
 abbrev pub colourOff : RuleNo → Colouring → Colouring
 colourOff r c = record { on = c .on; off = set (c .off) (r .0) true; marks = c .marks }
 
+abbrev pub lent : List Bool → List Bool → Pair
+lent on off = record { on = of on; off = of off }
+
 abbrev pub pair : Colouring → Pair
-pair c = record { on = of (c .on); off = of (c .off) }
+pair c = lent (c .on) (c .off)

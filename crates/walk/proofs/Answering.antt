@@ -16,7 +16,7 @@ use Rattle.book.specs.declared.reader.Shape.{Shape}
 use Rattle.book.specs.declared.reader.Read.{Read}
 use Rattle.book.specs.declared.reader.Read.the-variants.{Good, Refused}
 use Rattle.book.specs.Numbers.{refused as badly, numberOf, placeOf, told as bookTold}
-use Rattle.book.specs.Format.{Reading, good, bad, readOf, toldOf, bookOf, bookIn, ReadAs}
+use Rattle.book.specs.Format.{BookRead, good, bad, readOf, toldOf, bookOf, bookIn, ReadAs}
 use Rattle.book.proofs.Shape.{told-good}
 use Rattle.book.proofs.Places.{shape-atoms}
 use Rattle.walk.specs.Events.{events, rest}
@@ -24,7 +24,7 @@ use Rattle.walk.specs.Run.{Wanted, State, run}
 use Rattle.walk.specs.Room.{Room}
 use Rattle.walk.specs.Find.{Told, refused, refusedAt, toldBy, startOf, answeredBy, findIn, findOf}
 use Rattle.walk.specs.Page.{Told as PageTold, refused as small, refusedAt as badAt, toldBy as pageToldBy, setIn, eventsFrom, roomIn}
-use Rattle.walk.specs.Page.{pagedBy, pageIn, pageReading, pageOf}
+use Rattle.walk.specs.Page.{pagedBy, pageIn, pageRead, pageOf}
 use Rattle.walk.specs.declared.tally.Halt.{Halt}
 use Rattle.walk.specs.declared.tally.Halt.the-variants.{Going, Full, Limit, NotLeast}
 use Rattle.walk.specs.declared.tally.Tally.{Tally}
@@ -35,7 +35,7 @@ use Rattle.walk.proofs.Listing.{later-events}
 
 -- ---- the book
 
-told-refused : (x : Reading) (i at : ℕ) → toldOf x ≡ badly i at → x ≡ bad i at
+told-refused : (x : BookRead) (i at : ℕ) → toldOf x ≡ badly i at → x ≡ bad i at
 unfolding toldOf
 told-refused (good n k index l) i at e = apart (cc)
 told-refused (bad j to) i at e = let p : j ≡ i = cc in let q : to ≡ at = cc in λ m. bad (p m) (q m)
@@ -53,7 +53,7 @@ module _ (s : List ℕ) {x : Read} (e : bookTold x ≡ toldOf (readOf s)) where
 
   pub page-refused : (limit tries : ℕ) (row out : List ℕ) {f : Refusal} → x ≡ Refused f
       → record { told = badAt (numberOf f) (placeOf f); buffer = out } ≡ pageOf s limit tries row out
-  unfolding pageOf pageReading
+  unfolding pageOf pageRead
   page-refused limit tries row out f = sym (rw (read-bad f))
 
 -- ---- the start of a walk
@@ -119,7 +119,7 @@ first-events b n x e = rw e
 
 module _ (s : List ℕ) (h : Shape) (e : ReadAs s h) where
   pub page-read : (limit tries : ℕ) (row out : List ℕ) → pageIn (bookIn s) limit tries row out ≡ pageOf s limit tries row out
-  unfolding pageOf pageReading bookIn bookOf
+  unfolding pageOf pageRead bookIn bookOf
   page-read limit tries row out = rw (told-good (readOf s) _ _ _ e)
 
   module _ (limit tries : ℕ) (row out : List ℕ) where

@@ -12,11 +12,11 @@ use Rattle.meaning.specs.Written.{of, addFrom, added}
 use Rattle.meaning.specs.Computed.{iterate, upheld, supportMore, support, goesOff, closeMore, marked, close}
 use Rattle.meaning.specs.Computed.{barred, leastModel, agree, isAnswerSet}
 use Rattle.meaning.specs.Lowest.{oneOr, lowestFrom, lowest}
-use Rattle.book.specs.Format.{u16At, partOf, andThen, bytesOf, recordOf, lengthOf, ruleOf, recordsOf, rulesOf, readingOf, bodyOf, readOf}
+use Rattle.book.specs.Format.{u16At, partOf, andThen, bytesOf, recordOf, lengthOf, ruleOf, recordsOf, rulesOf, ifFine, bodyOf, readOf}
 use Rattle.walk.specs.Events.{after, eventsIn, events, beside, afterPast, restIn, rest}
 use Rattle.walk.specs.Run.{rowFrom, rowOf, writeAt, readingMet, tried, met, run}
-use Rattle.walk.specs.Find.{Told, set, fewer, stopped, refused, Answered, toldBy, findIn, findReading, findOf}
-use Rattle.walk.specs.Page.{whole, last, stopped as cut, setIn, eventsFrom, roomIn, toldBy as pageToldBy, pageIn, pageReading, pageOf}
+use Rattle.walk.specs.Find.{Told, set, fewer, stopped, refused, Answered, toldBy, findIn, findRead, findOf}
+use Rattle.walk.specs.Page.{whole, last, stopped as cut, setIn, eventsFrom, roomIn, toldBy as pageToldBy, pageIn, pageRead, pageOf}
 
 pub record Case : Type 0 where
   pub book : List ℕ
@@ -90,8 +90,8 @@ cases =
 pub cases-found : map (λ c. findOf (c .book) (c .k) (c .limit) before) cases ≡ map (λ c. c .answer) cases
 unfolding every some everyBelow someBelow sameAtom count rule everyRule someRule ifb ifLt ifEq heads allIn mayOn blocked starved
     clashing uncoloured of addFrom added iterate upheld supportMore support goesOff closeMore marked close barred leastModel agree
-    isAnswerSet oneOr lowestFrom lowest u16At partOf andThen bytesOf recordOf lengthOf ruleOf recordsOf rulesOf readingOf bodyOf readOf
-    after eventsIn events rowFrom rowOf writeAt readingMet tried met run toldBy findIn findReading findOf
+    isAnswerSet oneOr lowestFrom lowest u16At partOf andThen bytesOf recordOf lengthOf ruleOf recordsOf rulesOf ifFine bodyOf readOf
+    after eventsIn events rowFrom rowOf writeAt readingMet tried met run toldBy findIn findRead findOf
 cases-found = refl
 
 pub pages-found :
@@ -101,7 +101,7 @@ pub pages-found :
     × (pageOf choice 2 2 (1 ∷ 0 ∷ []) (7 ∷ 7 ∷ 7 ∷ []) ≡ record { told = cut 0; buffer = 7 ∷ 7 ∷ 7 ∷ [] })
 unfolding every some everyBelow someBelow sameAtom count rule everyRule someRule ifb ifLt ifEq heads allIn mayOn blocked starved
     clashing uncoloured of addFrom added iterate upheld supportMore support goesOff closeMore marked close barred leastModel agree
-    isAnswerSet oneOr lowestFrom lowest u16At partOf andThen bytesOf recordOf lengthOf ruleOf recordsOf rulesOf readingOf bodyOf readOf
+    isAnswerSet oneOr lowestFrom lowest u16At partOf andThen bytesOf recordOf lengthOf ruleOf recordsOf rulesOf ifFine bodyOf readOf
     generates generating after eventsIn events beside afterPast restIn rest rowFrom rowOf writeAt readingMet tried met run
-    setIn eventsFrom roomIn pageToldBy pageIn pageReading pageOf
+    setIn eventsFrom roomIn pageToldBy pageIn pageRead pageOf
 pages-found = (refl, refl, refl, refl)

@@ -10,14 +10,14 @@ use Rattle.meaning.specs.Books.{Atoms, Rule, Book, count}
 use Rattle.meaning.specs.Written.{nothing}
 use Rattle.meaning.proofs.Rules.{rule-member}
 use Rattle.meaning.proofs.LeastModel.{Proper}
-use Rattle.book.specs.Format.{Reading, good, bad, readOf, bookOf, bookIn}
+use Rattle.book.specs.Format.{BookRead, good, bad, readOf, bookOf, bookIn}
 use Rattle.book.specs.Rows.{Bytes}
 use Rattle.book.proofs.Shape.{good-fits}
 use Rattle.walk.specs.Events.{events}
 use Rattle.walk.specs.Readings.{readings}
 use Rattle.walk.specs.Tries.{Kth, Needs, to-reading, to-end}
 use Rattle.walk.specs.Run.{rowOf}
-use Rattle.walk.specs.Find.{set, fewer, stopped, refusedAt, refused, Answered, findIn, findReading, findOf}
+use Rattle.walk.specs.Find.{set, fewer, stopped, refusedAt, refused, Answered, findIn, findRead, findOf}
 use Rattle.walk.proofs.Run.{apart}
 use Rattle.walk.proofs.Needs.{kth-count, kth-one, needs-one}
 use Rattle.walk.proofs.Finding.{Outcome, found, too-few, too-long, no-number, no-room, find-outcome}
@@ -134,19 +134,19 @@ module _ (s : List ℕ) (k limit : ℕ) (answer : List ℕ) where
   -- a book's refusal comes first, and nothing is written
   pub find-bad-book : (number at : ℕ) → readOf s ≡ bad number at
       → findOf s k limit answer ≡ record { told = refusedAt number at; buffer = answer }
-  unfolding findOf findReading
+  unfolding findOf findRead
   find-bad-book number at e = rw e
 
   -- all that is said above of a book holds of the book that good bytes hold
   pub find-good-book : (n r index : ℕ) (l : List Rule) → readOf s ≡ good n r index l
       → findOf s k limit answer ≡ findIn (bookIn s) k limit answer
-  unfolding findOf findReading bookIn bookOf
+  unfolding findOf findRead bookIn bookOf
   find-good-book n r index l e = rw e
 
   pub find-of-never-10 : Bytes s → findOf s k limit answer .told ≡ refused 10 → ⊥
   find-of-never-10 bytes = go (readOf s) refl
     where
-      go : (x : Reading) → readOf s ≡ x → findOf s k limit answer .told ≡ refused 10 → ⊥
+      go : (x : BookRead) → readOf s ≡ x → findOf s k limit answer .told ≡ refused 10 → ⊥
       go (good n r index l) e t =
           find-never-10 (bookIn s) (read-fits s n r index l bytes e .0) k limit answer (rw (find-good-book n r index l e) at t)
       go (bad number at) e t = let z = rw (find-bad-book number at e) at t in apart (cc)

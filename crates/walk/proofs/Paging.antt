@@ -1,7 +1,8 @@
 -- A page of a listing (specs/Page): the rows of the next readings, until the room is full, the walk is at its end or the limit is met. A
--- listing goes on where the page before ended, so that its pages together are the readings of one walk, with the tries of one walk.
+-- listing goes on where the page before ended, so that its pages together are the readings of one walk, with the tries of one walk. A
+-- refusal keeps the buffer.
 use mathlib.Core.Path.{_≡_, refl, sym, _∙_, ap, subst}
-use mathlib.Core.Logic.{⊎-elim}
+use mathlib.Core.Logic.{_⊎_, ⊎-elim}
 use mathlib.Core.List.{List, [], _∷_, _++_}
 use Prim.Native.Nat.{ℕ, zero, suc, _+_, _*_, _-_, _≤_, _<_}
 use native.Mathlib.Nat.{zero-add, zero-mul, one-mul, div-mul-le-self, le-div-iff-mul-le, mul-le-mul-right}
@@ -14,11 +15,14 @@ use Rattle.meaning.proofs.Tests.{lt-or-le}
 use Rattle.meaning.proofs.Choice.{lt-either, eq-either}
 use Rattle.meaning.proofs.Written.{sized-nothing}
 use Rattle.meaning.proofs.LeastModel.{answer→test}
+use Rattle.book.specs.Format.{BookRead, good, bad, readOf}
 use Rattle.walk.specs.Events.{Event, reading}
 use Rattle.walk.specs.Readings.{readingsIn}
 use Rattle.walk.specs.Run.{writeAt, Wanted, State, run}
-use Rattle.walk.specs.declared.tally.Halt.the-variants.{Going}
-use Rattle.walk.specs.Page.{whole, last, stopped, wrong, refused, Paged, setIn, eventsFrom, roomIn, toldBy, pagedBy, pageIn}
+use Rattle.walk.specs.declared.tally.Halt.{Halt}
+use Rattle.walk.specs.declared.tally.Halt.the-variants.{Going, Full, Limit, NotLeast}
+use Rattle.walk.specs.Page.{whole, last, stopped, wrong, refusedAt, refused, Paged, setIn, eventsFrom, roomIn, toldBy, pagedBy}
+use Rattle.walk.specs.Page.{pageIn, pageRead, pageOf}
 use Rattle.walk.proofs.Events.{walks}
 use Rattle.walk.proofs.Rows.{rowsOf, rows-length, write-front}
 use Rattle.walk.proofs.Run.{apart, run-stops}
@@ -105,20 +109,53 @@ module _ (b : Book) (limit n : ℕ) (row out : List ℕ) where
 
   -- ---- number 10 never comes
 
+  nine-ten : {A : Type 0} → _≡_ {A = ℕ} 9 10 → A
+  nine-ten z = absurd (omega arith)
+
   never-10 : {A : Paged} {todo : List Event} → Outcome todo A → (m : ℕ) → A .told ≡ wrong m → ⊥
   never-10 (all-rows h k) m e = apart (cc)
   never-10 (full-page more d later q h k) m e = apart (cc)
-  never-10 (limit-met more f later q h k) m e = apart (cc)
+  never-10 (limit-met more f later q h k) m e = nine-ten (cc)
   never-10 (no-room h) m e = apart (cc)
 
   -- also where more tries were made than the limit allows
   over-limit : limit ≤ n → (es : List Event) (m : ℕ) → pagedBy (run b wanted start es) .told ≡ wrong m → ⊥
   unfolding run toldBy
   over-limit h [] m e = apart (cc)
-  over-limit h (f ∷ es) m e = let z = rw (run-stops b wanted start refl f es h) at e in apart (cc)
+  over-limit h (f ∷ es) m e = let z = rw (run-stops b wanted start refl f es h) at e in nine-ten (cc)
 
   pub page-never-10 : count b ≤ 255 → (m : ℕ) → pageIn b limit n row out .told ≡ wrong m → ⊥
   unfolding pageIn
   page-never-10 fits = ⊎-elim (λ h. never-10 (page-outcome fits (omega arith)))
       (λ h. lt-either (λ (a : Paged). (m : ℕ) → a .told ≡ wrong m → ⊥) _ _ _ _ (λ k m e. apart (cc)) (λ k. over-limit h _))
       (lt-or-le n limit)
+
+-- ---- nothing is written on a refusal
+
+module _ (i at : ℕ) where
+  -- the number i is told, with a place or without one
+  abbrev Refuses : Paged → Type 0
+  Refuses a = (a .told ≡ refusedAt i at) ⊎ (a .told ≡ refused i)
+
+  walked : {A : Type 0} (h : Halt) (s : State) → (toldBy h s ≡ refusedAt i at) ⊎ (toldBy h s ≡ refused i) → A
+  unfolding toldBy
+  walked Going s = ⊎-elim (λ e. apart (cc)) (λ e. apart (cc))
+  walked Full s = ⊎-elim (λ e. apart (cc)) (λ e. apart (cc))
+  walked Limit s = ⊎-elim (λ e. apart (cc)) (λ e. apart (cc))
+  walked NotLeast s = ⊎-elim (λ e. apart (cc)) (λ e. apart (cc))
+
+  module _ (limit n : ℕ) (row out : List ℕ) where
+    keeps-in : (b : Book) → Refuses (pageIn b limit n row out) → pageIn b limit n row out .buffer ≡ out
+    unfolding pageIn
+    keeps-in b = lt-either (λ (a : Paged). Refuses a → a .buffer ≡ out) _ _ _ _ (λ h r. refl) (λ h r. walked _ _ r)
+
+    -- 1 to 7 and 8: the buffer is as it was
+    pub page-keeps : (book : List ℕ)
+        → (pageOf book limit n row out .told ≡ refusedAt i at) ⊎ (pageOf book limit n row out .told ≡ refused i)
+        → pageOf book limit n row out .buffer ≡ out
+    unfolding pageOf pageRead
+    page-keeps book = go (readOf book)
+      where
+        go : (x : BookRead) → Refuses (pageRead x limit n row out) → pageRead x limit n row out .buffer ≡ out
+        go (good m k index l) r = keeps-in (record { atoms = m; rules = l }) r
+        go (bad j place) r = refl

@@ -1,5 +1,5 @@
 -- The searches of src/colours.rt, turn by turn: a rule in both sets, and the lowest rule in neither. What is kept is that no rule before
--- is of that kind; a book of so many rules then clashes, or has its lowest uncoloured rule, where the search says.
+-- is of that kind. A book of so many rules clashes, and has its lowest uncoloured rule, where the search says.
 use mathlib.Core.Path.{_≡_, refl, sym, ap}
 use mathlib.Core.Bool.{Bool, true, false, not, _&&_, _||_}
 use mathlib.Core.List.{List}
@@ -8,16 +8,13 @@ use native.Mathlib.Omega.{arith}
 use lib.ListN.{getD}
 use Rattle.meaning.specs.declared.RuleNo.{RuleNo}
 use Rattle.meaning.specs.Sets.{Set, _∉_, someBelow}
-use Rattle.meaning.specs.Books.{ruleNo, Book, count, someRule}
-use Rattle.meaning.specs.Colours.{Pair, clashing, uncoloured}
-use Rattle.meaning.specs.Written.{of}
-use Rattle.meaning.specs.Lowest.{lowest, none, one}
+use Rattle.meaning.specs.Books.{Rules, ruleNo, Book, count, someRule}
+use Rattle.meaning.specs.Colours.{clashing, uncoloured}
+use Rattle.meaning.specs.Written.{of, lent}
+use Rattle.meaning.specs.Lowest.{Pick, none, one, lowestFrom, lowest}
 use Rattle.meaning.proofs.Tests.{both, not-first, not-second, first, other, neither, clash, refuted}
 use Rattle.meaning.proofs.Sets.{below-one, none-next, none-end}
-use Rattle.meaning.proofs.Lowest.{none-lowest, one-lowest}
-
-abbrev pub sides : List Bool → List Bool → Pair
-sides on off = record { on = of on; off = of off }
+use Rattle.meaning.proofs.Lowest.{none-from, one-from}
 
 -- the rule is in both lists; it is in neither
 unfoldable pub inBoth : List Bool → List Bool → Set ℕ
@@ -47,28 +44,40 @@ module _ (on off : List Bool) (i : ℕ) where
   unfolding inNeither
   pick-next-off e k = none-next i (inNeither on off) (ap not (other (getD on i false) e)) k
 
-  bare : getD on i false ≡ false → getD off i false ≡ false → uncoloured (sides on off) (ruleNo i) ≡ true
+  bare : getD on i false ≡ false → getD off i false ≡ false → uncoloured (lent on off) (ruleNo i) ≡ true
   unfolding uncoloured of
   bare e f = ap not (neither e f)
 
   -- no rule before is in neither list
-  earlier : someBelow i (inNeither on off) ≡ false → (q : RuleNo) → q .0 < i → q ∉ uncoloured (sides on off)
+  earlier : someBelow i (inNeither on off) ≡ false → (q : RuleNo) → q .0 < i → q ∉ uncoloured (lent on off)
   unfolding uncoloured of inNeither
   earlier e q h = refuted (λ m. clash (below-one i (inNeither on off) (q .0) h m) e)
 
   module _ (n : ℕ) where
-    pub clash-found : i < n → getD on i false ≡ true → getD off i false ≡ true → (b : Book) → count b ≡ n → true ≡ clashing b (sides on off)
-    unfolding clashing someRule of
-    clash-found h e f b k = sym (below-one (count b) _ i (rw k h) (both e f))
+    pub clash-found : i < n → getD on i false ≡ true → getD off i false ≡ true
+        → true ≡ someBelow n (λ m. of on (ruleNo m) && of off (ruleNo m))
+    unfolding of
+    clash-found h e f = sym (below-one n _ i h (both e f))
 
-    pub clash-none : i ≤ n → n ≤ i → someBelow i (inBoth on off) ≡ false → (b : Book) → count b ≡ n → false ≡ clashing b (sides on off)
-    unfolding clashing someRule of inBoth
-    clash-none h g e b k = sym (rw k (none-end i n (inBoth on off) h g e))
+    pub clash-none : i ≤ n → n ≤ i → someBelow i (inBoth on off) ≡ false
+        → false ≡ someBelow n (λ m. of on (ruleNo m) && of off (ruleNo m))
+    unfolding of inBoth
+    clash-none h g e = sym (none-end i n (inBoth on off) h g e)
 
     pub pick-found : i < n → getD on i false ≡ false → getD off i false ≡ false → someBelow i (inNeither on off) ≡ false
-        → (b : Book) → count b ≡ n → one (ruleNo i) ≡ lowest b (uncoloured (sides on off))
-    pick-found h e f k b g = sym (one-lowest b _ (ruleNo i) (rw g h) (bare e f) (earlier k))
+        → one (ruleNo i) ≡ lowestFrom 0 n (uncoloured (lent on off))
+    pick-found h e f k = sym (one-from n _ (ruleNo i) h (bare e f) (earlier k))
 
-    pub pick-none : n ≤ i → someBelow i (inNeither on off) ≡ false
-        → (b : Book) → count b ≡ n → none ≡ lowest b (uncoloured (sides on off))
-    pick-none h e b g = sym (none-lowest b _ (λ r k. earlier e r (omega arith)))
+    pub pick-none : n ≤ i → someBelow i (inNeither on off) ≡ false → none ≡ lowestFrom 0 n (uncoloured (lent on off))
+    pick-none h e = sym (none-from n _ (λ r k. earlier e r (omega arith)))
+
+-- what is found among so many rules is found in a book of so many
+module _ (b : Book) {n : ℕ} (e : count b ≡ n) where
+  pub clash-in : (on off : List Bool) {v : Bool} → v ≡ someBelow n (λ m. of on (ruleNo m) && of off (ruleNo m))
+      → v ≡ clashing b (lent on off)
+  unfolding clashing someRule
+  clash-in on off f = rw e f
+
+  pub lowest-in : (s : Rules) {p : Pick} → p ≡ lowestFrom 0 n s → p ≡ lowest b s
+  unfolding lowest
+  lowest-in s f = rw e f

@@ -1,6 +1,8 @@
--- What is told of an answer tells all of it: two answers of find, or of page, told alike are equal, so that a promise in these terms
--- determines the answer. Each answer is found again from what is told of it.
+-- What is told of an answer tells all of it: two answers of find, of page, or of a search for a rule, told alike are equal, so that a
+-- promise in these terms determines the answer. Each answer is found again from what is told of it.
 use mathlib.Core.Path.{_≡_, refl, sym, _∙_, ap}
+use mathlib.Core.List.{[], _∷_}
+use Rattle.meaning.specs.Lowest.{Pick, none, one}
 use Rattle.meaning.specs.Choice.{ifb, ifEq}
 use Rattle.book.proofs.Told.{refusalAt, refusal-again}
 use Rattle.walk.specs.declared.kth.Found.{Found}
@@ -8,14 +10,18 @@ use Rattle.walk.specs.declared.kth.Found.the-variants.{Set, Fewer, Stopp
 use Rattle.walk.specs.declared.page_answer.Page.{Page}
 use Rattle.walk.specs.declared.page_answer.Page.the-variants.{Whole, Last, Stopped as Cut, NotLeast as Wrong}
 use Rattle.walk.specs.declared.page_answer.Page.the-variants.{Book as BadBook, NoRoom as TooSmall}
-use Rattle.walk.specs.Find.{Told, set, fewer, stopped, refusedAt, refused, told}
-use Rattle.walk.specs.Page.{Told as PageTold, whole, last, stopped as cut, wrong, refusedAt as badAt, refused as small}
+use Rattle.walk.specs.declared.colours.Picked.{Picked}
+use Rattle.walk.specs.declared.colours.Picked.the-variants.{Nothing, Rule}
+use Rattle.walk.specs.Find.{Told, set, refusedWith, refusedAt, refused, told}
+use Rattle.walk.specs.Page.{Told as PageTold, whole, last, endsBy, refusedAt as badAt, refused as small}
 use Rattle.walk.specs.Page.{told as pageTold}
+use Rattle.walk.specs.Picked.{picked}
 
 abbrev foundAt : Told → Found
 foundAt (set tries) = Set tries
-foundAt (fewer tries sets) = Fewer tries sets
-foundAt (stopped limit) = Stopped limit
+foundAt (refusedWith number []) = NoNumber
+foundAt (refusedWith number (limit ∷ [])) = Stopped limit
+foundAt (refusedWith number (tries ∷ (sets ∷ l))) = Fewer tries sets
 foundAt (refusedAt number at) = Book (refusalAt number at)
 foundAt (refused number) = ifEq number 8 NoRoom (ifEq number 10 NotLeast NoNumber)
 
@@ -35,12 +41,12 @@ found-one f g e = sym (found-again f) ∙ ap foundAt e ∙ found-again g
 abbrev pageAt : PageTold → Page
 pageAt (whole tries) = Whole tries
 pageAt (last tries rows) = Last tries rows
-pageAt (cut rows) = Cut rows
-pageAt (wrong rows) = Wrong rows
+pageAt (endsBy number rows) = ifEq number 9 (Cut rows) (Wrong rows)
 pageAt (badAt number at) = BadBook (refusalAt number at)
 pageAt (small number) = TooSmall
 
 page-again : (p : Page) → pageAt (pageTold p) ≡ p
+unfolding ifEq ifb
 page-again (Whole tries) = refl
 page-again (Last tries rows) = refl
 page-again (Cut rows) = refl
@@ -50,3 +56,14 @@ page-again TooSmall = refl
 
 pub page-one : (p q : Page) → pageTold p ≡ pageTold q → p ≡ q
 page-one p q e = sym (page-again p) ∙ ap pageAt e ∙ page-again q
+
+abbrev pickedAt : Pick → Picked
+pickedAt none = Nothing
+pickedAt (one r) = Rule r
+
+picked-again : (p : Picked) → pickedAt (picked p) ≡ p
+picked-again Nothing = refl
+picked-again (Rule r) = refl
+
+pub pick-one : (p q : Picked) → picked p ≡ picked q → p ≡ q
+pick-one p q e = sym (picked-again p) ∙ ap pickedAt e ∙ picked-again q

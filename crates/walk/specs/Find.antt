@@ -3,14 +3,14 @@
 --
 --   told             an answer's number and values, case by case
 --   findOf book k limit answer   the answer and the buffer, of the bytes of the book and of the buffer before
-use mathlib.Core.List.{List}
+use mathlib.Core.List.{List, [], _∷_}
 use Prim.Native.Nat.{ℕ, _-_}
 use lib.ListN.{length}
 use Rattle.meaning.specs.Books.{Book}
 use Rattle.meaning.specs.Written.{nothing}
 use Rattle.meaning.specs.Choice.{ifLt, ifEq}
 use Rattle.book.specs.Numbers.{numberOf, placeOf}
-use Rattle.book.specs.Format.{Reading, good, bad, readOf}
+use Rattle.book.specs.Format.{BookRead, good, bad, readOf}
 use Rattle.walk.specs.Events.{events}
 use Rattle.walk.specs.Run.{State, run}
 use Rattle.walk.specs.declared.tally.Halt.{Halt}
@@ -18,13 +18,20 @@ use Rattle.walk.specs.declared.tally.Halt.the-variants.{Going, Full, Lim
 use Rattle.walk.specs.declared.kth.Found.{Found}
 use Rattle.walk.specs.declared.kth.Found.the-variants.{Set, Fewer, Stopped, Book as BadBook, NoRoom, NoNumber, NotLeast as Wrong}
 
--- success tells the tries; 11 tells all tries and sets; 9 tells L; the others tell number and place, or the number only
+-- success tells the tries; a refusal tells its number, and its values or its place where it has them
 pub data Told : Type 0 where
   set : ℕ → Told
-  fewer : ℕ → ℕ → Told
-  stopped : ℕ → Told
+  refusedWith : ℕ → List ℕ → Told
   refusedAt : ℕ → ℕ → Told
   refused : ℕ → Told
+
+-- "Refusal 11 tells all tries and how many answer sets there are."
+abbrev pub fewer : ℕ → ℕ → Told
+fewer tries sets = refusedWith 11 (tries ∷ (sets ∷ []))
+
+-- "Refusal 9 tells L."
+abbrev pub stopped : ℕ → Told
+stopped limit = refusedWith 9 (limit ∷ [])
 
 abbrev pub told : Found → Told
 told (Set tries) = set tries
@@ -58,9 +65,9 @@ findIn b k limit answer =
     (ifLt (length answer) (b .atoms) (record { told = refused 8; buffer = answer })
     (answeredBy (run b (record { pass = k - 1; room = 1; limit = limit }) (startOf answer) (events b nothing)) limit))
 
-unfoldable pub findReading : Reading → ℕ → ℕ → List ℕ → Answered
-findReading (good n r index l) k limit answer = findIn (record { atoms = n; rules = l }) k limit answer
-findReading (bad i at) k limit answer = record { told = refusedAt i at; buffer = answer }
+unfoldable pub findRead : BookRead → ℕ → ℕ → List ℕ → Answered
+findRead (good n r index l) k limit answer = findIn (record { atoms = n; rules = l }) k limit answer
+findRead (bad i at) k limit answer = record { told = refusedAt i at; buffer = answer }
 
 unfoldable pub findOf : List ℕ → ℕ → ℕ → List ℕ → Answered
-findOf book k limit answer = findReading (readOf book) k limit answer
+findOf book k limit answer = findRead (readOf book) k limit answer

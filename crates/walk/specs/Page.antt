@@ -1,4 +1,5 @@
--- A page of readings: the next rows of a listing that has come as far as a given reading. Listing all readings page by page makes each
+-- A page of readings: the next rows of a listing that has come as far as a given reading. Document 01, "Worked books": "The program
+-- `readings` reads a book on standard input and prints all answer sets with L = 1,000,000." Listing all readings page by page makes each
 -- counted try once; going down again to where a page ended costs one closing a level and no try.
 --
 --   told                  an answer's values, case by case
@@ -14,7 +15,7 @@ use Rattle.meaning.specs.Books.{Atoms, Book}
 use Rattle.meaning.specs.Written.{nothing}
 use Rattle.meaning.specs.Choice.{ifLt, ifEq}
 use Rattle.book.specs.Numbers.{numberOf, placeOf}
-use Rattle.book.specs.Format.{Reading, good, bad, readOf}
+use Rattle.book.specs.Format.{BookRead, good, bad, readOf}
 use Rattle.walk.specs.Events.{Event, events, rest}
 use Rattle.walk.specs.Run.{State, run}
 use Rattle.walk.specs.declared.tally.Halt.{Halt}
@@ -22,15 +23,22 @@ use Rattle.walk.specs.declared.tally.Halt.the-variants.{Going, Full, Lim
 use Rattle.walk.specs.declared.page_answer.Page.{Page}
 use Rattle.walk.specs.declared.page_answer.Page.the-variants.{Whole, Last, Stopped, NotLeast as Wrong, Book as BadBook, NoRoom}
 
--- a full page: all tries so far; the last page: all tries, its rows; the limit was met, or a reading is no least model (10), behind so many
--- rows; a refusal
+-- a full page: all tries so far; the last page: all tries, its rows; a page that ends early: the number that finding tells of it, its rows;
+-- a refusal
 pub data Told : Type 0 where
   whole : ℕ → Told
   last : ℕ → ℕ → Told
-  stopped : ℕ → Told
-  wrong : ℕ → Told
+  endsBy : ℕ → ℕ → Told
   refusedAt : ℕ → ℕ → Told
   refused : ℕ → Told
+
+-- 9: the limit was met
+abbrev pub stopped : ℕ → Told
+stopped rows = endsBy 9 rows
+
+-- 10: a reading is no least model
+abbrev pub wrong : ℕ → Told
+wrong rows = endsBy 10 rows
 
 abbrev pub told : Page → Told
 told (Whole tries) = whole tries
@@ -70,9 +78,9 @@ pageIn b limit tries row out =
     (pagedBy (run b (record { pass = 0; room = roomIn b (length out); limit = limit })
     (record { tally = record { tries = tries; sets = 0; halt = Going }; out = out }) (eventsFrom b tries (setIn row))))
 
-unfoldable pub pageReading : Reading → ℕ → ℕ → List ℕ → List ℕ → Paged
-pageReading (good n r index l) limit tries row out = pageIn (record { atoms = n; rules = l }) limit tries row out
-pageReading (bad i at) limit tries row out = record { told = refusedAt i at; buffer = out }
+unfoldable pub pageRead : BookRead → ℕ → ℕ → List ℕ → List ℕ → Paged
+pageRead (good n r index l) limit tries row out = pageIn (record { atoms = n; rules = l }) limit tries row out
+pageRead (bad i at) limit tries row out = record { told = refusedAt i at; buffer = out }
 
 unfoldable pub pageOf : List ℕ → ℕ → ℕ → List ℕ → List ℕ → Paged
-pageOf book limit tries row out = pageReading (readOf book) limit tries row out
+pageOf book limit tries row out = pageRead (readOf book) limit tries row out

@@ -1,4 +1,4 @@
--- The code's answer to a search for a rule, in the words of the meaning.
+-- What the functions that look for a rule hand their callers, in the words of the meaning.
 use Rattle.meaning.specs.Lowest.{Pick, none, one}
 use Rattle.walk.specs.declared.colours.Picked.{Picked}
 use Rattle.walk.specs.declared.colours.Picked.the-variants.{Nothing, Rule}

@@ -6,9 +6,11 @@ pub enum Page {
     Whole(u32),
     // The walk has come to its end: all tries, and the rows of this last page.
     Last(u32, u32),
-    // 9: one more try would pass the limit; so many rows stand in the buffer.
+    // Where finding would tell 9: one more try would pass the limit; so many rows stand in
+    // the buffer.
     Stopped(u32),
-    // 10: a reading isn't the least model of its reduct; so many rows stand in the buffer.
+    // Where finding would tell 10: a reading isn't the least model of its reduct; so many rows
+    // stand in the buffer.
     NotLeast(u32),
     // 1 to 7: the book is refused.
     Book(Refusal),

@@ -11,13 +11,13 @@ use Rattle.meaning.specs.Books.{Book, count}
 use Rattle.meaning.specs.Colours.{Pair, onSide, offSide, plus, put}
 use Rattle.meaning.specs.Claim.{Claim}
 use Rattle.meaning.specs.Paper.{numbers, codeOn, codeOff, codeUnfounded}
-use Rattle.meaning.specs.Written.{of}
+use Rattle.meaning.specs.Written.{of, lent}
 use Rattle.meaning.specs.Lowest.{rulesIn}
 use Rattle.meaning.specs.Engine.{Next, puts-on, puts-off, drops, next}
 use Rattle.meaning.proofs.Written.{pair-on, pair-off}
 use Rattle.meaning.proofs.Engine.{next-puts-on, next-puts-off}
 use Rattle.writer.specs.Branches.{behind, branch}
-use Rattle.writer.specs.Steps.{lent, Does, does-on, does-off, does-drop, does-end, does-split, does-nothing}
+use Rattle.writer.specs.Steps.{Does, does-on, does-off, does-drop, does-end, does-split, does-nothing}
 use Rattle.writer.specs.Draft.{Writes, tipOf, tipBytes, Wrote}
 use Rattle.writer.specs.declared.step.Step.the-variants.{On, Off, Unfounded, Stops}
 use Rattle.writer.specs.declared.step.Tip.{Tip}

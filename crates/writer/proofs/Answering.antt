@@ -17,7 +17,7 @@ use Rattle.book.specs.declared.reader.Shape.{Shape}
 use Rattle.book.specs.declared.reader.Read.{Read}
 use Rattle.book.specs.declared.reader.Read.the-variants.{Good, Refused}
 use Rattle.book.specs.Numbers.{shape, numberOf, placeOf, refused as badly, told as bookTold}
-use Rattle.book.specs.Format.{Reading, good, bad, readOf, toldOf, bookOf, bookIn, ReadAs}
+use Rattle.book.specs.Format.{BookRead, good, bad, readOf, toldOf, bookOf, bookIn, ReadAs}
 use Rattle.book.proofs.Places.{shape-atoms}
 use Rattle.walk.specs.Run.{State}
 use Rattle.walk.specs.Page.{setIn}
@@ -27,7 +27,7 @@ use Rattle.writer.specs.Branches.{branches}
 use Rattle.writer.specs.Scan.{Progress, writing, scan}
 use Rattle.writer.specs.Needs.{wholePaper}
 use Rattle.writer.specs.Name.{fewer, stopped, refused, Answered, firstWalk, paperWalk, handOver, afterPaperWalk}
-use Rattle.writer.specs.Name.{refusedAt, afterFirstWalk, nameIn, nameReading, nameOf}
+use Rattle.writer.specs.Name.{refusedAt, afterFirstWalk, nameIn, nameRead, nameOf}
 use Rattle.writer.specs.Draft.{whole, courseOf, Stage}
 use Rattle.writer.specs.declared.split.Course.the-variants.{Writing, Limited, Refuted}
 use Rattle.writer.specs.declared.split.Drafted.{Drafted}
@@ -92,15 +92,15 @@ apart e = absurd (omega arith)
 
 -- what is told of a reading decides how the naming goes on
 module _ (a : AtomNo) (limit : ℕ) (buffer : List ℕ) where
-  read-good : (x : Reading) {n k index : ℕ} → toldOf x ≡ shape n k index
-      → nameReading x a limit buffer ≡ nameIn (bookOf x) (named a) limit buffer
-  unfolding toldOf nameReading bookOf
+  read-good : (x : BookRead) {n k index : ℕ} → toldOf x ≡ shape n k index
+      → nameRead x a limit buffer ≡ nameIn (bookOf x) (named a) limit buffer
+  unfolding toldOf nameRead bookOf
   read-good (good n k index l) e = refl
   read-good (bad i at) e = apart (cc)
 
-  read-bad : (x : Reading) {i at : ℕ} → toldOf x ≡ badly i at
-      → only buffer (refusedAt i at) ≡ nameReading x a limit buffer
-  unfolding toldOf nameReading
+  read-bad : (x : BookRead) {i at : ℕ} → toldOf x ≡ badly i at
+      → only buffer (refusedAt i at) ≡ nameRead x a limit buffer
+  unfolding toldOf nameRead
   read-bad (good n k index l) e = apart (cc)
   read-bad (bad j to) e = cc
 

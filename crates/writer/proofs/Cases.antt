@@ -16,7 +16,7 @@ use Rattle.meaning.specs.Computed.{isAnswerSet}
 use Rattle.meaning.specs.Lowest.{onPick, oneOr, lowestFrom, lowest, listedIf, rulesFrom, rulesIn}
 use Rattle.meaning.specs.Engine.{firstOf, unsupported, next, listable, listing, witnessOf}
 use Rattle.meaning.specs.Choice.{ifb, ifLt, ifEq}
-use Rattle.book.specs.Format.{u16At, partOf, andThen, bytesOf, recordOf, lengthOf, ruleOf, recordsOf, rulesOf, readingOf, bodyOf, readOf}
+use Rattle.book.specs.Format.{u16At, partOf, andThen, bytesOf, recordOf, lengthOf, ruleOf, recordsOf, rulesOf, ifFine, bodyOf, readOf}
 use Rattle.walk.specs.Events.{after, eventsIn, events}
 use Rattle.walk.specs.Run.{rowFrom, rowOf, writeAt, readingMet, tried, met as eventMet, run}
 use Rattle.walk.specs.Page.{setIn}
@@ -24,7 +24,7 @@ use Rattle.writer.specs.Branches.{behind, branchBy, branchIn, branch, be
 use Rattle.writer.specs.Scan.{courseAt, met, scan}
 use Rattle.writer.specs.Needs.{wholePaper}
 use Rattle.writer.specs.Name.{paper, fewer, stopped, refused, firstWalk, paperWalk, handOver, afterPaperWalk}
-use Rattle.writer.specs.Name.{afterFirstWalk, nameIn, nameReading, nameOf}
+use Rattle.writer.specs.Name.{afterFirstWalk, nameIn, nameRead, nameOf}
 
 -- "Fact 0: 00 00 00 | 00 00 | 01 01 03 00 52 42"
 abbrev fact : List ℕ
@@ -69,7 +69,7 @@ unfolding every some everyBelow someBelow sameAtom sameRule count rule everyRule
     mayOn blocked starved clashing uncoloured claimed mark shown ended trailer of addFrom added iterate upheld supportMore support
     goesOff closeMore marked close barred leastModel agree isAnswerSet onPick oneOr lowestFrom lowest listedIf rulesFrom rulesIn
     firstOf unsupported next listable listing witnessOf ifb ifLt ifEq u16At partOf andThen bytesOf recordOf lengthOf ruleOf
-    recordsOf rulesOf readingOf bodyOf readOf after eventsIn events rowFrom rowOf writeAt readingMet tried eventMet run setIn
+    recordsOf rulesOf ifFine bodyOf readOf after eventsIn events rowFrom rowOf writeAt readingMet tried eventMet run setIn
     behind branchBy branchIn branch below branchesIn branches courseAt met scan firstWalk paperWalk wholePaper handOver
-    afterPaperWalk afterFirstWalk nameIn nameReading nameOf
+    afterPaperWalk afterFirstWalk nameIn nameRead nameOf
 worked = (refl, refl, refl, refl, refl, refl, refl)

@@ -12,7 +12,7 @@ use Rattle.meaning.specs.declared.RuleNo.{RuleNo}
 use Rattle.meaning.specs.Books.{Rules, Book, InBook}
 use Rattle.meaning.specs.Colours.{Pair, heads, allIn, mayOn, blocked, uncoloured, clashing}
 use Rattle.meaning.specs.Claim.{Claim, named, shown, ended}
-use Rattle.meaning.specs.Written.{of}
+use Rattle.meaning.specs.Written.{of, lent}
 use Rattle.meaning.specs.Lowest.{Pick, none, one, lowest, rulesIn}
 use Rattle.meaning.specs.Engine.{Next, ends, puts-on, puts-off, drops, splits, stuck, less, firstOf, unsupported, next}
 use Rattle.meaning.proofs.Tests.{first, other, neither}
@@ -27,7 +27,7 @@ use Rattle.book.proofs.Asked.{goes-on-mayOn, is-blocked-blocked}
 use Rattle.walk.specs.Picked.{picked}
 use Rattle.walk.specs.declared.colours.Picked.{Picked}
 use Rattle.walk.specs.declared.colours.Picked.the-variants.{Nothing, Rule}
-use Rattle.writer.specs.Steps.{lent, newOn, newOff, Does}
+use Rattle.writer.specs.Steps.{newOn, newOff, Does}
 use Rattle.writer.specs.declared.step.Step.{Step}
 
 -- ---- an answer

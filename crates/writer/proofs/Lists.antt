@@ -13,7 +13,7 @@ use Rattle.meaning.specs.Sets.{some}
 use Rattle.meaning.specs.Books.{Rules, ruleNo, among, Book, count, sameRule}
 use Rattle.meaning.specs.Colours.{plus}
 use Rattle.meaning.specs.Paper.{numbers}
-use Rattle.meaning.specs.Written.{of}
+use Rattle.meaning.specs.Written.{of, lent}
 use Rattle.meaning.specs.Computed.{support}
 use Rattle.meaning.specs.Engine.{unsupported}
 use Rattle.meaning.specs.Lowest.{listedIf, rulesFrom, rulesIn}
@@ -23,7 +23,7 @@ use Rattle.meaning.proofs.RulesIn.{rules-in, in-rules}
 use Rattle.meaning.proofs.Written.{of-set, of-none}
 use Rattle.writer.specs.Draft.{Writes}
 use Rattle.book.proofs.AtomSets.{of-place}
-use Rattle.writer.specs.Steps.{lent, outside, Listed}
+use Rattle.writer.specs.Steps.{outside, Listed}
 use Rattle.writer.proofs.Drafts.{writes-nil, writes-then}
 
 -- ---- one rule more at the end

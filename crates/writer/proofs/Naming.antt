@@ -5,7 +5,7 @@
 use mathlib.Core.Path.{_≡_, refl, ap, subst}
 use mathlib.Core.Logic.{_⊎_, inl, inr, ⊎-elim, _↔_}
 use mathlib.Core.Bool.{true}
-use mathlib.Core.List.{List, _++_}
+use mathlib.Core.List.{List, [], _∷_, _++_}
 use Prim.Native.Nat.{ℕ, _≤_, _<_}
 use native.Mathlib.Omega.{arith}
 use lib.ListN.{length, drop}
@@ -24,7 +24,7 @@ use Rattle.walk.proofs.Needs.{needs-one as tries-one}
 use Rattle.writer.specs.Branches.{branches}
 use Rattle.writer.specs.Needs.{settled, Stuck, Needs, to-stuck, paperFor}
 use Rattle.writer.specs.Needs.{to-end as to-last}
-use Rattle.writer.specs.Name.{Told, paper, fewer, stopped, refusedAt, refused, Answered, nameIn}
+use Rattle.writer.specs.Name.{Told, paper, refusedWith, fewer, stopped, refusedAt, refused, Answered, nameIn}
 use Rattle.writer.proofs.Needs.{stuck-unsettled, needs-one}
 use Rattle.writer.proofs.Papers.{settled-each, unsettled-one, certain-settled, paper-keeps}
 use Rattle.writer.proofs.First.{kth-answer, fewer-none}
@@ -37,9 +37,10 @@ module _ (b : Book) (k : Claim) (limit : ℕ) (buffer : List ℕ) where
   Says : Told → List ℕ → Type 0
   Says (paper t n) after = (x : Atoms) × Found b limit x × Settled b k limit × (t ≡ length (branches b k start))
       × (n ≡ length (paperFor b k x)) × (n ≤ length buffer) × (n ≤ 60000) × (after ≡ paperFor b k x ++ drop n buffer)
-  Says (fewer t n) after = length (readings b) < 1
-  Says (stopped l) after =
+  Says (refusedWith i []) after = ⊥
+  Says (refusedWith i (l ∷ [])) after =
       ((n : ℕ) × NeedsTries b 1 n × (limit < n)) ⊎ ((n : ℕ) × Needs b k n × (limit < n) × (x : Atoms) × Found b limit x)
+  Says (refusedWith i (t ∷ (n ∷ l))) after = length (readings b) < 1
   Says (refusedAt i at) after = ⊥
   Says (refused i) after = ((n : ℕ) × Stuck b k n × (i ≡ 12)) ⊎ ((x : Atoms) × Found b limit x × TooLong b k buffer x × (i ≡ 14))
 

@@ -10,13 +10,13 @@ use Rattle.meaning.specs.declared.AtomNo.{AtomNo}
 use Rattle.meaning.specs.Books.{Rule, Book}
 use Rattle.meaning.specs.Claim.{Claim, named, claimed}
 use Rattle.meaning.proofs.Choice.{lt-yes, lt-no, lt-either}
-use Rattle.book.specs.Format.{Reading, good, bad, readOf}
+use Rattle.book.specs.Format.{BookRead, good, bad, readOf}
 use Rattle.walk.specs.Run.{State, writeAt}
 use Rattle.walk.specs.declared.tally.Halt.{Halt}
 use Rattle.walk.specs.declared.tally.Halt.the-variants.{Going, Full, Limit, NotLeast}
 use Rattle.writer.specs.Scan.{Course, writing, limited, refuted, Progress}
 use Rattle.writer.specs.Name.{Told, paper, refusedAt, refused, Answered, handOver, afterPaperWalk, afterFirstWalk}
-use Rattle.writer.specs.Name.{nameIn, nameReading, nameOf}
+use Rattle.writer.specs.Name.{nameIn, nameRead, nameOf}
 
 -- an answer that leaves the buffer
 abbrev pub only : List ℕ → Told → Answered
@@ -72,12 +72,12 @@ module _ (b : Book) (k : Claim) (limit : ℕ) (buffer : List ℕ) where
 
 module _ (book : List ℕ) (a : AtomNo) (limit : ℕ) (buffer : List ℕ) where
   pub name-bad-book : (i at : ℕ) → readOf book ≡ bad i at → nameOf book a limit buffer ≡ only buffer (refusedAt i at)
-  unfolding nameOf nameReading
+  unfolding nameOf nameRead
   name-bad-book i at e = rw e
 
   module _ (n r index : ℕ) (l : List Rule) (e : readOf book ≡ good n r index l) where
     pub name-good-book : nameOf book a limit buffer ≡ nameIn (record { atoms = n; rules = l }) (named a) limit buffer
-    unfolding nameOf nameReading
+    unfolding nameOf nameRead
     name-good-book = rw e
 
     pub name-no-atom : n ≤ a .0 → nameOf book a limit buffer ≡ only buffer (refused 13)
@@ -86,9 +86,9 @@ module _ (book : List ℕ) (a : AtomNo) (limit : ℕ) (buffer : List ℕ) where
 
   pub name-keeps-buffer : ((tries : ℕ) × (n : ℕ) × (nameOf book a limit buffer .told ≡ paper tries n))
       ⊎ (nameOf book a limit buffer .buffer ≡ buffer)
-  unfolding nameOf nameReading
+  unfolding nameOf nameRead
   name-keeps-buffer = go (readOf book)
     where
-      go : (r : Reading) → Keeping buffer (nameReading r a limit buffer)
+      go : (r : BookRead) → Keeping buffer (nameRead r a limit buffer)
       go (good n r index l) = name-in-keeping _ _ limit buffer
       go (bad i at) = inr refl

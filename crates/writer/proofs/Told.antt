@@ -7,7 +7,7 @@ use lib.ListN.{getD, replicate}
 use Rattle.book.specs.declared.refusal.Refusal.the-variants.{Length, Mark, Trailer, Entry, Record, Atom, Order}
 use Rattle.writer.specs.declared.answer.Named.{Named}
 use Rattle.writer.specs.declared.answer.Named.the-variants.{Paper, Fewer, Stopped, Book, NotLeast, NotCertain, NoAtom, TooLong}
-use Rattle.writer.specs.Name.{Told, paper, fewer, stopped, refusedAt, refused, told}
+use Rattle.writer.specs.Name.{Told, paper, refusedWith, refusedAt, refused, told}
 
 -- 1 to 7
 abbrev bookRefusals : ℕ → List Named
@@ -20,8 +20,9 @@ refusals = replicate 10 NoAtom ++ (NotLeast ∷ NoAtom ∷ NotCertain ∷ NoAtom
 
 abbrev namedAt : Told → Named
 namedAt (paper tries length) = Paper tries length
-namedAt (fewer tries sets) = Fewer tries
-namedAt (stopped limit) = Stopped limit
+namedAt (refusedWith number []) = NoAtom
+namedAt (refusedWith number (limit ∷ [])) = Stopped limit
+namedAt (refusedWith number (tries ∷ (sets ∷ l))) = Fewer tries
 namedAt (refusedAt number at) = getD (bookRefusals at) number NoAtom
 namedAt (refused number) = getD refusals number NoAtom
 

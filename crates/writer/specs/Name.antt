@@ -3,7 +3,7 @@
 --
 --   told             an answer's number and values, case by case
 --   nameOf book a limit paper    the answer and the buffer, of the bytes of the book and of the buffer before
-use mathlib.Core.List.{List, []}
+use mathlib.Core.List.{List, [], _∷_}
 use Prim.Native.Nat.{ℕ}
 use lib.ListN.{length, replicate}
 use Rattle.meaning.specs.declared.AtomNo.{AtomNo}
@@ -13,7 +13,7 @@ use Rattle.meaning.specs.Claim.{Claim, named, claimed}
 use Rattle.meaning.specs.Written.{nothing}
 use Rattle.meaning.specs.Choice.{ifLt}
 use Rattle.book.specs.Numbers.{numberOf, placeOf}
-use Rattle.book.specs.Format.{Reading, good, bad, readOf}
+use Rattle.book.specs.Format.{BookRead, good, bad, readOf}
 use Rattle.walk.specs.Events.{events}
 use Rattle.walk.specs.Run.{State, run, writeAt}
 use Rattle.walk.specs.Find.{startOf}
@@ -27,13 +27,21 @@ use Rattle.writer.specs.declared.answer.Named.{Named}
 use Rattle.writer.specs.declared.answer.Named.the-variants.{Paper, Fewer, Stopped, NotCertain, NoAtom, TooLong}
 use Rattle.writer.specs.declared.answer.Named.the-variants.{Book as BadBook, NotLeast as Wrong}
 
--- success tells the tries of the paper's walk and the paper's length; 11 tells all tries of the first walk, and no sets; 9 tells L
+-- success tells the tries of the paper's walk and the paper's length; a refusal tells its number, and its values or its place where it has
+-- them
 pub data Told : Type 0 where
   paper : ℕ → ℕ → Told
-  fewer : ℕ → ℕ → Told
-  stopped : ℕ → Told
+  refusedWith : ℕ → List ℕ → Told
   refusedAt : ℕ → ℕ → Told
   refused : ℕ → Told
+
+-- 11: all tries of the first walk, and no sets
+abbrev pub fewer : ℕ → ℕ → Told
+fewer tries sets = refusedWith 11 (tries ∷ (sets ∷ []))
+
+-- 9: L
+abbrev pub stopped : ℕ → Told
+stopped limit = refusedWith 9 (limit ∷ [])
 
 abbrev pub told : Named → Told
 told (Paper tries size) = paper tries size
@@ -81,9 +89,9 @@ nameIn b k limit buffer =
     ifLt (claimed k .0) (b .atoms) (let s = firstWalk b limit in afterFirstWalk (s .tally .halt) b k limit s buffer)
     (record { told = refused 13; buffer = buffer })
 
-unfoldable pub nameReading : Reading → AtomNo → ℕ → List ℕ → Answered
-nameReading (good n r index l) a limit buffer = nameIn (record { atoms = n; rules = l }) (named a) limit buffer
-nameReading (bad i at) a limit buffer = record { told = refusedAt i at; buffer = buffer }
+unfoldable pub nameRead : BookRead → AtomNo → ℕ → List ℕ → Answered
+nameRead (good n r index l) a limit buffer = nameIn (record { atoms = n; rules = l }) (named a) limit buffer
+nameRead (bad i at) a limit buffer = record { told = refusedAt i at; buffer = buffer }
 
 unfoldable pub nameOf : List ℕ → AtomNo → ℕ → List ℕ → Answered
-nameOf book a limit buffer = nameReading (readOf book) a limit buffer
+nameOf book a limit buffer = nameRead (readOf book) a limit buffer

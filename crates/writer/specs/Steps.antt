@@ -2,7 +2,6 @@
 -- "The paper": "in each branch write 45 as soon as allowed. Else write the first of: 41 ...; 42 ...; 55 with all rules outside V that
 -- aren't off."
 --
---   lent on off          the pair that two written-out sets stand for
 --   newOn, newOff        the rules that 41 and 42 are for, asked by tables of atoms: "may go on and isn't on", "may go off so and isn't
 --                        off"
 --   outside marks off    the rules that are neither marked nor off
@@ -17,7 +16,7 @@ use lib.ListN.{length}
 use Rattle.meaning.specs.declared.RuleNo.{RuleNo}
 use Rattle.meaning.specs.Sets.{every, some}
 use Rattle.meaning.specs.Books.{Rules, Book, rule}
-use Rattle.meaning.specs.Colours.{Pair, heads}
+use Rattle.meaning.specs.Colours.{heads}
 use Rattle.meaning.specs.Written.{of}
 use Rattle.meaning.specs.Lowest.{rulesIn}
 use Rattle.meaning.specs.Engine.{Next, ends, puts-on, puts-off, drops, splits, stuck, less}
@@ -25,9 +24,6 @@ use Rattle.book.specs.Tables.{atomsIn}
 use Rattle.writer.specs.declared.step.Step.{Step}
 use Rattle.writer.specs.declared.step.Step.the-variants.{On, Off, Unfounded, Stops}
 use Rattle.writer.specs.declared.step.Tip.the-variants.{Ended, Parted, Unsettled}
-
-abbrev pub lent : List Bool → List Bool → Pair
-lent on off = record { on = of on; off = of off }
 
 unfoldable pub newOn : Book → List Bool → List Bool → List Bool → Rules
 newOn b headed lost on =

@@ -1,9 +1,10 @@
 // The next step of the engine's own paper, on the colouring as it stands. Nothing is changed.
 ghost use Prim.Native.Nat.{_<_};
 ghost use Rattle.meaning.specs.Claim.{named};
+ghost use Rattle.meaning.specs.Written.{lent};
 ghost use Rattle.meaning.specs.Engine.{next};
 ghost use Rattle.book.specs.Format.{bookIn, ReadAs};
-ghost use Rattle.writer.specs.Steps.{lent, Does};
+ghost use Rattle.writer.specs.Steps.{Does};
 use crate::list::list_unsupported;
 use crate::search::lowest_off;
 use crate::search::lowest_on;

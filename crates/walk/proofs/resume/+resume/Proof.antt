@@ -21,6 +21,7 @@ use Rattle.book.proofs.Places.{shape-count, in-shape}
 use Rattle.closing.specs.Left.{left, chosen}
 use Rattle.walk.specs.Picked.{picked}
 use Rattle.walk.proofs.Events.{fork-falls}
+use Rattle.walk.proofs.Searches.{clash-in, lowest-in}
 use Rattle.walk.proofs.Walking.{resume-clash, resume-reading, resume-off, resume-on, room-run}
 use Rattle.walk.proofs.resume.resume.Reads as resume
 use Rattle.walk.proofs.resume.resume.Kinds as resume-kinds
@@ -87,7 +88,7 @@ module _ (t : ℕ) (c : resume-lts.After-close (calls t) (resume-at t) resume.Po
 -- after it gave no contradiction
 calm : (t : ℕ) (c : resume-lts.Else1 (calls t) (resume-at t) resume.Post)
     → let k = c .before .before .before .before .before in clashing (b t k) (pair (k .close .result)) ≡ false
-calm t c = sym (c .before .clashes .ensures _ (rules t (c .before .before .before .before .before))) ∙ c .if1 .left
+calm t c = sym (clash-in _ (rules t (c .before .before .before .before .before)) _ _ (c .before .clashes .ensures)) ∙ c .if1 .left
 
 -- where the way forks
 module _ (t : ℕ) (c : resume-lts.After-known-told (calls t) (resume-at t) resume.Post) where
@@ -98,7 +99,8 @@ module _ (t : ℕ) (c : resume-lts.After-known-told (calls t) (resume-at t) resu
   r = c .before .r .given .0 .0
 
   chosen-rule : lowest (b t closed) (uncoloured (pair (closed .close .result))) ≡ one r
-  chosen-rule = sym (c .before .before .before .lowest-uncoloured .ensures _ (rules t closed)) ∙ ap picked (c .before .r .given .1)
+  chosen-rule =
+      sym (lowest-in _ (rules t closed) _ (c .before .before .before .lowest-uncoloured .ensures)) ∙ ap picked (c .before .r .given .1)
 
   clear : clashing (b t closed) (pair (closed .close .result)) ≡ false
   clear = calm t (c .before .before .before .before .before .before .before)
@@ -114,13 +116,14 @@ module _ (t : ℕ) (c : resume-lts.After-known-told (calls t) (resume-at t) resu
 resume-returns : (t : ℕ) → resume-lts.Need-returns (calls t) (resume-at t) resume.Post
 resume-returns t c =
     let k = c .before .before .before .before .before in
-    resume-clash _ _ _ _ _ (few t k) (sized t k) _ (k .close .ensures) (sym (c .before .clashes .ensures _ (rules t k)) ∙ c .if1 .taken)
+    resume-clash _ _ _ _ _ (few t k) (sized t k) _ (k .close .ensures)
+    (sym (clash-in _ (rules t k) _ _ (c .before .clashes .ensures)) ∙ c .if1 .taken)
 
 resume-returns-2 : (t : ℕ) → resume-lts.Need-returns-2 (calls t) (resume-at t) resume.Post
 resume-returns-2 t c =
     let h = c .before .before .before .before .before .before in
     let k = h .before .before .before .before .before in
-    let none = sym (c .before .before .lowest-uncoloured .ensures _ (rules t k)) ∙ ap picked (c .enum-told .given .1) in
+    let none = sym (lowest-in _ (rules t k) _ (c .before .before .lowest-uncoloured .ensures)) ∙ ap picked (c .enum-told .given .1) in
     resume-reading _ _ _ _ _ (few t k) (sized t k) _ (k .close .ensures) (calm t h) none
 
 resume-generates-requires : (t : ℕ) → resume-lts.Need-generates-requires (calls t) (resume-at t) resume.Post

@@ -21,6 +21,7 @@ use Rattle.closing.specs.Left.{left, chosen}
 use Rattle.walk.specs.Picked.{picked}
 use Rattle.walk.specs.declared.tally.Halt.the-variants.{Going}
 use Rattle.walk.proofs.Events.{fork-falls}
+use Rattle.walk.proofs.Searches.{clash-in, lowest-in}
 use Rattle.walk.proofs.Walking.{walk-ended, walk-stops, walk-clash, walk-reading, walk-fork, room-tried, room-run, halted-told}
 use Rattle.walk.proofs.walk.walk.Reads as walk
 use Rattle.walk.proofs.walk.walk.Kinds as walk-kinds
@@ -90,7 +91,7 @@ module _ (t : ℕ) (c : walk-lts.After-close (calls t) (walk-at t) walk.Post) wh
 -- after it gave no contradiction
 calm : (t : ℕ) (c : walk-lts.Else2 (calls t) (walk-at t) walk.Post)
     → let k = c .before .before .before .before .before in clashing (b t k) (pair (k .close .result)) ≡ false
-calm t c = sym (c .before .clashes .ensures _ (rules t (c .before .before .before .before .before))) ∙ c .if2 .left
+calm t c = sym (clash-in _ (rules t (c .before .before .before .before .before)) _ _ (c .before .clashes .ensures)) ∙ c .if2 .left
 
 -- where the walk forks
 module _ (t : ℕ) (c : walk-lts.After-known-told (calls t) (walk-at t) walk.Post) where
@@ -101,7 +102,8 @@ module _ (t : ℕ) (c : walk-lts.After-known-told (calls t) (walk-at t) walk.Pos
   r = c .before .r .given .0 .0
 
   chosen-rule : lowest (b t closed) (uncoloured (pair (closed .close .result))) ≡ one r
-  chosen-rule = sym (c .before .before .before .lowest-uncoloured .ensures _ (rules t closed)) ∙ ap picked (c .before .r .given .1)
+  chosen-rule =
+      sym (lowest-in _ (rules t closed) _ (c .before .before .before .lowest-uncoloured .ensures)) ∙ ap picked (c .before .r .given .1)
 
   clear : clashing (b t closed) (pair (closed .close .result)) ≡ false
   clear = calm t (c .before .before .before .before .before .before .before)
@@ -125,7 +127,7 @@ walk-returns-3 t c =
     let h = c .before .before in
     let k = h .before .before .before .before in
     walk-clash _ _ _ _ (going t k) (k .before .if1 .left) (few t k) (sized t k) _ (k .close .ensures)
-    (sym (h .clashes .ensures _ (rules t k)) ∙ c .before .if2 .taken) (c .tried .ensures)
+    (sym (clash-in _ (rules t k) _ _ (h .clashes .ensures)) ∙ c .before .if2 .taken) (c .tried .ensures)
 
 walk-returns-4 : (t : ℕ) → walk-lts.Need-returns-4 (calls t) (walk-at t) walk.Post
 walk-returns-4 t c =
@@ -133,7 +135,8 @@ walk-returns-4 t c =
     let p = m .before .before .before .before .before .before in
     let h = p .before .before .before .before in
     let k = h .before .before .before .before .before in
-    let none = sym (p .lowest-uncoloured .ensures _ (rules t k)) ∙ ap picked (m .before .before .before .before .enum-told2 .given .1) in
+    let picks = lowest-in _ (rules t k) _ (p .lowest-uncoloured .ensures) in
+    let none = sym picks ∙ ap picked (m .before .before .before .before .enum-told2 .given .1) in
     walk-reading _ _ _ _ (going t k) (k .before .if1 .left) (few t k) (sized t k) _ (k .close .ensures) (calm t h) none (m .meet .ensures)
 
 walk-with-on-requires : (t : ℕ) → walk-lts.Need-with-on-requires (calls t) (walk-at t) walk.Post

@@ -6,9 +6,9 @@ use native.Mathlib.Omega.{arith}
 use borrow.Author.Needs.{needs}
 use Rattle.meaning.specs.Books.{count}
 use Rattle.meaning.specs.Claim.{named}
+use Rattle.meaning.specs.Written.{lent}
 use Rattle.book.specs.Format.{bookIn}
 use Rattle.book.proofs.Places.{shape-count}
-use Rattle.writer.specs.Steps.{lent}
 use Rattle.writer.proofs.Branches.{missing}
 use Rattle.writer.proofs.Ahead.{Ahead, ahead-start, on-below, ahead-on, on-fewer, off-below, ahead-off, off-fewer}
 use Rattle.writer.proofs.Ahead.{ahead-drop, drop-fewer, ahead-stops}

@@ -7,12 +7,14 @@ use borrow.Author.Needs.{needs}
 use Rattle.meaning.specs.Books.{Book}
 use Rattle.meaning.specs.Colours.{Pair, mayOn, blocked, uncoloured}
 use Rattle.meaning.specs.Claim.{Claim, named, ended}
+use Rattle.meaning.specs.Written.{lent}
 use Rattle.meaning.specs.Lowest.{Pick, lowest, none}
 use Rattle.meaning.specs.Engine.{less}
 use Rattle.book.specs.Format.{bookIn}
 use Rattle.book.proofs.Places.{shape-count}
 use Rattle.walk.specs.Picked.{picked}
-use Rattle.writer.specs.Steps.{lent, does-on, does-off, does-drop, does-end, does-split, does-nothing}
+use Rattle.walk.proofs.Searches.{clash-in, lowest-in}
+use Rattle.writer.specs.Steps.{does-on, does-off, does-drop, does-end, does-split, does-nothing}
 use Rattle.writer.proofs.Choosing.{does-next, picked-one, picked-none, new-on-lowest, new-off-lowest}
 use Rattle.writer.proofs.Choosing.{ended-clash, ended-shown, not-ended}
 use Rattle.writer.proofs.Choosing.{next-end, next-on, next-off, next-drop, next-split, next-nothing}
@@ -54,7 +56,7 @@ module _ (c : tie.Else2) where
   quiet =
       let headed = c .before .before in
       let apart = headed .before .before in
-      let e = apart .before .clashes .ensures (bookAt start) (shape-count _ _ (start .pre .0)) in
+      let e = clash-in (bookAt start) (shape-count _ _ (start .pre .0)) _ _ (apart .before .clashes .ensures) in
       not-ended _ _ _ _ _ (headed .heads-of .ensures) (atom-small start) _ (c .before .wide .ensures .0)
       (sym e ∙ apart .if1 .left) (c .if2 .left)
 
@@ -98,14 +100,14 @@ module _ (c : tie.After-lowest-uncoloured) where
   not-55 = c .before .before
 
   split-lowest : let s = first (not-42 not-55) in picked (c .lowest-uncoloured .result) ≡ lowest (bookAt s) (uncoloured (pairAt s))
-  split-lowest = let s = first (not-42 not-55) in c .lowest-uncoloured .ensures (bookAt s) (shape-count _ _ (s .pre .0))
+  split-lowest = let s = first (not-42 not-55) in lowest-in (bookAt s) (shape-count _ _ (s .pre .0)) _ (c .lowest-uncoloured .ensures)
 
 -- ---- the returns
 
 returns : tie.Need-returns
 returns c =
     let s = c .before .before .before in
-    let e = c .before .clashes .ensures (bookAt s) (shape-count _ _ (s .pre .0)) in
+    let e = clash-in (bookAt s) (shape-count _ _ (s .pre .0)) _ _ (c .before .clashes .ensures) in
     does-next (next-end _ _ _ (ended-clash _ _ _ _ (sym e ∙ c .if1 .taken))) does-end
 
 returns-2 : tie.Need-returns-2
