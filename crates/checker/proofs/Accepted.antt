@@ -215,7 +215,8 @@ module _ (book paper : List ℕ) where
   check-complete read a g h = row-checked book paper (at-paper read (row-of (bookIn book) paper (keeps-accepted (bookIn book) paper a g h)))
 
   pub check-exact : Bytes paper → (a : ℕ)
-      → (checkOf book paper ≡ certain a) ↔ (GoodBook book (bookIn book) × Keeps (bookIn book) (named (atomNo a)) paper × (length paper ≤ 60000))
+      → (checkOf book paper ≡ certain a)
+      ↔ (GoodBook book (bookIn book) × Keeps (bookIn book) (named (atomNo a)) paper × (length paper ≤ 60000))
   check-exact bytes a = (λ e. there (checked-row book paper e), λ (read, g, h). check-complete read (atomNo a) g h)
     where
       there : {a : ℕ} → CheckRow book paper (certain a)

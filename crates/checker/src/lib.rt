@@ -5,9 +5,9 @@
 // step by step (`run_steps`) up to its end or its split; a step is checked against the colouring as
 // it stands, with no closing. What each part promises is in specs/.
 //
-// With R rules, a step 41 costs two passes over the rules and one over its body, a 42 one and one; a
-// 55 one pass over the rules, one over its list and one over the positive atoms of each listed rule;
-// a 45 two passes over the rules; a 53 two reads. A pass over the rules reads one head a rule.
+// With R rules, a step 41 costs two passes over the rules and one over its body, a 42 one and one;
+// a 55 one pass over the rules, one over its list and one over the positive atoms of each listed
+// rule; a 45 two passes over the rules; a 53 two reads. A pass over the rules reads one head a rule.
 
 mod answer;
 mod branch;

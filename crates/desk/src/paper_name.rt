@@ -1,5 +1,5 @@
-// `name ATOM L ROOM BOOK`: the paper that names the atom, each of its two walks within L tries, in a
-// buffer of ROOM bytes. Answers `paper TRIES LENGTH PAPER`, `fewer TRIES 0`, `limit L` or
+// `name ATOM L ROOM BOOK`: the paper that names the atom, each of its two walks within L tries, in
+// a buffer of ROOM bytes. Answers `paper TRIES LENGTH PAPER`, `fewer TRIES 0`, `limit L` or
 // `refused NUMBER [PLACE]`.
 use crate::call::read_call;
 use meaning::AtomNo;

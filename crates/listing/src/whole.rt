@@ -80,6 +80,12 @@ fn keep_row(rows: &[u8], end: usize, atoms: usize, last: &mut [u8; 255])
     }
 }
 
+// Writes the rows of a last page, and gives how many readings are listed by now.
+fn print_last(rows: &[u8], atoms: usize, count: u32, before: u64, line_end: u8) -> u64 {
+    print_rows(rows, atoms, count as u64, before, line_end);
+    wrapping_add_u64(before, count as u64)
+}
+
 // Writes the next page, or the last one and the last line.
 fn list_page(
     book: &[u8],
@@ -104,25 +110,15 @@ fn list_page(
             };
         }
         Page::Last(tries, count) => {
-            print_rows(rows, atoms, count as u64, before, line_end);
-            print_end(
-                b"end",
-                wrapping_add_u64(before, count as u64),
-                tries,
-                line_end,
-            );
+            let sets = print_last(rows, atoms, count, before, line_end);
+            print_end(b"end", sets, tries, line_end);
         }
         Page::Stopped(count) => {
-            print_rows(rows, atoms, count as u64, before, line_end);
-            print_end(
-                b"stopped",
-                wrapping_add_u64(before, count as u64),
-                LIMIT,
-                line_end,
-            );
+            let sets = print_last(rows, atoms, count, before, line_end);
+            print_end(b"stopped", sets, LIMIT, line_end);
         }
         Page::NotLeast(count) => {
-            print_rows(rows, atoms, count as u64, before, line_end);
+            print_last(rows, atoms, count, before, line_end);
             print_refused(10, 0, line_end);
         }
         Page::Book(why) => print_refused(why.number(), why.place(), line_end),
