@@ -115,10 +115,10 @@ fn assert_no_steps() {
         assert!(read_steps(text).is_err());
     }
     let no_mark: &[u8] = b"\0\0\0\0PE";
-    let no_witness = b"\0\x01\0\0PF";
-    let cut_short = b"\x41\0\0\x01\0PF";
-    let empty_list = b"\x55\0\0\0\x02\0PF";
-    for bytes in [b"", no_mark, no_witness, cut_short, empty_list] {
+    let no_witness: &[u8] = b"\0\x01\0\0PF";
+    let cut_short: &[u8] = b"\x41\0\0\x01\0PF";
+    let empty_list: &[u8] = b"\x55\0\0\0\x02\0PF";
+    for bytes in [&[], no_mark, no_witness, cut_short, empty_list] {
         assert!(write_steps(bytes).is_err());
     }
 }
