@@ -2,7 +2,7 @@
 // nothing, splits on any uncoloured rule, any grounded order of the witness.
 
 use crate::book::Book;
-use crate::closing::{atoms_said, goes_on, is_blocked, support, AtomsSaid, Colouring};
+use crate::closing::{atoms_said, goes_on, is_blocked, support, Colouring};
 use crate::numbers::{Atom, AtomSet, Numbered, RuleNo, RuleSet};
 use crate::paper::{assemble, may_end, END, GO_OFF, GO_ON, SPLIT, STARVE};
 use crate::random::Random;
@@ -60,47 +60,36 @@ impl LegalWriter<'_> {
         let said = atoms_said(self.book, now);
         let idle = steps.len() < self.idle_below && self.random.once_in(4);
         let kind = self.random.below(3);
+        let book = self.book;
         (0..3).any(|turn| match (kind + turn) % 3 {
-            0 => self.step_on(&said, now, idle, steps),
-            1 => self.step_off(&said, now, idle, steps),
+            0 => {
+                let may = rules_where(book, |r| goes_on(book.rule(r), &said));
+                self.step_rule(GO_ON, &may, &mut now.on, idle, steps)
+            }
+            1 => {
+                let may = rules_where(book, |r| is_blocked(book.rule(r), &said));
+                self.step_rule(GO_OFF, &may, &mut now.off, idle, steps)
+            }
             _ => self.step_starve(now, idle, steps),
         })
     }
 
-    fn step_on(
+    /// Puts one of the rules that may be there in a side; only new ones where it is not to idle.
+    fn step_rule(
         &mut self,
-        said: &AtomsSaid,
-        now: &mut Colouring,
+        code: u8,
+        may: &[RuleNo],
+        side: &mut RuleSet,
         idle: bool,
         steps: &mut Vec<u8>,
     ) -> bool {
-        let book = self.book;
-        let may = rules_where(book, |r| goes_on(book.rule(r), said) && (idle || !now.on.has(r)));
+        let may: Vec<RuleNo> = may.iter().copied().filter(|r| idle || !side.has(*r)).collect();
         if may.is_empty() {
             return false;
         }
         let r = *self.random.pick(&may);
-        now.on.insert(r);
-        steps.extend(&[GO_ON, r.byte()]);
-        true
-    }
-
-    fn step_off(
-        &mut self,
-        said: &AtomsSaid,
-        now: &mut Colouring,
-        idle: bool,
-        steps: &mut Vec<u8>,
-    ) -> bool {
-        let book = self.book;
-        let may =
-            rules_where(book, |r| is_blocked(book.rule(r), said) && (idle || !now.off.has(r)));
-        if may.is_empty() {
-            return false;
-        }
-        let r = *self.random.pick(&may);
-        now.off.insert(r);
-        steps.extend(&[GO_OFF, r.byte()]);
+        side.insert(r);
+        steps.extend(&[code, r.byte()]);
         true
     }
 
