@@ -1,3 +1,4 @@
 -- The laws of what is taken from a line.
 pub mod Parting
 pub mod Turns
+pub mod Spelling

@@ -4,6 +4,8 @@
 --   allDigits l        every byte is a digit
 --   filled n w out     the buffer, its first n bytes overwritten by those that the digits of w say
 --   decodedOf w room   whether the word says bytes that there is room for, and how many
+--   digitFor v         the digit of a value below 16, in lower case
+--   spelled n l out    the buffer, its first 2n bytes overwritten by the digits of the first n bytes of l
 use mathlib.Core.Bool.{Bool, true, false}
 use mathlib.Core.List.{List, [], _∷_}
 use Prim.Native.Nat.{ℕ, zero, suc, _+_, _*_, _-_, _/_, _%_}
@@ -46,3 +48,10 @@ decodedOf w room =
     (ifEq (length w % 2) 1 nothing
     (ifLt room (length w / 2) nothing
     (ifb (allDigits w) (bytes (length w / 2)) nothing))))
+
+unfoldable pub digitFor : ℕ → ℕ
+digitFor v = ifLt v 10 (48 + v) (97 + (v - 10) % 6)
+
+unfoldable pub spelled : ℕ → List ℕ → List ℕ → List ℕ
+spelled zero l out = out
+spelled (suc n) l out = set (set (spelled n l out) (2 * n) (digitFor (getD l n 0 / 16))) (2 * n + 1) (digitFor (getD l n 0 % 16))

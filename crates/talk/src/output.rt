@@ -1,8 +1,10 @@
 // Writing to standard output. Where a write fails there is nobody left to tell, so no function here
 // says so.
+ghost use mathlib.Core.Path.{_≡_};
 ghost use Prim.Native.Nat.{_*_, _<_, _≤_};
 ghost use lib.ListN.{length};
 ghost use Rattle.io.specs.Counts.{Counts};
+ghost use Rattle.talk.specs.Hexadecimal.{digitFor, spelled};
 use libc::STDOUT_FILENO;
 
 // Writes the text as it stands.
@@ -24,7 +26,9 @@ pub fn print_refusal(number: u8, place: usize) {
 }
 
 // A digit of a byte in hexadecimal, in lower case.
-fn digit(value: u8) -> u8 {
+fn digit(value: u8) -> u8
+    ensures { λ r. ⌜ r ≡ digitFor value ⌝ }
+{
     if value < 10 {
         return b'0' + value;
     }
@@ -43,6 +47,7 @@ fn least(a: usize, b: usize) -> usize
 // The first n bytes, two digits each, at the start of out. Gives how many digits.
 fn put_digits(bytes: &[u8], n: usize, out: &mut [u8]) -> usize
     requires { ⌜ (n ≤ length (now bytes)) × (2 * n ≤ length (now out)) ⌝ }
+    ensures { λ r. ⌜ (r ≡ 2 * n) × (now (out .exit) ≡ spelled n (now (bytes .entry)) (now (out .entry))) ⌝ }
     ensures { λ r. ⌜ Counts r (now (out .exit)) ⌝ }
 {
     let mut i = 0;
