@@ -25,10 +25,11 @@ slice-write-out-2 c = simp length-set (omega arith)
 
 loop-again : tie.Need-loop-again Inv-loop μ-loop
 loop-again c =
-    let k = c .before .before .before .before .before in
-    (search needs,
-     spelled-turn _ _ (k .loop .i) _ _ (c .before .before .digit .ensures) (c .digit2 .ensures) _ (k .loop .inv .1),
-     simp length-set (k .loop .inv .2))
+    let k = c .before .before .before .before .before in (
+      search needs,
+      spelled-turn _ _ (k .loop .i) _ _ (c .before .before .digit .ensures) (c .digit2 .ensures) _ (k .loop .inv .1),
+      simp length-set (k .loop .inv .2),
+    )
 
 returns : tie.Need-returns Inv-loop μ-loop
 returns c =
