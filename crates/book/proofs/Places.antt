@@ -86,6 +86,9 @@ module _ (s : List ℕ) (h : Shape) (e : ReadAs s h) where
       pub head-below : (a : AtomNo) → a ≡ rule (bookIn s) r .head → a .0 < h .atoms
       head-below a q = rw q (rule-keeps .head)
 
+      pub head-small : h .atoms < 256 → (a : AtomNo) → a ≡ rule (bookIn s) r .head → a .0 < 255
+      head-small n a q = omega (arith, head-below a q)
+
       -- a part of the book that holds a body's atoms, in a book whose atom count is a byte
       module _ (n : h .atoms < 256) (part : List ℕ) where
         pub pos-below : part ≡ atomBytes (rule (bookIn s) r .pos) → Below 255 part

@@ -69,20 +69,30 @@ pub told-bad : (x : BookRead) (i at : ℕ) → x ≡ bad i at → refused i at �
 unfolding toldOf
 told-bad x i at e = rw e
 
--- the length, the mark and the trailer are right, and the records were found x
-module _ (s : List ℕ) (k index : ℕ) (ek : k ≡ getD s (length s - 5) 0) (ei : index ≡ u16At s (length s - 4))
-    (h : 6 ≤ length s) (l : length s ≤ 9441) (m : getD s (length s - 2) 0 ≡ 0x52) (m′ : getD s (length s - 1) 0 ≡ 0x42)
-    (e : index + 2 * k + 6 ≡ length s) (x : Check) (ex : x ≡ recordsOf k s (getD s (length s - 6) 0) index 0 0) where
+-- the length, the mark and the trailer are right
+pub record Framed (s : List ℕ) (k index : ℕ) : Type 0 where
+  pub count : k ≡ getD s (length s - 5) 0
+  pub start : index ≡ u16At s (length s - 4)
+  pub least : 6 ≤ length s
+  pub most : length s ≤ 9441
+  pub first : getD s (length s - 2) 0 ≡ 0x52
+  pub second : getD s (length s - 1) 0 ≡ 0x42
+  pub fills : index + 2 * k + 6 ≡ length s
+
+-- and the records were found x
+module _ {s : List ℕ} {k index : ℕ} (f : Framed s k index) (x : Check)
+    (e : x ≡ recordsOf k s (getD s (length s - 6) 0) index 0 0) where
   found : readOf s ≡ ifFine x (good (getD s (length s - 6) 0) k index (rulesOf k s index 0))
   unfolding readOf bodyOf
   found =
-      rw (ex, ek, ei)
-      (lt-no _ _ _ _ h ∙ lt-no _ _ _ _ l ∙ eq-yes _ _ _ _ m ∙ eq-yes _ _ _ _ m′ ∙ eq-yes _ _ _ _ (rw (← ek, ← ei) e))
+      rw (e, f .count, f .start)
+      (lt-no _ _ _ _ (f .least) ∙ lt-no _ _ _ _ (f .most) ∙ eq-yes _ _ _ _ (f .first) ∙ eq-yes _ _ _ _ (f .second)
+      ∙ eq-yes _ _ _ _ (rw (← f .count, ← f .start) (f .fills)))
 
   pub read-wrong : (i at : ℕ) → x ≡ wrong i at → refused i at ≡ toldOf (readOf s)
   unfolding ifFine
-  read-wrong i at f = told-bad _ i at (found ∙ rw f)
+  read-wrong i at q = told-bad _ i at (found ∙ rw q)
 
   pub read-fine : x ≡ fine → shape (getD s (length s - 6) 0) (getD s (length s - 5) 0) index ≡ toldOf (readOf s)
   unfolding ifFine toldOf
-  read-fine f = rw (found, f, ek)
+  read-fine q = rw (found, q, f .count)

@@ -30,28 +30,28 @@ not-done e = let z : _≡_ {A = ℕ} 0 1 = cc in absurd (omega arith)
 same-end : {m n : ℕ} → done m ≡ done n → m ≡ n
 same-end e = cc
 
-pub same-stop : {i j m n : ℕ} → refusedAt i m ≡ refusedAt j n → (i ≡ j) × (m ≡ n)
-same-stop e = (cc, cc)
+pub same-refusal : {i j m n : ℕ} → refusedAt i m ≡ refusedAt j n → (i ≡ j) × (m ≡ n)
+same-refusal e = (cc, cc)
 
 then-done : (w : Walked) (f : ℕ → Walked) (m : ℕ) → andThen w f ≡ done m → (n : ℕ) × (w ≡ done n) × (f n ≡ done m)
 unfolding andThen
 then-done (done n) f m e = (n, refl, e)
 then-done (refusedAt i at) f m e = not-done e
 
-pub then-stopped : (w : Walked) (f : ℕ → Walked) {i m : ℕ} → andThen w f ≡ refusedAt i m
+pub then-refused : (w : Walked) (f : ℕ → Walked) {i m : ℕ} → andThen w f ≡ refusedAt i m
     → (w ≡ refusedAt i m) ⊎ ((n : ℕ) × (w ≡ done n) × (f n ≡ refusedAt i m))
 unfolding andThen
-then-stopped (done n) f e = inr (n, refl, e)
-then-stopped (refusedAt i at) f e = inl e
+then-refused (done n) f e = inr (n, refl, e)
+then-refused (refusedAt i at) f e = inl e
 
 -- a refusal of a step between `at` and the witness start
-pub record Stops (at from i m : ℕ) : Type 0 where
+pub record RefusedIn (at from i m : ℕ) : Type 0 where
   pub number : (i ≡ 24) ⊎ (i ≡ 25)
   pub above : at ≤ m
   pub below : m ≤ from
 
-stops-above : {at next from i m : ℕ} → at ≤ next → Stops next from i m → Stops at from i m
-stops-above h p = record { number = p .number; above = omega arith; below = p .below }
+refused-above : {at next from i m : ℕ} → at ≤ next → RefusedIn next from i m → RefusedIn at from i m
+refused-above h p = record { number = p .number; above = omega arith; below = p .below }
 
 module _ (b : Book) (k : Claim) (s : List ℕ) (from : ℕ) where
   -- ---- where a branch ends, and where it is refused
@@ -69,24 +69,25 @@ module _ (b : Book) (k : Claim) (s : List ℕ) (from : ℕ) where
       after (ends next) (held p q) e g = omega (arith, formed-further b k s from at c p, same-end e)
       after (fails i) p e g = not-done e
 
-  pub stopped-between : (f at : ℕ) (c : Pair) {i m : ℕ} → at ≤ from → branchOf f b k s from at c ≡ refusedAt i m → Stops at from i m
+  pub refused-between : (f at : ℕ) (c : Pair) {i m : ℕ} → at ≤ from → branchOf f b k s from at c ≡ refusedAt i m → RefusedIn at from i m
   unfolding branchOf afterStep
-  stopped-between zero at c h e =
-      let (p, q) = same-stop e in record { number = inl (sym p); above = omega arith; below = omega arith }
-  stopped-between (suc f) at c {i} {m} h e =
-      after (stepOf b k s from at c) (step-is b k s from at c refl) e (λ next d. stopped-between f next d)
+  refused-between zero at c h e =
+      let (p, q) = same-refusal e in record { number = inl (sym p); above = omega arith; below = omega arith }
+  refused-between (suc f) at c {i} {m} h e =
+      after (stepOf b k s from at c) (step-is b k s from at c refl) e (λ next d. refused-between f next d)
     where
       after : (x : Stepped) → StepIs b k s from at c x → afterStep at c x (branchOf f b k s from) ≡ refusedAt i m
-          → ((next : ℕ) (d : Pair) → next ≤ from → branchOf f b k s from next d ≡ refusedAt i m → Stops next from i m) → Stops at from i m
+          → ((next : ℕ) (d : Pair) → next ≤ from → branchOf f b k s from next d ≡ refusedAt i m → RefusedIn next from i m)
+          → RefusedIn at from i m
       after (goes next d) (held p q) e g =
-          let (u, v) = formed-further b k s from at c p in stops-above (omega arith) (g next d v e)
+          let (u, v) = formed-further b k s from at c p in refused-above (omega arith) (g next d v e)
       after (parts next r) (held p q) e g =
           let (u, v) = formed-further b k s from at c p in
-          ⊎-elim (λ w. stops-above (omega arith) (g next _ v w))
-          (λ (n, w, z). let (y, o) = done-between f _ _ _ w in stops-above (omega arith) (g n _ o z)) (then-stopped _ _ e)
+          ⊎-elim (λ w. refused-above (omega arith) (g next _ v w))
+          (λ (n, w, z). let (y, o) = done-between f _ _ _ w in refused-above (omega arith) (g n _ o z)) (then-refused _ _ e)
       after (ends next) p e g = not-done (sym e)
       after (fails j) p e g =
-          let (u, v) = same-stop e in
+          let (u, v) = same-refusal e in
           record { number = rw u at (fails-number b k s from at c p); above = omega arith; below = omega arith }
 
   -- ---- more steps than bytes left change nothing
@@ -158,6 +159,11 @@ module _ (b : Book) (k : Claim) (s : List ℕ) (from : ℕ) where
   unfolding branchOf
   turn f at c e = rw e
 
+  goes-done : (f at : ℕ) (c : Pair) {next m n : ℕ} {d : Pair} → stepOf b k s from at c ≡ goes next d → branchOf f b k s from next d ≡ done m
+      → m ≡ n → branchOf (suc f) b k s from at c ≡ done n
+  unfolding afterStep
+  goes-done f at c e p q = turn f at c e ∙ p ∙ ap done q
+
   drops : (at : ℕ) (c : Pair) (w : List RuleNo) → getD s at 0 ≡ codeUnfounded → getD s (at + 1) 0 ≡ length w → listAt s at ≡ numbers w
       → at + 2 + length w ≤ from → 0 < length w → ascending (numbers w) ≡ true → ((r : RuleNo) → r ∈ among w → InBook b r)
       → unfounded b (c .off) w ≡ true → stepOf b k s from at c ≡ goes (at + 2 + length w) (put offSide w c)
@@ -174,24 +180,19 @@ module _ (b : Book) (k : Claim) (s : List ℕ) (from : ℕ) where
       → (f : ℕ) → from - at < f → branchOf f b k s from at c ≡ done (at + length l)
   unfolding afterStep andThen
   branch-done p at rest e h zero g = absurd (not-suc-le-zero g)
-  branch-done (step-41 {c = c} {l = l} r i m p) at rest e h (suc f) g =
+  branch-done (step-41 {c = c} r i m p) at rest e h (suc f) g =
       let (x, y, d) = read-two s at e in
-      let u : at + 2 ≤ from = omega arith in
-      let n : at + 2 + length l ≡ at + suc (suc (length l)) = omega arith in
-      turn f at c (rw y at (is-step b k s from at c (held (form-41 x u (rw y i)) (rw y m))))
-      ∙ branch-done p (at + 2) rest d (omega arith) f (omega arith) ∙ ap done n
-  branch-done (step-42 {c = c} {l = l} r i m p) at rest e h (suc f) g =
+      goes-done f at c (rw y at (is-step b k s from at c (held (form-41 x (omega arith) (rw y i)) (rw y m))))
+      (branch-done p (at + 2) rest d (omega arith) f (omega arith)) (omega arith)
+  branch-done (step-42 {c = c} r i m p) at rest e h (suc f) g =
       let (x, y, d) = read-two s at e in
-      let u : at + 2 ≤ from = omega arith in
-      let n : at + 2 + length l ≡ at + suc (suc (length l)) = omega arith in
-      turn f at c (rw y at (is-step b k s from at c (held (form-42 x u (rw y i)) (rw y m))))
-      ∙ branch-done p (at + 2) rest d (omega arith) f (omega arith) ∙ ap done n
+      goes-done f at c (rw y at (is-step b k s from at c (held (form-42 x (omega arith) (rw y i)) (rw y m))))
+      (branch-done p (at + 2) rest d (omega arith) f (omega arith)) (omega arith)
   branch-done (step-55 {c = c} {l = l} w n a i m p) at rest e h (suc f) g =
       let (x, y, z, d) = list-read s at w (e ∙ ap (λ (r : List ℕ). codeUnfounded ∷ (length w ∷ r)) (append-assoc (numbers w) l rest)) in
       let v : length (numbers w ++ l) ≡ length w + length l = length-append (numbers w) l ∙ rw (length-map w (λ r. r .0)) in
-      let j : at + 2 + length w + length l ≡ at + suc (suc (length (numbers w ++ l))) = omega arith in
-      turn f at c (drops at c w x y z (omega arith) n a i m)
-      ∙ branch-done p (at + 2 + length w) rest d (omega arith) f (omega arith) ∙ ap done j
+      goes-done f at c (drops at c w x y z (omega arith) n a i m)
+      (branch-done p (at + 2 + length w) rest d (omega arith) f (omega arith)) (omega arith)
   branch-done (step-53 {c = c} {l = l} {m = m′} r i m p q) at rest e h (suc f) g =
       let (x, y, d₁) = read-two s at e in
       let d₂ = d₁ ∙ append-assoc l m′ rest in

@@ -18,15 +18,15 @@ use Rattle.checker.specs.Steps.{Stepped, goes, parts, ends, fails, stepO
 use Rattle.checker.specs.Branches.{refusedAt, andThen, afterStep, branchOf}
 use Rattle.checker.specs.Rows.{Comes, first-step, goes-on, into-first, into-second}
 use Rattle.checker.proofs.Steps.{StepIs, held, formed-further, is-step, step-is}
-use Rattle.checker.proofs.Branches.{not-done, same-stop, then-stopped, done-between, done-branch, part-done, turn}
+use Rattle.checker.proofs.Branches.{not-done, same-refusal, then-refused, done-between, done-branch, part-done, turn}
 
 module _ (b : Book) (k : Claim) (s : List ℕ) (from : ℕ) (whole : from ≤ length s) where
-  pub stopped-comes : (f at : ℕ) (c : Pair) {i m : ℕ} → from - at < f → branchOf f b k s from at c ≡ refusedAt i m → Comes b k s from at c
+  pub refused-comes : (f at : ℕ) (c : Pair) {i m : ℕ} → from - at < f → branchOf f b k s from at c ≡ refusedAt i m → Comes b k s from at c
       → (d : Pair) × Comes b k s from m d × StepIs b k s from m d (fails i)
   unfolding branchOf afterStep
-  stopped-comes zero at c h e came = absurd (not-suc-le-zero h)
-  stopped-comes (suc f) at c {i} {m} h e came =
-      after (stepOf b k s from at c) (step-is b k s from at c refl) e (λ next d. stopped-comes f next d)
+  refused-comes zero at c h e came = absurd (not-suc-le-zero h)
+  refused-comes (suc f) at c {i} {m} h e came =
+      after (stepOf b k s from at c) (step-is b k s from at c refl) e (λ next d. refused-comes f next d)
     where
       after : (x : Stepped) → StepIs b k s from at c x → afterStep at c x (branchOf f b k s from) ≡ refusedAt i m
           → ((next : ℕ) (d : Pair) → from - next < f → branchOf f b k s from next d ≡ refusedAt i m → Comes b k s from next d
@@ -38,9 +38,9 @@ module _ (b : Book) (k : Claim) (s : List ℕ) (from : ℕ) (whole : from ≤ le
           let (u, v) = formed-further b k s from at c p in
           ⊎-elim (λ w. g next _ (omega arith) w (into-first came p q))
           (λ (n, w, z). let (y, o) = done-between b k s from f _ _ _ w in
-          g n _ (omega arith) z (into-second came p q o (done-branch b k s from whole f _ _ _ w))) (then-stopped _ _ e)
+          g n _ (omega arith) z (into-second came p q o (done-branch b k s from whole f _ _ _ w))) (then-refused _ _ e)
       after (ends next) p e g = not-done (sym e)
-      after (fails j) p e g = let (u, v) = same-stop e in (c, rw v at came, rw (u, v) at p)
+      after (fails j) p e g = let (u, v) = same-refusal e in (c, rw v at came, rw (u, v) at p)
 
   -- a branch has bytes
   branch-bytes : {c : Pair} {l : List ℕ} → Branch b k c l → 0 < length l
@@ -56,15 +56,15 @@ module _ (b : Book) (k : Claim) (s : List ℕ) (from : ℕ) (whole : from ≤ le
 
   module _ (i m : ℕ) where
     -- whatever number of steps beyond the bytes left is allowed, the branch is refused at m
-    abbrev Stopped : ℕ → Pair → Type 0
-    Stopped at c = (f : ℕ) → from - at < f → branchOf f b k s from at c ≡ refusedAt i m
+    abbrev Refused : ℕ → Pair → Type 0
+    Refused at c = (f : ℕ) → from - at < f → branchOf f b k s from at c ≡ refusedAt i m
 
     before : {at : ℕ} {c : Pair} {x : Stepped} → StepIs b k s from at c x
-        → ((f : ℕ) → from - at < suc f → afterStep at c x (branchOf f b k s from) ≡ refusedAt i m) → Stopped at c
+        → ((f : ℕ) → from - at < suc f → afterStep at c x (branchOf f b k s from) ≡ refusedAt i m) → Refused at c
     before p g zero h = absurd (not-suc-le-zero h)
     before {at} {c} p g (suc f) h = turn b k s from f at c (is-step b k s from at c p) ∙ g f h
 
-    carried : {at : ℕ} {c : Pair} → Comes b k s from at c → Stopped at c → Stopped 0 start
+    carried : {at : ℕ} {c : Pair} → Comes b k s from at c → Refused at c → Refused 0 start
     unfolding afterStep andThen
     carried first-step g = g
     carried (goes-on came p q) g =
@@ -77,7 +77,7 @@ module _ (b : Book) (k : Claim) (s : List ℕ) (from : ℕ) (whole : from ≤ le
         carried came (before (held p q)
         (λ f h. rw (part-done b k s from whole next n (omega arith) o x f (omega arith)) (g f (omega arith))))
 
-    pub comes-stopped : {d : Pair} → Comes b k s from m d → StepIs b k s from m d (fails i)
+    pub comes-refused : {d : Pair} → Comes b k s from m d → StepIs b k s from m d (fails i)
         → branchOf (suc from) b k s from 0 start ≡ refusedAt i m
     unfolding afterStep
-    comes-stopped came p = carried came (before p (λ f h. refl)) (suc from) (omega arith)
+    comes-refused came p = carried came (before p (λ f h. refl)) (suc from) (omega arith)

@@ -79,12 +79,10 @@ proper-below l n e = record {
       (λ p. clash (right (ascending l) _ e) (every-here _ l i 0 h p)) (decided (ltb (getD l i 0) n)));
 }
 
--- the test of a part of the paper, as the code makes it
-module _ (b : Book) (s : List ℕ) (i m n : ℕ) (e : count b ≡ n) where
-  pub proper-part : (ascending (take (i + m - i) (drop i s)) && every (λ x. ltb x n) (take (i + m - i) (drop i s)))
-      ≡ properList b (take m (drop i s))
-  unfolding properList
-  proper-part = rw (part-is s i m, e)
+-- the test as the code makes it, with the number of rules that it has read
+pub proper-is : (b : Book) (l : List ℕ) (n : ℕ) → count b ≡ n → (ascending l && every (λ x. ltb x n) l) ≡ properList b l
+unfolding properList
+proper-is b l n e = rw e
 
 pub proper-in-book : (b : Book) (l : List ℕ) → properList b l ≡ true → Below (count b) l
 unfolding properList

@@ -14,37 +14,47 @@ use Rattle.meaning.proofs.Written.{pair-nothing}
 use Rattle.book.specs.declared.reader.Shape.{Shape}
 use Rattle.book.specs.Numbers.{shape, refused as book-refused}
 use Rattle.book.specs.Format.{u16At, BookRead, good, bad, readOf, toldOf, bookOf, bookIn, ReadAs}
-use Rattle.checker.specs.Numbers.{certain, refused}
-use Rattle.checker.specs.Branches.{Walked, done, refusedAt, BranchTo}
-use Rattle.checker.specs.Witness.{fine, wrong, witnessVerdict}
+use Rattle.checker.specs.declared.witness.Verdict.{Verdict}
+use Rattle.checker.specs.declared.witness.Verdict.the-variants.{Right, Wrong}
+use Rattle.checker.specs.Numbers.{Told, certain, refused}
+use Rattle.checker.specs.Branches.{Walked, done, BranchTo}
+use Rattle.checker.specs.Witness.{witnessVerdict}
+use Rattle.checker.specs.Parts.{verdict}
 use Rattle.checker.specs.Check.{witnessTold, branchTold, stepsTold, trailerTold, paperOf, checkRead, checkOf}
 
 -- ---- the steps and the witness, where the first branch, from the empty colouring, has come to x
 
-module _ (b : Book) (k : Claim) (s : List ℕ) (a w from : ℕ) (c : Colouring) (x : Walked) (e : c ≡ nothing)
-    (p : BranchTo b k s from 0 (pair c) x) where
-  steps-are : stepsTold b k s a w from ≡ branchTold b s a w from x
-  unfolding stepsTold
-  steps-are = ap (branchTold b s a w from) (sym (rw (ap pair e ∙ pair-nothing) at (p (suc from) (omega arith))))
+pub steps-are : (b : Book) (k : Claim) (s : List ℕ) (a w from : ℕ) {c : Colouring} {x y : Walked} → c ≡ nothing
+    → BranchTo b k s from 0 (pair c) x → x ≡ y → branchTold b s a w from y ≡ stepsTold b k s a w from
+unfolding stepsTold
+steps-are b k s a w from e p q =
+    ap (branchTold b s a w from) (sym q ∙ rw (ap pair e ∙ pair-nothing) at (p (suc from) (omega arith)))
 
-  pub steps-stopped : (i at : ℕ) → x ≡ refusedAt i at → stepsTold b k s a w from ≡ refused i at
+module _ (b : Book) (s : List ℕ) (a w from at : ℕ) where
+  pub told-gap : (at ≡ from → ⊥) → refused 26 at ≡ branchTold b s a w from (done at)
   unfolding branchTold
-  steps-stopped i at q = steps-are ∙ rw q
+  told-gap n = sym (eq-no _ _ _ _ n)
 
-  pub steps-gap : (at : ℕ) → x ≡ done at → (at ≡ from → ⊥) → stepsTold b k s a w from ≡ refused 26 at
-  unfolding branchTold
-  steps-gap at q n = steps-are ∙ rw q (eq-no _ _ _ _ n)
-
-  module _ (at : ℕ) (q : x ≡ done at) (h : at ≡ from) where
-    pub witness-wrong : (place : ℕ) → witnessVerdict b s from w ≡ wrong place → stepsTold b k s a w from ≡ refused 27 place
+  -- v is what the code found of the witness
+  module _ (h : at ≡ from) (v : Verdict) (p : verdict v ≡ witnessVerdict b s from w) where
+    pub told-wrong : (place : ℕ) → v ≡ Wrong place → refused 27 place ≡ branchTold b s a w from (done at)
     unfolding branchTold witnessTold
-    witness-wrong place t = steps-are ∙ rw (q, t) (eq-yes _ _ _ _ h)
+    told-wrong place e = sym (rw (← p, e) (eq-yes _ _ _ _ h))
 
-    pub witness-fine : witnessVerdict b s from w ≡ fine → stepsTold b k s a w from ≡ certain a
+    pub told-fine : v ≡ Right → certain a ≡ branchTold b s a w from (done at)
     unfolding branchTold witnessTold
-    witness-fine t = steps-are ∙ rw (q, t) (eq-yes _ _ _ _ h)
+    told-fine e = sym (rw (← p, e) (eq-yes _ _ _ _ h))
 
 -- ---- the length, the mark and the trailer
+
+-- the length and the mark are right, and w and from are the trailer's numbers, as the code has them
+pub record Framed (s : List ℕ) (w from : ℕ) : Type 0 where
+  pub least : 6 ≤ length s
+  pub most : length s ≤ 60000
+  pub first : getD s (length s - 2) 0 ≡ 0x50
+  pub second : getD s (length s - 1) 0 ≡ 0x46
+  pub count : w ≡ getD s (length s - 5) 0
+  pub start : from ≡ u16At s (length s - 4)
 
 module _ (b : Book) (s : List ℕ) where
   pub paper-short : length s < 6 → paperOf b s ≡ refused 20 0
@@ -60,30 +70,30 @@ module _ (b : Book) (s : List ℕ) where
     unfolding paperOf
     mark-first n = lt-no _ _ _ _ h ∙ lt-no _ _ _ _ g ∙ eq-no _ _ _ _ n
 
-    module _ (m : getD s (length s - 2) 0 ≡ 0x50) where
-      pub mark-second : (getD s (length s - 1) 0 ≡ 0x46 → ⊥) → paperOf b s ≡ refused 21 (length s - 2)
-      unfolding paperOf
-      mark-second n = lt-no _ _ _ _ h ∙ lt-no _ _ _ _ g ∙ eq-yes _ _ _ _ m ∙ eq-no _ _ _ _ n
+    pub mark-second : getD s (length s - 2) 0 ≡ 0x50 → (getD s (length s - 1) 0 ≡ 0x46 → ⊥) → paperOf b s ≡ refused 21 (length s - 2)
+    unfolding paperOf
+    mark-second m n = lt-no _ _ _ _ h ∙ lt-no _ _ _ _ g ∙ eq-yes _ _ _ _ m ∙ eq-no _ _ _ _ n
 
-      -- w and from are the trailer's numbers, as the code has them
-      module _ (n : getD s (length s - 1) 0 ≡ 0x46) (w from : ℕ) (e : w ≡ getD s (length s - 5) 0) (q : from ≡ u16At s (length s - 4)) where
-        trailer-read : paperOf b s ≡ trailerTold b s (getD s (length s - 6) 0) w from
-        unfolding paperOf
-        trailer-read = lt-no _ _ _ _ h ∙ lt-no _ _ _ _ g ∙ eq-yes _ _ _ _ m ∙ eq-yes _ _ _ _ n ∙ rw (e, q)
+  module _ {w from : ℕ} (f : Framed s w from) where
+    trailer-read : paperOf b s ≡ trailerTold b s (getD s (length s - 6) 0) w from
+    unfolding paperOf
+    trailer-read =
+        lt-no _ _ _ _ (f .least) ∙ lt-no _ _ _ _ (f .most) ∙ eq-yes _ _ _ _ (f .first) ∙ eq-yes _ _ _ _ (f .second)
+        ∙ rw (f .count, f .start)
 
-        pub trailer-wrong : (from + w + 6 ≡ length s → ⊥) → paperOf b s ≡ refused 22 (length s - 4)
-        unfolding trailerTold
-        trailer-wrong z = trailer-read ∙ eq-no _ _ _ _ z
+    pub trailer-wrong : (from + w + 6 ≡ length s → ⊥) → paperOf b s ≡ refused 22 (length s - 4)
+    unfolding trailerTold
+    trailer-wrong z = trailer-read ∙ eq-no _ _ _ _ z
 
-        module _ (z : from + w + 6 ≡ length s) where
-          pub atom-out : b .atoms ≤ getD s (length s - 6) 0 → paperOf b s ≡ refused 23 (length s - 6)
-          unfolding trailerTold
-          atom-out l = trailer-read ∙ eq-yes _ _ _ _ z ∙ lt-no _ _ _ _ l
+    module _ (z : from + w + 6 ≡ length s) where
+      pub atom-out : b .atoms ≤ getD s (length s - 6) 0 → paperOf b s ≡ refused 23 (length s - 6)
+      unfolding trailerTold
+      atom-out l = trailer-read ∙ eq-yes _ _ _ _ z ∙ lt-no _ _ _ _ l
 
-          pub atom-in : getD s (length s - 6) 0 < b .atoms
-              → paperOf b s ≡ stepsTold b (named (atomNo (getD s (length s - 6) 0))) s (getD s (length s - 6) 0) w from
-          unfolding trailerTold
-          atom-in l = trailer-read ∙ eq-yes _ _ _ _ z ∙ lt-yes _ _ _ _ l
+      pub atom-in : getD s (length s - 6) 0 < b .atoms → (x : Told)
+          → x ≡ stepsTold b (named (atomNo (getD s (length s - 6) 0))) s (getD s (length s - 6) 0) w from → x ≡ paperOf b s
+      unfolding trailerTold
+      atom-in l x q = q ∙ sym (trailer-read ∙ eq-yes _ _ _ _ z ∙ lt-yes _ _ _ _ l)
 
 -- ---- the book
 

@@ -24,7 +24,7 @@ use Rattle.checker.specs.Rows.{Malformed, Unheld, Comes, first-step}
 use Rattle.checker.specs.Places.{WrongAt}
 use Rattle.checker.proofs.Steps.{StepIs, malformed, unheld}
 use Rattle.checker.proofs.Branches.{done-between, done-branch, part-done}
-use Rattle.checker.proofs.Comes.{stopped-comes, comes-stopped}
+use Rattle.checker.proofs.Comes.{refused-comes, comes-refused}
 use Rattle.checker.proofs.Places.{list-wrong, wrong-list}
 use Rattle.checker.proofs.Rows.{walkOf, PaperRow, at-length, at-mark, at-trailer, at-atom, at-form, at-step, at-gap}
 use Rattle.checker.proofs.Rows.{at-witness, CheckRow, at-book, at-paper, checked-row, row-checked}
@@ -110,13 +110,13 @@ module _ (book paper : List ℕ) where
     inside = let t = f .trailer in omega arith
 
     came : {i at : ℕ} → walkOf b paper ≡ refusedAt i at → (c : Pair) × Comes b k paper from at c × StepIs b k paper from at c (fails i)
-    came e = stopped-comes b k paper from inside (suc from) 0 start (omega arith) e first-step
+    came e = refused-comes b k paper from inside (suc from) 0 start (omega arith) e first-step
 
   -- 24: none of these, and the checker comes to a step that is malformed
   pub refused-form : (at : ℕ) → (checkOf book paper ≡ refused 24 at)
       ↔ (GoodBook book b × (Framed b paper × (c : Pair) × Comes b k paper from at c × Malformed b paper from at))
   refused-form at = exactly (omega arith) there
-      (λ (f, c, p, m). at-form f (comes-stopped b k paper from (inside f) 24 at p (malformed m)))
+      (λ (f, c, p, m). at-form f (comes-refused b k paper from (inside f) 24 at p (malformed m)))
     where
       is-malformed : {c : Pair} → StepIs b k paper from at c (fails 24) → Malformed b paper from at
       is-malformed (malformed m) = m
@@ -128,7 +128,7 @@ module _ (book paper : List ℕ) where
   pub refused-step : (at : ℕ) → (checkOf book paper ≡ refused 25 at)
       ↔ (GoodBook book b × (Framed b paper × (c : Pair) × Comes b k paper from at c × Unheld b k paper from at c))
   refused-step at = exactly (omega arith) there
-      (λ (f, c, p, u). at-step f (comes-stopped b k paper from (inside f) 25 at p (unheld (u .formed) (u .fails))))
+      (λ (f, c, p, u). at-step f (comes-refused b k paper from (inside f) 25 at p (unheld (u .formed) (u .fails))))
     where
       is-unheld : {c : Pair} → StepIs b k paper from at c (fails 25) → Unheld b k paper from at c
       is-unheld (unheld f e) = record { test = _; next = _; formed = f; fails = e }

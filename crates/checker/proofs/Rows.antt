@@ -17,7 +17,7 @@ use Rattle.checker.specs.Branches.{Walked, done, refusedAt, branchOf}
 use Rattle.checker.specs.Witness.{Check, fine, wrong, witnessVerdict}
 use Rattle.checker.specs.Check.{witnessTold, branchTold, stepsTold, trailerTold, paperOf, checkRead, checkOf}
 use Rattle.checker.specs.Rows.{atomOf, countOf, startOf, claimOf, LengthGood, MarkGood, TrailerGood, AtomGood, Framed}
-use Rattle.checker.proofs.Branches.{stopped-between}
+use Rattle.checker.proofs.Branches.{refused-between}
 
 -- the branch from byte 0
 abbrev pub walkOf : Book → List ℕ → Walked
@@ -51,7 +51,7 @@ module _ (b : Book) (s : List ℕ) where
       eq-either (PaperRow b s) _ _ _ _ (λ p. witness-row f (rw p at e) _ refl) (λ n. at-gap f e n)
   walk-row f (refusedAt i at) e =
       ⊎-elim (λ (p : i ≡ 24). rw p (at-form f (rw p at e))) (λ (p : i ≡ 25). rw p (at-step f (rw p at e)))
-      (stopped-between b (claimOf s) s (startOf s) _ 0 start (omega arith) e .number)
+      (refused-between b (claimOf s) s (startOf s) _ 0 start (omega arith) e .number)
 
   pub paper-row : PaperRow b s (paperOf b s)
   unfolding paperOf trailerTold stepsTold

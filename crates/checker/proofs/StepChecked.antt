@@ -1,24 +1,57 @@
--- One step of a paper as it is checked, one law for each way through the code. Each is the definition of a step with its tests decided.
--- Document 01, "The paper" and numbers 24 and 25.
-use mathlib.Core.Path.{_≡_, _∙_}
-use mathlib.Core.Bool.{true, false}
-use mathlib.Core.List.{List, [], _∷_, map}
-use Prim.Native.Nat.{ℕ, _+_, _≤_, _<_}
+-- One step of a paper as it is checked, one law for each way through the code: what the code finds is what it promises. Each is the
+-- definition of a step with its tests decided. Document 01, "The paper" and numbers 24 and 25.
+use mathlib.Core.Path.{_≡_, sym, _∙_}
+use mathlib.Core.Bool.{Bool, true, false}
+use mathlib.Core.List.{List, map}
+use Prim.Native.Nat.{ℕ, _+_, _-_, _≤_, _<_}
 use native.Mathlib.Omega.{arith}
 use lib.ListN.{getD, take, drop}
 use Rattle.meaning.specs.declared.RuleNo.{RuleNo}
 use Rattle.meaning.specs.Choice.{ifLt, ifb}
 use Rattle.meaning.specs.Books.{ruleNo, Book, count}
-use Rattle.meaning.specs.Colours.{Pair, onSide, offSide, put, mayOn, blocked, uncoloured}
+use Rattle.meaning.specs.Colours.{Pair, offSide, put, mayOn, blocked, uncoloured}
 use Rattle.meaning.specs.Claim.{Claim, ended}
 use Rattle.meaning.specs.Paper.{unfounded, codeOn, codeOff, codeUnfounded, codeSplit, codeEnd}
 use Rattle.meaning.proofs.Choice.{b-yes, b-no, lt-yes, lt-no, eq-yes, eq-no, eq-either}
-use Rattle.checker.specs.Steps.{Stepped, goes, parts, ends, fails, withRule, properList, withList, stepBy, stepOf}
+use Rattle.checker.specs.declared.step.Step.{Step}
+use Rattle.checker.specs.declared.step.Step.the-variants.{On, Off, Unfounded, Stops}
+use Rattle.checker.specs.declared.step.Stop.the-variants.{End, Split, Form, Fails}
+use Rattle.checker.specs.Steps.{Stepped, goes, ends, fails, withRule, properList, withList, stepBy, stepOf}
+use Rattle.checker.specs.Parts.{stepped, RuleWithin, StepWithin, Finds}
+use Rattle.checker.proofs.Lists.{part-is, proper-in-book}
+
+-- the rule of a step 41, 42 or 53 or of an unknown code, read: it is in the book, and the step ends before the witness
+pub record Ruled (b : Book) (s : List ℕ) (from at : ℕ) : Type 0 where
+  pub here : at < from
+  pub not-list : getD s at 0 ≡ codeUnfounded → ⊥
+  pub not-end : getD s at 0 ≡ codeEnd → ⊥
+  pub room : at + 1 < from
+  pub known : getD s (at + 1) 0 < count b
+
+-- a step that asks t of its rule, and is x if that holds
+pub record Asks (b : Book) (k : Claim) (s : List ℕ) (from at : ℕ) (c : Pair) (t : RuleNo → Bool) (x : RuleNo → Step) : Type 0 where
+  pub by : stepOf b k s from at c ≡ withRule b s from at (λ r. ifb (t r) (stepped s at c (x r)) (fails 25))
+  pub inside : {r : RuleNo} → RuleWithin b from at r → StepWithin b s from at (x r)
+
+-- the list of a step 55, read: its m bytes l end before the witness
+pub record Listed (s : List ℕ) (from at m : ℕ) (l : List ℕ) : Type 0 where
+  pub here : at < from
+  pub code : getD s at 0 ≡ codeUnfounded
+  pub counted : m ≡ getD s (at + 1) 0
+  pub some : 0 < m
+  pub room : at + 2 + m ≤ from
+  pub bytes : l ≡ take (at + 2 + m - (at + 2)) (drop (at + 2) s)
 
 module _ (b : Book) (k : Claim) (s : List ℕ) (from at : ℕ) (c : Pair) where
-  pub step-late : from ≤ at → stepOf b k s from at c ≡ fails 24
+  bad-form : stepOf b k s from at c ≡ fails 24 → Finds b k s from at c (Stops Form)
+  bad-form e = record { found = sym e; within = tt }
+
+  not-held : stepOf b k s from at c ≡ fails 25 → Finds b k s from at c (Stops Fails)
+  not-held e = record { found = sym e; within = tt }
+
+  pub step-late : from ≤ at → Finds b k s from at c (Stops Form)
   unfolding stepOf
-  step-late h = lt-no _ _ _ _ h
+  step-late h = bad-form (lt-no _ _ _ _ h)
 
   step-here : at < from → stepOf b k s from at c ≡ stepBy b k s from at c (getD s at 0)
   unfolding stepOf
@@ -37,11 +70,11 @@ module _ (b : Book) (k : Claim) (s : List ℕ) (from at : ℕ) (c : Pair) where
         ∙ eq-no _ _ _ _ (λ q. omega arith)
         ∙ eq-yes _ _ _ _ e
 
-    pub end-holds : ended b k c ≡ true → stepOf b k s from at c ≡ ends (at + 1)
-    end-holds t = end-step ∙ b-yes _ _ _ t
+    pub end-holds : ended b k c ≡ true → Finds b k s from at c (Stops End)
+    end-holds t = record { found = sym (end-step ∙ b-yes _ _ _ t); within = omega arith }
 
-    pub end-fails : ended b k c ≡ false → stepOf b k s from at c ≡ fails 25
-    end-fails t = end-step ∙ b-no _ _ _ t
+    pub end-fails : ended b k c ≡ false → Finds b k s from at c (Stops Fails)
+    end-fails t = not-held (end-step ∙ b-no _ _ _ t)
 
   -- ---- 41, 42, 53 and unknown codes
 
@@ -57,69 +90,59 @@ module _ (b : Book) (k : Claim) (s : List ℕ) (from at : ℕ) (c : Pair) where
         P : Stepped → Type 0
         P x = x ≡ fails 24
 
-    pub rule-late : from ≤ at + 1 → stepOf b k s from at c ≡ fails 24
+    pub rule-late : from ≤ at + 1 → Finds b k s from at c (Stops Form)
     unfolding withRule
-    rule-late g = rule-bad (λ f. lt-no _ _ _ _ g)
+    rule-late g = bad-form (rule-bad (λ f. lt-no _ _ _ _ g))
 
-    pub rule-out : at + 1 < from → count b ≤ getD s (at + 1) 0 → stepOf b k s from at c ≡ fails 24
+    pub rule-out : at + 1 < from → count b ≤ getD s (at + 1) 0 → Finds b k s from at c (Stops Form)
     unfolding withRule
-    rule-out g l = rule-bad (λ f. lt-yes _ _ _ _ g ∙ lt-no _ _ _ _ l)
+    rule-out g l = bad-form (rule-bad (λ f. lt-yes _ _ _ _ g ∙ lt-no _ _ _ _ l))
 
-    module _ (g : at + 1 < from) (l : getD s (at + 1) 0 < count b) where
-      rule-read : (f : RuleNo → Stepped) → withRule b s from at f ≡ f (ruleNo (getD s (at + 1) 0))
-      unfolding withRule
-      rule-read f = lt-yes _ _ _ _ g ∙ lt-yes _ _ _ _ l
+  module _ (p : Ruled b s from at) where
+    pub on-asks : getD s at 0 ≡ codeOn → Asks b k s from at c (mayOn b c) On
+    unfolding stepBy
+    on-asks e = record { by = step-here (p .here) ∙ eq-yes _ _ _ _ e; inside = λ w. w }
 
-      module _ (e : getD s at 0 ≡ codeOn) where
-        on-step : stepOf b k s from at c
-            ≡ ifb (mayOn b c (ruleNo (getD s (at + 1) 0))) (goes (at + 2) (put onSide (ruleNo (getD s (at + 1) 0) ∷ []) c)) (fails 25)
-        unfolding stepBy
-        on-step = step-here h ∙ eq-yes _ _ _ _ e ∙ rule-read _
+    pub off-asks : getD s at 0 ≡ codeOff → Asks b k s from at c (blocked b c) Off
+    unfolding stepBy
+    off-asks e = record {
+      by = step-here (p .here) ∙ eq-no _ _ _ _ (λ q. omega arith) ∙ eq-yes _ _ _ _ e;
+      inside = λ w. w;
+    }
 
-        pub on-holds : mayOn b c (ruleNo (getD s (at + 1) 0)) ≡ true
-            → stepOf b k s from at c ≡ goes (at + 2) (put onSide (ruleNo (getD s (at + 1) 0) ∷ []) c)
-        on-holds t = on-step ∙ b-yes _ _ _ t
-
-        pub on-fails : mayOn b c (ruleNo (getD s (at + 1) 0)) ≡ false → stepOf b k s from at c ≡ fails 25
-        on-fails t = on-step ∙ b-no _ _ _ t
-
-      module _ (e : getD s at 0 ≡ codeOff) where
-        off-step : stepOf b k s from at c
-            ≡ ifb (blocked b c (ruleNo (getD s (at + 1) 0))) (goes (at + 2) (put offSide (ruleNo (getD s (at + 1) 0) ∷ []) c)) (fails 25)
-        unfolding stepBy
-        off-step = step-here h ∙ eq-no _ _ _ _ (λ q. omega arith) ∙ eq-yes _ _ _ _ e ∙ rule-read _
-
-        pub off-holds : blocked b c (ruleNo (getD s (at + 1) 0)) ≡ true
-            → stepOf b k s from at c ≡ goes (at + 2) (put offSide (ruleNo (getD s (at + 1) 0) ∷ []) c)
-        off-holds t = off-step ∙ b-yes _ _ _ t
-
-        pub off-fails : blocked b c (ruleNo (getD s (at + 1) 0)) ≡ false → stepOf b k s from at c ≡ fails 25
-        off-fails t = off-step ∙ b-no _ _ _ t
-
-      module _ (e : getD s at 0 ≡ codeSplit) where
-        split-step : stepOf b k s from at c
-            ≡ ifb (uncoloured c (ruleNo (getD s (at + 1) 0))) (parts (at + 2) (ruleNo (getD s (at + 1) 0))) (fails 25)
-        unfolding stepBy
-        split-step =
-            step-here h
-            ∙ eq-no _ _ _ _ (λ q. omega arith)
-            ∙ eq-no _ _ _ _ (λ q. omega arith)
-            ∙ eq-no _ _ _ _ list
-            ∙ eq-yes _ _ _ _ e
-            ∙ rule-read _
-
-        pub split-holds : uncoloured c (ruleNo (getD s (at + 1) 0)) ≡ true
-            → stepOf b k s from at c ≡ parts (at + 2) (ruleNo (getD s (at + 1) 0))
-        split-holds t = split-step ∙ b-yes _ _ _ t
-
-        pub split-fails : uncoloured c (ruleNo (getD s (at + 1) 0)) ≡ false → stepOf b k s from at c ≡ fails 25
-        split-fails t = split-step ∙ b-no _ _ _ t
+    pub split-asks : getD s at 0 ≡ codeSplit → Asks b k s from at c (uncoloured c) (λ r. Stops (Split r))
+    unfolding stepBy
+    split-asks e = record {
+      by = step-here (p .here)
+          ∙ eq-no _ _ _ _ (λ q. omega arith)
+          ∙ eq-no _ _ _ _ (λ q. omega arith)
+          ∙ eq-no _ _ _ _ (p .not-list)
+          ∙ eq-yes _ _ _ _ e;
+      inside = λ w. w;
+    }
 
     pub code-unknown : (getD s at 0 ≡ codeOn → ⊥) → (getD s at 0 ≡ codeOff → ⊥) → (getD s at 0 ≡ codeSplit → ⊥)
-        → stepOf b k s from at c ≡ fails 24
+        → Finds b k s from at c (Stops Form)
     unfolding stepBy
-    code-unknown p q r =
-        step-here h ∙ eq-no _ _ _ _ p ∙ eq-no _ _ _ _ q ∙ eq-no _ _ _ _ list ∙ eq-no _ _ _ _ r ∙ eq-no _ _ _ _ last
+    code-unknown on off split =
+        bad-form (step-here (p .here) ∙ eq-no _ _ _ _ on ∙ eq-no _ _ _ _ off ∙ eq-no _ _ _ _ (p .not-list) ∙ eq-no _ _ _ _ split
+        ∙ eq-no _ _ _ _ (p .not-end))
+
+    rule-read : (f : RuleNo → Stepped) → withRule b s from at f ≡ f (ruleNo (getD s (at + 1) 0))
+    unfolding withRule
+    rule-read f = lt-yes _ _ _ _ (p .room) ∙ lt-yes _ _ _ _ (p .known)
+
+    -- v is what the code found of the rule
+    module _ {t : RuleNo → Bool} {x : RuleNo → Step} (a : Asks b k s from at c t x) (v : Bool) (q : v ≡ t (ruleNo (getD s (at + 1) 0)))
+      where
+        pub rule-holds : v ≡ true → Finds b k s from at c (x (ruleNo (getD s (at + 1) 0)))
+        rule-holds e = record {
+          found = sym (a .by ∙ rule-read _ ∙ b-yes _ _ _ (sym q ∙ e));
+          within = a .inside (p .known, omega (arith, p .room));
+        }
+
+        pub rule-fails : v ≡ false → Finds b k s from at c (Stops Fails)
+        rule-fails e = not-held (a .by ∙ rule-read _ ∙ b-no _ _ _ (sym q ∙ e))
 
   -- ---- 55
 
@@ -132,8 +155,8 @@ module _ (b : Book) (k : Claim) (s : List ℕ) (from at : ℕ) (c : Pair) where
     unfolding stepBy
     list-step = step-here h ∙ eq-no _ _ _ _ (λ q. omega arith) ∙ eq-no _ _ _ _ (λ q. omega arith) ∙ eq-yes _ _ _ _ e
 
-    pub list-late : from ≤ at + 1 → stepOf b k s from at c ≡ fails 24
-    list-late g = list-step ∙ lt-no _ _ _ _ g
+    pub list-late : from ≤ at + 1 → Finds b k s from at c (Stops Form)
+    list-late g = bad-form (list-step ∙ lt-no _ _ _ _ g)
 
     -- m is the list's length, as the code has it
     module _ (g : at + 1 < from) (m : ℕ) (q : m ≡ getD s (at + 1) 0) where
@@ -141,29 +164,36 @@ module _ (b : Book) (k : Claim) (s : List ℕ) (from at : ℕ) (c : Pair) where
           ≡ withList b s from at m (λ w. ifb (unfounded b (c .off) w) (goes (at + 2 + m) (put offSide w c)) (fails 25))
       list-read = list-step ∙ lt-yes _ _ _ _ g ∙ rw q
 
-      pub list-empty : m ≡ 0 → stepOf b k s from at c ≡ fails 24
+      pub list-empty : m ≡ 0 → Finds b k s from at c (Stops Form)
       unfolding withList
-      list-empty z = list-read ∙ lt-no _ _ _ _ (omega arith)
+      list-empty z = bad-form (list-read ∙ lt-no _ _ _ _ (omega arith))
 
-      module _ (z : m ≡ 0 → ⊥) where
-        pub list-long : from < at + 2 + m → stepOf b k s from at c ≡ fails 24
-        unfolding withList
-        list-long l = list-read ∙ lt-yes _ _ _ _ (omega arith) ∙ lt-yes _ _ _ _ l
+      pub list-long : 0 < m → from < at + 2 + m → Finds b k s from at c (Stops Form)
+      unfolding withList
+      list-long z l = bad-form (list-read ∙ lt-yes _ _ _ _ z ∙ lt-yes _ _ _ _ l)
 
-        module _ (l : at + 2 + m ≤ from) where
-          list-open : stepOf b k s from at c ≡ ifb (properList b (take m (drop (at + 2) s)))
-              (ifb (unfounded b (c .off) (map ruleNo (take m (drop (at + 2) s))))
-              (goes (at + 2 + m) (put offSide (map ruleNo (take m (drop (at + 2) s))) c)) (fails 25)) (fails 24)
-          unfolding withList
-          list-open = list-read ∙ lt-yes _ _ _ _ (omega arith) ∙ lt-no _ _ _ _ l
+  module _ (m : ℕ) (l : List ℕ) (p : Listed s from at m l) where
+    list-is : l ≡ take m (drop (at + 2) s)
+    list-is = p .bytes ∙ part-is s (at + 2) m
 
-          pub list-bad : properList b (take m (drop (at + 2) s)) ≡ false → stepOf b k s from at c ≡ fails 24
-          list-bad p = list-open ∙ b-no _ _ _ p
+    list-open : stepOf b k s from at c
+        ≡ ifb (properList b l) (ifb (unfounded b (c .off) (map ruleNo l)) (goes (at + 2 + m) (put offSide (map ruleNo l) c)) (fails 25))
+        (fails 24)
+    unfolding withList
+    list-open =
+        list-read (p .here) (p .code) (omega (arith, p .room, p .some)) m (p .counted) ∙ lt-yes _ _ _ _ (p .some)
+        ∙ lt-no _ _ _ _ (p .room) ∙ rw list-is
 
-          module _ (p : properList b (take m (drop (at + 2) s)) ≡ true) where
-            pub list-holds : unfounded b (c .off) (map ruleNo (take m (drop (at + 2) s))) ≡ true
-                → stepOf b k s from at c ≡ goes (at + 2 + m) (put offSide (map ruleNo (take m (drop (at + 2) s))) c)
-            list-holds t = list-open ∙ b-yes _ _ _ p ∙ b-yes _ _ _ t
+    pub list-bad : properList b l ≡ false → Finds b k s from at c (Stops Form)
+    list-bad e = bad-form (list-open ∙ b-no _ _ _ e)
 
-            pub list-fails : unfounded b (c .off) (map ruleNo (take m (drop (at + 2) s))) ≡ false → stepOf b k s from at c ≡ fails 25
-            list-fails t = list-open ∙ b-yes _ _ _ p ∙ b-no _ _ _ t
+    -- v is what the code found of the list
+    module _ (e : properList b l ≡ true) (v : Bool) (q : v ≡ unfounded b (c .off) (map ruleNo l)) where
+      pub list-holds : v ≡ true → Finds b k s from at c (Unfounded m)
+      list-holds t = record {
+        found = rw (← list-is) (sym (list-open ∙ b-yes _ _ _ e ∙ b-yes _ _ _ (sym q ∙ t)));
+        within = (p .room, rw (← list-is) (proper-in-book b l e));
+      }
+
+      pub list-fails : v ≡ false → Finds b k s from at c (Stops Fails)
+      list-fails t = not-held (list-open ∙ b-yes _ _ _ e ∙ b-no _ _ _ (sym q ∙ t))

@@ -3,7 +3,7 @@
 use mathlib.Core.Path.{_≡_, sym, _∙_, ap, subst}
 use mathlib.Core.Bool.{Bool}
 use mathlib.Core.List.{List, map}
-use Prim.Native.Nat.{ℕ, _+_, _-_, _≤_}
+use Prim.Native.Nat.{ℕ, _+_, _-_, _≤_, _<_}
 use native.Mathlib.Omega.{arith}
 use lib.ListN.{length, take, drop, length-set}
 use Rattle.meaning.specs.declared.RuleNo.{RuleNo}
@@ -15,36 +15,24 @@ use Rattle.meaning.specs.Written.{of, colourOn, colourOff, pair}
 use Rattle.meaning.proofs.Written.{pair-on, pair-off}
 use Rattle.book.specs.Tables.{Below}
 use Rattle.checker.specs.declared.step.Step.{Step}
-use Rattle.checker.specs.declared.step.Step.the-variants.{On, Off, Unfounded, Stops}
-use Rattle.checker.specs.declared.step.Stop.{Stop}
+use Rattle.checker.specs.declared.step.Step.the-variants.{On, Off, Unfounded}
 use Rattle.checker.specs.Steps.{goes, stepOf}
-use Rattle.checker.specs.Parts.{stepped, stoppedBy, RuleWithin, StopWithin, StepWithin, Finds, Leads}
+use Rattle.checker.specs.Parts.{stepped, StepWithin, Finds, Leads}
 use Rattle.checker.specs.Parts.Leads.{further}
 use Rattle.checker.proofs.Lists.{part-is}
 
 -- ---- what was found
 
 module _ {b : Book} {k : Claim} {s : List ℕ} {from at : ℕ} {c : Pair} {x : Step} (f : Finds b k s from at c x) where
-  pub found-on : {r : RuleNo} → x ≡ On r → RuleWithin b from at r
-  found-on e = subst (StepWithin b s from at) e (f .within)
+  pub found-by : {y : Step} → x ≡ y → StepWithin b s from at y
+  found-by e = subst (StepWithin b s from at) e (f .within)
 
-  pub found-off : {r : RuleNo} → x ≡ Off r → RuleWithin b from at r
-  found-off e = subst (StepWithin b s from at) e (f .within)
+  pub step-is : {y : Step} → x ≡ y → stepOf b k s from at c ≡ stepped s at c y
+  step-is e = sym (f .found) ∙ ap (stepped s at c) e
 
-  pub found-list : {m : ℕ} → x ≡ Unfounded m → (at + 2 + m ≤ from) × Below (count b) (take m (drop (at + 2) s))
-  found-list e = subst (StepWithin b s from at) e (f .within)
-
-  pub found-few : {m : ℕ} → x ≡ Unfounded m → count b ≤ 255 → Below 255 (take (at + 2 + m - (at + 2)) (drop (at + 2) s))
-  found-few {m} e h = rw (part-is s (at + 2) m) (record { at = λ i g. let z = found-list e .1 .at i g in omega arith })
-
-  pub found-stop : {y : Stop} → x ≡ Stops y → StopWithin b from at y
-  found-stop e = subst (StepWithin b s from at) e (f .within)
-
-  step-is : (y : Step) → x ≡ y → stepOf b k s from at c ≡ stepped s at c y
-  step-is y e = sym (f .found) ∙ ap (stepped s at c) e
-
-  pub stops-by : (y : Stop) → x ≡ Stops y → stepOf b k s from at c ≡ stoppedBy at y
-  stops-by y e = step-is (Stops y) e
+  -- the rules of a list, as the code has its bytes
+  pub list-small : {m : ℕ} → x ≡ Unfounded m → count b ≤ 255 → Below 255 (take (at + 2 + m - (at + 2)) (drop (at + 2) s))
+  list-small {m} e h = rw (part-is s (at + 2) m) (record { at = λ i g. let z = found-by e .1 .at i g in omega arith })
 
 -- ---- the colouring at byte i, to which the steps have led
 
@@ -55,36 +43,28 @@ pub record Led (b : Book) (k : Claim) (s : List ℕ) (from at : ℕ) (c : Pair) 
 
 module _ {b : Book} {k : Claim} {s : List ℕ} {from at : ℕ} {c : Pair} {i : ℕ} {d : Colouring} (l : Led b k s from at c i d)
     (small : count b ≤ 255) (x : Step) (f : Finds b k s from i (pair d) x) where
+  -- a step that goes on leads on, to the colouring of its pair
+  led-by : {y : Step} (j : ℕ) (n : Colouring) → x ≡ y → stepped s i (pair d) y ≡ goes j (pair n) → i < j → j ≤ from
+      → length (n .on) ≡ 255 → length (n .off) ≡ 255 → Led b k s from at c j n
+  led-by j n e q h g on off = record { leads = further {j = j} (l .leads) h g (step-is f e ∙ q); on-long = on; off-long = off }
+
   pub led-on : (r : RuleNo) → x ≡ On r → Led b k s from at c (i + 2) (colourOn r d)
   led-on r e =
-      let (h, g) = found-on f e in
+      let (h, g) = found-by f e in
       let q = pair-on d r (omega (arith, l .on-long)) in
-      record {
-        leads = further {j = i + 2} (l .leads) (omega arith) g (step-is f (On r) e ∙ ap (goes (i + 2)) (sym q));
-        on-long = simp length-set (l .on-long);
-        off-long = l .off-long;
-      }
+      led-by (i + 2) _ e (ap (goes (i + 2)) (sym q)) (omega arith) g (simp length-set (l .on-long)) (l .off-long)
 
   pub led-off : (r : RuleNo) → x ≡ Off r → Led b k s from at c (i + 2) (colourOff r d)
   led-off r e =
-      let (h, g) = found-off f e in
+      let (h, g) = found-by f e in
       let q = pair-off d r (omega (arith, l .off-long)) in
-      record {
-        leads = further {j = i + 2} (l .leads) (omega arith) g (step-is f (Off r) e ∙ ap (goes (i + 2)) (sym q));
-        on-long = l .on-long;
-        off-long = simp length-set (l .off-long);
-      }
+      led-by (i + 2) _ e (ap (goes (i + 2)) (sym q)) (omega arith) g (l .on-long) (simp length-set (l .off-long))
 
   pub led-list : (m : ℕ) (off : List Bool) → x ≡ Unfounded m → length off ≡ 255
       → of off ≡ plus (of (d .off)) (map ruleNo (take (i + 2 + m - (i + 2)) (drop (i + 2) s)))
       → Led b k s from at c (i + 2 + m) (record { on = d .on; off = off; marks = d .marks })
   unfolding put
   led-list m off e long q =
-      let (h, g) = found-list f e in
+      let (h, g) = found-by f e in
       let z : of off ≡ plus (of (d .off)) (map ruleNo (take m (drop (i + 2) s))) = rw (part-is s (i + 2) m) at q in
-      record {
-        leads = further {j = i + 2 + m} (l .leads) (omega arith) h
-            (step-is f (Unfounded m) e ∙ ap (goes (i + 2 + m)) (λ j. record { on = of (d .on); off = sym z j }));
-        on-long = l .on-long;
-        off-long = long;
-      }
+      led-by (i + 2 + m) _ e (ap (goes (i + 2 + m)) (λ j. record { on = of (d .on); off = sym z j })) (omega arith) h (l .on-long) long

@@ -31,6 +31,9 @@ use Rattle.book.proofs.Asked.{every-table}
 use Rattle.book.specs.declared.reader.Shape.{Shape}
 use Rattle.book.specs.Format.{bookIn, ReadAs}
 use Rattle.book.proofs.Places.{in-shape}
+use Rattle.checker.specs.declared.witness.Verdict.{Verdict}
+use Rattle.checker.specs.declared.witness.Verdict.the-variants.{Right, Wrong}
+use Rattle.checker.specs.Parts.{verdict}
 use Rattle.checker.specs.Witness.{fine, wrong, andThen, follows, orderOf, blockedOf, restFails, listOf, witnessVerdict}
 use Rattle.checker.proofs.Lists.{part-is, below-rest}
 use Rattle.checker.proofs.Conditions.{positive-every, negative-some}
@@ -224,50 +227,57 @@ module _ (b : Book) (s : List ℕ) (from w : ℕ) (l : List ℕ) (part : l ≡ t
   unfolding witnessVerdict
   listed-part = rw (part, part-is s from w)
 
-  pub witness-order : (at : ℕ) → orderOf b from [] l ≡ wrong at → witnessVerdict b s from w ≡ wrong at
+  pub finds-order : (v : Verdict) → verdict v ≡ orderOf b from [] l → (at : ℕ) → v ≡ Wrong at → wrong at ≡ witnessVerdict b s from w
   unfolding listOf andThen
-  witness-order at o = listed-part ∙ rw o
+  finds-order v o at e = sym (listed-part ∙ rw (← o, e))
 
-  module _ (o : orderOf b from [] l ≡ fine) where
-    witness-blocked : (at : ℕ) → blockedOf b (heads b (among (map ruleNo l))) from l ≡ wrong at → witnessVerdict b s from w ≡ wrong at
-    unfolding listOf andThen
-    witness-blocked at u = listed-part ∙ rw (o, u)
+-- the witness whose order is right, and the tables that the code makes then: of the listed rules, and of their heads
+pub record Tabled (s : List ℕ) (h : Shape) (paper : List ℕ) (from w : ℕ) (l : List ℕ) (listed headed : List Bool) : Type 0 where
+  pub read : ReadAs s h
+  pub small : h .atoms < 256
+  pub part : l ≡ take (from + w - from) (drop from paper)
+  pub order : orderOf (bookIn s) from [] l ≡ fine
+  pub rules : of listed ≡ plus (of (replicate 255 false)) (map ruleNo l)
+  pub table : headed ≡ atomTable (heads (bookIn s) (of listed))
 
-    witness-last : blockedOf b (heads b (among (map ruleNo l))) from l ≡ fine
-        → witnessVerdict b s from w ≡ ifb (restFails b (heads b (among (map ruleNo l))) (map ruleNo l)) fine (wrong (length s - 6))
-    unfolding listOf andThen
-    witness-last u = listed-part ∙ rw (o, u)
-
--- the book, the witness whose order is right, and the tables that the code makes then: of the listed rules, and of their heads
-module _ (s : List ℕ) (h : Shape) (e : ReadAs s h) (n : h .atoms < 256) (paper : List ℕ) (from w : ℕ) (l : List ℕ)
-    (part : l ≡ take (from + w - from) (drop from paper)) (o : orderOf (bookIn s) from [] l ≡ fine) (listed headed : List Bool)
-    (p : of listed ≡ plus (of (replicate 255 false)) (map ruleNo l)) (q : headed ≡ atomTable (heads (bookIn s) (of listed))) where
+module _ {s : List ℕ} {h : Shape} {paper : List ℕ} {from w : ℕ} {l : List ℕ} {listed headed : List Bool}
+    (t : Tabled s h paper from w l listed headed) where
   listed-is : of listed ≡ among (map ruleNo l)
-  listed-is = p ∙ fun-ext (λ r. ap (λ t. t || among (map ruleNo l) r) (of-none 255 r))
+  listed-is = t .rules ∙ fun-ext (λ r. ap (λ x. x || among (map ruleNo l) r) (of-none 255 r))
 
   headed-is : headed ≡ atomTable (heads (bookIn s) (among (map ruleNo l)))
-  headed-is = q ∙ ap (λ (t : Rules). atomTable (heads (bookIn s) t)) listed-is
+  headed-is = t .table ∙ ap (λ (x : Rules). atomTable (heads (bookIn s) x)) listed-is
 
   blocked-is : blockedOf (bookIn s) (atomsIn headed) from l ≡ blockedOf (bookIn s) (heads (bookIn s) (among (map ruleNo l))) from l
   blocked-is = blocked-same (bookIn s) (count (bookIn s)) _ _
-      (λ r g. negative-some s h e n r (in-shape s h e r g) _ headed headed-is) from l (order-below (bookIn s) from l o)
+      (λ r g. negative-some s h (t .read) (t .small) r (in-shape s h (t .read) r g) _ headed headed-is) from l
+      (order-below (bookIn s) from l (t .order))
 
   rest-is : everyRule (bookIn s) (λ r. of listed r || fails (atomsIn headed) (rule (bookIn s) r))
       ≡ restFails (bookIn s) (heads (bookIn s) (among (map ruleNo l))) (map ruleNo l)
   unfolding restFails
-  rest-is = rest-same (bookIn s) _ _ (λ r g. let k = in-shape s h e r g in
-      ap (λ (t : Rules). t r || fails (atomsIn headed) (rule (bookIn s) r)) listed-is
-      ∙ ap (λ t. among (map ruleNo l) r || t) (fails-same _ _ _ (positive-every s h e n r k _ headed headed-is)
-      (negative-some s h e n r k _ headed headed-is)))
+  rest-is = rest-same (bookIn s) _ _ (λ r g. let k = in-shape s h (t .read) r g in
+      ap (λ (x : Rules). x r || fails (atomsIn headed) (rule (bookIn s) r)) listed-is
+      ∙ ap (λ x. among (map ruleNo l) r || x) (fails-same _ _ _ (positive-every s h (t .read) (t .small) r k _ headed headed-is)
+      (negative-some s h (t .read) (t .small) r k _ headed headed-is)))
 
-  pub finds-blocked : (at : ℕ) → blockedOf (bookIn s) (atomsIn headed) from l ≡ wrong at → witnessVerdict (bookIn s) paper from w ≡ wrong at
-  finds-blocked at u = witness-blocked (bookIn s) paper from w l part o at (sym blocked-is ∙ u)
+  -- the two passes that are left, by the tables
+  passes : witnessVerdict (bookIn s) paper from w ≡ andThen (blockedOf (bookIn s) (atomsIn headed) from l)
+      (ifb (everyRule (bookIn s) (λ r. of listed r || fails (atomsIn headed) (rule (bookIn s) r))) fine (wrong (length paper - 6)))
+  unfolding listOf andThen
+  passes = listed-part _ _ _ _ _ (t .part) ∙ rw (t .order, blocked-is, rest-is)
 
-  module _ (u : blockedOf (bookIn s) (atomsIn headed) from l ≡ fine) where
-    pub finds-rest : everyRule (bookIn s) (λ r. of listed r || fails (atomsIn headed) (rule (bookIn s) r)) ≡ false
-        → witnessVerdict (bookIn s) paper from w ≡ wrong (length paper - 6)
-    finds-rest t = witness-last (bookIn s) paper from w l part o (sym blocked-is ∙ u) ∙ b-no _ _ _ (sym rest-is ∙ t)
+  module _ (v : Verdict) (p : verdict v ≡ blockedOf (bookIn s) (atomsIn headed) from l) where
+    pub finds-blocked : (at : ℕ) → v ≡ Wrong at → wrong at ≡ witnessVerdict (bookIn s) paper from w
+    unfolding andThen
+    finds-blocked at e = sym (passes ∙ rw (← p, e))
 
-    pub finds-right : everyRule (bookIn s) (λ r. of listed r || fails (atomsIn headed) (rule (bookIn s) r)) ≡ true
-        → witnessVerdict (bookIn s) paper from w ≡ fine
-    finds-right t = witness-last (bookIn s) paper from w l part o (sym blocked-is ∙ u) ∙ b-yes _ _ _ (sym rest-is ∙ t)
+    module _ (e : v ≡ Right) (f : Bool)
+        (q : f ≡ everyRule (bookIn s) (λ r. of listed r || fails (atomsIn headed) (rule (bookIn s) r))) where
+      pub finds-rest : f ≡ false → wrong (length paper - 6) ≡ witnessVerdict (bookIn s) paper from w
+      unfolding andThen
+      finds-rest z = sym (passes ∙ rw (← p, e) (b-no _ _ _ (sym q ∙ z)))
+
+      pub finds-right : f ≡ true → fine ≡ witnessVerdict (bookIn s) paper from w
+      unfolding andThen
+      finds-right z = sym (passes ∙ rw (← p, e) (b-yes _ _ _ (sym q ∙ z)))

@@ -44,19 +44,25 @@ atoms-holds c = (search needs, refl, refl)
 loop-holds : tie.Need-loop-holds Inv-loop μ-loop Inv-atoms μ-atoms
 loop-holds c = (search needs, all-at-none _ _ 0 _)
 
+-- a turn of the inner search: that of the outer one, and the start
+module _ (l : tie.At-loop Inv-loop μ-loop Inv-atoms μ-atoms) where
+  abbrev outer : tie.At-atoms Inv-loop μ-loop Inv-atoms μ-atoms
+  outer = l .before .before .before
+
+  abbrev start : tie.Start Inv-loop μ-loop Inv-atoms μ-atoms
+  start = outer .before .before .before
+
 atoms-again : tie.Need-atoms-again Inv-loop μ-loop Inv-atoms μ-atoms
 atoms-again c =
-    let k = c .before .before .before .before .before .before .before .before .before .before .before in
-    let s = k .before .before .before in
-    let n = shape-count _ (s .args .shape) (s .pre .0) in
-    let e = not-all-in (bookIn (s .args .book .now)) (of (s .args .off .now))
-    (c .before .before .before .before .before .before .before .before .loop .q) _ _ (omega arith)
-    (c .before .before .head .ensures) (c .if3 .taken)
-    (of-place _ _ _ _ (c .before .before .before .before .before .wide .ensures .0)
-    (not-true _ (c .before .before .before .if2 .taken))) in (
+    let t = c .before .before .before in
+    let w = t .before .before in
+    let l = w .before .before .before in
+    let k = outer l in
+    let n = shape-count _ (start l .args .shape) (start l .pre .0) in
+    let e = not-all-in (bookIn (start l .args .book .now)) (of (start l .args .off .now)) (l .loop .q) _ _ (omega arith)
+    (c .before .before .head .ensures) (c .if3 .taken) (of-place _ _ _ _ (w .wide .ensures .0) (not-true _ (t .if2 .taken))) in (
       search needs,
-      k .atoms .inv .1 ∙ some-turn _ (k .before .positives .result .now) (k .atoms .i) (omega arith)
-          ∙ rw e,
+      k .atoms .inv .1 ∙ some-turn _ (k .before .positives .result .now) (k .atoms .i) (omega arith) ∙ rw e,
       k .atoms .inv .2,
     )
 

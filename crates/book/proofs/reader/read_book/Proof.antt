@@ -5,7 +5,7 @@ use borrow.Author.Needs.{needs}
 use Rattle.meaning.proofs.Choice.{lt-yes, lt-no, eq-yes, eq-no}
 use Rattle.book.specs.Checks.{checked}
 use Rattle.book.specs.Format.{bodyOf, readOf}
-use Rattle.book.proofs.Turns.{told-bad, read-wrong, read-fine}
+use Rattle.book.proofs.Turns.{told-bad, Framed, read-wrong, read-fine}
 use Rattle.book.proofs.reader.read_book.Statement.{statement}
 use Rattle.book.proofs.reader.read_book.Tie as tie
 
@@ -36,23 +36,37 @@ returns-5 c =
     (lt-no _ _ _ _ (omega arith) ∙ lt-no _ _ _ _ (omega arith) ∙ eq-yes _ _ _ _ (omega arith)
     ∙ eq-yes _ _ _ _ (omega arith) ∙ eq-no _ _ _ _ (λ e. omega arith))
 
+-- ---- the records are found, behind a length, a mark and a trailer that are right
+
+module _ (c : tie.After-check-records) where
+  abbrev trailer : tie.After-u16-at
+  trailer = c .before .before
+
+  abbrev marked : tie.Else4
+  marked = trailer .before .before .before .before
+
+  abbrev start : tie.Start
+  start = marked .before .before .before .before .before .before .before
+
+  framed : Framed (start .args .book .now) (trailer .before .wide .result) (trailer .u16-at .result)
+  framed = record {
+    count = trailer .before .wide .ensures .0;
+    start = trailer .u16-at .ensures .0;
+    least = omega arith;
+    most = omega arith;
+    first = omega arith;
+    second = omega arith;
+    fills = omega arith;
+  }
+
 returns-6 : tie.Need-returns-6
 returns-6 c =
-    let k = c .before .before .before in
-    read-wrong
-    (k .before .before .before .before .before .before .before .before .before .before .before .before .before .args .book .now)
-    _ _ (k .before .before .before .wide .ensures .0) (k .before .before .u16-at .ensures .0) (omega arith)
-    (omega arith) (omega arith) (omega arith) (omega arith) _ (k .check-records .ensures) _ _
-    (ap checked (c .before .why .given .1))
+    let p = c .before .before .before in
+    read-wrong (framed p) _ (p .check-records .ensures) _ _ (ap checked (c .before .why .given .1))
 
 returns-7 : tie.Need-returns-7
 returns-7 c =
-    let k = c .before .before in
-    read-fine
-    (k .before .before .before .before .before .before .before .before .before .before .before .before .before .args .book .now)
-    _ _ (k .before .before .before .wide .ensures .0) (k .before .before .u16-at .ensures .0) (omega arith)
-    (omega arith) (omega arith) (omega arith) (omega arith) _ (k .check-records .ensures)
-    (ap checked (c .enum-told .given .1))
+    let p = c .before .before in read-fine (framed p) _ (p .check-records .ensures) (ap checked (c .enum-told .given .1))
 
 pub read-book-spec : {M : Type 1} → statement M
 read-book-spec =

@@ -1,10 +1,10 @@
 -- The check of a record: each way out is one choice of the definition, in its order.
-use mathlib.Core.Path.{ap, sym, _∙_}
+use mathlib.Core.Path.{_≡_, ap, sym, _∙_}
 use native.Mathlib.Omega.{arith}
 use borrow.Author.Needs.{needs}
 use Rattle.meaning.proofs.Choice.{lt-yes, lt-no}
 use Rattle.book.specs.Checks.{checked}
-use Rattle.book.specs.Format.{recordOf}
+use Rattle.book.specs.Format.{bytesOf, recordOf}
 use Rattle.book.proofs.Turns.{record-bytes, bytes-head, bytes-parts, after-wrong, after-fine}
 use Rattle.book.proofs.record.check_record.Statement.{statement}
 use Rattle.book.proofs.record.check_record.Tie as tie
@@ -28,30 +28,39 @@ returns-4 c =
     (lt-no _ _ _ _ (omega arith) ∙ lt-no _ _ _ _ (omega arith) ∙ lt-no _ _ _ _ (omega arith)
     ∙ lt-yes _ _ _ _ (omega arith))
 
+-- ---- the record has room, so its bytes decide
+
+module _ (c : tie.Else4) where
+  abbrev counts : tie.After-wide2
+  counts = c .before .before .before
+
+  abbrev start : tie.Start
+  start = counts .before .before .before .before .before .before
+
+  bytes : let s = start .args in
+      recordOf (s .atoms) (s .at) (s .part .now)
+      ≡ bytesOf (s .atoms) (s .at) (s .part .now) (counts .before .before .wide .result) (counts .wide2 .result)
+  bytes =
+      record-bytes _ _ _ _ _ (counts .before .before .wide .ensures .0) (counts .wide2 .ensures .0) (omega arith) (omega arith)
+      (omega arith) (omega arith)
+
 returns-5 : tie.Need-returns-5
-returns-5 c =
-    let k = c .before .before .before .before .before in
-    sym
-    (record-bytes _ _ _ _ _ (k .before .before .wide .ensures .0) (k .wide2 .ensures .0) (omega arith) (omega arith)
-    (omega arith) (omega arith) ∙ bytes-head _ _ _ _ _ (omega arith))
+returns-5 c = sym (bytes (c .before .before) ∙ bytes-head _ _ _ _ _ (omega arith))
 
 returns-6 : tie.Need-returns-6
 returns-6 c =
-    let k = c .before .before .before .before .before .before .before .before .before .before in
+    let p = c .before .before .before in
     sym
-    (record-bytes _ _ _ _ _ (k .before .before .wide .ensures .0) (k .wide2 .ensures .0) (omega arith) (omega arith)
-    (omega arith) (omega arith) ∙ bytes-parts _ _ _ _ _ (omega arith)
-    ∙ after-wrong _ _ _ (c .before .before .before .check-part .ensures) _ _ (ap checked (c .before .why .given .1)))
+    (bytes (p .before .before .before .before) ∙ bytes-parts _ _ _ _ _ (omega arith)
+    ∙ after-wrong _ _ _ (p .check-part .ensures) _ _ (ap checked (c .before .why .given .1)))
 
 returns-7 : tie.Need-returns-7
 returns-7 c =
-    let k = c .before .before .before .before .before .before .before .before .before .before .before in
+    let p = c .before .before .before .before in
     c .check-part2 .ensures
     ∙ sym
-    (record-bytes _ _ _ _ _ (k .before .before .wide .ensures .0) (k .wide2 .ensures .0) (omega arith) (omega arith)
-    (omega arith) (omega arith) ∙ bytes-parts _ _ _ _ _ (omega arith)
-    ∙ after-fine _ _ _ (c .before .before .before .before .check-part .ensures)
-    (ap checked (c .before .before .enum-told .given .1)))
+    (bytes (p .before .before .before .before) ∙ bytes-parts _ _ _ _ _ (omega arith)
+    ∙ after-fine _ _ _ (p .check-part .ensures) (ap checked (c .before .before .enum-told .given .1)))
 
 pub check-record-spec : {M : Type 1} → statement M
 check-record-spec =

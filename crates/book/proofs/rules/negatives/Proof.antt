@@ -7,10 +7,10 @@ use Rattle.book.proofs.rules.negatives.Tie as tie
 
 returns : tie.Need-returns
 returns c =
-    let p = c .before .before .before .before .before .start-of in
-    let q = c .before .before .before .wide in
-    part-taken (c .before .before .before .before .before .before .before .args .book .now)
-    (p .result + 3 + q .result) _ _ _ (c .before .wide2 .ensures .0) (rw (← q .ensures .0) at (p .ensures .neg))
+    let w = c .before .before .before in
+    let p = w .before .before in
+    part-taken (p .before .before .args .book .now) (p .start-of .result + 3 + w .wide .result) _ _ _ (c .before .wide2 .ensures .0)
+    (rw (← w .wide .ensures .0) at (p .start-of .ensures .neg))
 
 pub negatives-spec : {M : Type 1} → statement M
 negatives-spec =

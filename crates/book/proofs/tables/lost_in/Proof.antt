@@ -5,12 +5,13 @@ use Prim.Native.Nat.{_-_, _≤_, _<_}
 use native.Mathlib.Omega.{arith}
 use borrow.Author.Needs.{needs}
 use borrow.Author.Tests.{not-true, not-false}
-use Rattle.meaning.specs.Books.{ruleNo}
+use Rattle.meaning.specs.declared.AtomNo.{AtomNo}
+use Rattle.meaning.specs.Books.{ruleNo, rule}
 use Rattle.meaning.specs.Written.{of}
 use Rattle.book.specs.Format.{bookIn}
 use Rattle.book.specs.Tables.{atomTable}
 use Rattle.book.proofs.AtomSets.{of-place, allTo, all-none, all-skip, all-store, all-end}
-use Rattle.book.proofs.Places.{head-below, shape-count}
+use Rattle.book.proofs.Places.{head-small, shape-count}
 use Rattle.book.proofs.tables.lost_in.Statement.{statement}
 use Rattle.book.proofs.tables.lost_in.Tie as tie
 
@@ -23,28 +24,29 @@ abbrev μ-loop : tie.MeasureT-loop
 loop-holds : tie.Need-loop-holds Inv-loop μ-loop
 loop-holds c = (search needs, all-none _ _)
 
+-- rule r is looked up in the set: the turn of the loop, the start, and that the rule's head has a place in the table
+module _ (c : tie.After-wide Inv-loop μ-loop) where
+  abbrev turn : tie.At-loop Inv-loop μ-loop
+  turn = c .before .before .before
+
+  abbrev start : tie.Start Inv-loop μ-loop
+  start = turn .before .before .before
+
+  small : (a : AtomNo) → a ≡ rule (bookIn (start .args .book .now)) (ruleNo (turn .loop .r)) .head → a .0 < 255
+  small a e = head-small _ (start .args .shape) (start .pre) (ruleNo (turn .loop .r)) (omega arith) (search needs) a e
+
 element-write-out : tie.Need-element-write-out Inv-loop μ-loop
-element-write-out c =
-    let k = c .before .before .before .before .before .before .before in
-    let s = k .before .before .before in
-    let b : s .args .shape .atoms < 256 = search needs in
-    let f = head-below _ (s .args .shape) (s .pre) (ruleNo (k .loop .r)) (omega arith) _ (c .before .head .ensures) in
-    search needs
+element-write-out c = let h = small (c .before .before .before .before) _ (c .before .head .ensures) in search needs
 
 loop-again : tie.Need-loop-again Inv-loop μ-loop
 loop-again c =
-    let k = c .before .before .before .before .before in
-    let s = k .before .before .before in
-    let b : s .args .shape .atoms < 256 = search needs in (
+    let p = c .before .before in (
       search needs,
       ⊎-elim
           (λ w. w .3
-          ∙ all-store _ _ _ _ (w .1 .ensures)
-          (omega (arith, head-below _ (s .args .shape) (s .pre) (ruleNo (k .loop .r)) (omega arith) _ (w .1 .ensures)))
-          (of-place _ _ _ _ (c .before .before .wide .ensures .0) (not-true _ (w .0 .taken))) _ _ (k .loop .inv .1)
-          (w .2 .ensures .0))
-          (λ w. w .1 ∙ k .loop .inv .1
-          ∙ all-skip _ _ _ (of-place _ _ _ _ (c .before .before .wide .ensures .0) (not-false _ (w .0 .left))))
+          ∙ all-store _ _ _ _ (w .1 .ensures) (small p _ (w .1 .ensures))
+          (of-place _ _ _ _ (p .wide .ensures .0) (not-true _ (w .0 .taken))) _ _ (turn p .loop .inv .1) (w .2 .ensures .0))
+          (λ w. w .1 ∙ turn p .loop .inv .1 ∙ all-skip _ _ _ (of-place _ _ _ _ (p .wide .ensures .0) (not-false _ (w .0 .left))))
           (c .if2 .came),
     )
 

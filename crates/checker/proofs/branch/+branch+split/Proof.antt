@@ -2,14 +2,17 @@
 -- The bytes left fall round the cycle.
 use borrow.Author.Needs.{needs}
 use native.Mathlib.Omega.{arith}
-use Prim.Native.Nat.{ℕ, _+_, _-_, _<_}
-use lib.ListN.{length}
-use mathlib.Core.Path.{_≡_}
+use Prim.Native.Nat.{ℕ, _+_, _-_, _≤_, _<_}
+use mathlib.Core.Path.{refl, ap}
 use borrow.Fn.Kinds.{In}
 use borrow.Fn.PlainCycle.{Measures, is, falls, and}
+use Rattle.meaning.specs.Books.{count}
+use Rattle.meaning.specs.Claim.{named}
+use Rattle.book.specs.Format.{bookIn}
 use Rattle.book.proofs.Places.{shape-count}
-use Rattle.checker.proofs.BranchWalked.{ends-done, run-from, run-leads, run-room, run-ends, run-bad, run-fails, run-splits}
-use Rattle.checker.proofs.BranchWalked.{split-bad, split-fails, split-done}
+use Rattle.checker.specs.Parts.{walked}
+use Rattle.checker.proofs.BranchWalked.{ends-done, run-from, run-leads, run-room, run-ends, run-refused, run-splits}
+use Rattle.checker.proofs.BranchWalked.{Parted, split-refused, split-done}
 use Rattle.checker.proofs.branch.branch.Reads as branch
 use Rattle.checker.proofs.branch.branch.Kinds as branch-kinds
 use Rattle.checker.proofs.branch.+branch+split.Lts-branch as branch-lts
@@ -66,56 +69,60 @@ branch-returns-2 : (t : ℕ) → branch-lts.Need-returns-2 (branch-calls t) (bra
 branch-returns-2 t c = run-leads (c .before .before .before .before .before .run-steps .ensures) (c .split .ensures)
 
 branch-returns-3 : (t : ℕ) → branch-lts.Need-returns-3 (branch-calls t) (branch-at t) branch.Post
-branch-returns-3 t c = run-bad (c .before .before .run-steps .ensures) (c .enum-told2 .given .1)
+branch-returns-3 t c = run-refused (c .before .before .run-steps .ensures) 24 (c .enum-told2 .given .1) refl
 
 branch-returns-4 : (t : ℕ) → branch-lts.Need-returns-4 (branch-calls t) (branch-at t) branch.Post
-branch-returns-4 t c = run-fails (c .before .before .run-steps .ensures) (c .enum-told3 .given .1)
+branch-returns-4 t c = run-refused (c .before .before .run-steps .ensures) 25 (c .enum-told3 .given .1) refl
 
 -- ---- split
 
-on-long : (t : ℕ) (s : split-lts.Start (split-calls t) (split-at t) split.Post) → length (s .args .c .on) ≡ 255
-on-long t s = search needs
+-- behind the first branch
+module _ (t : ℕ) (c : split-lts.After-branch (split-calls t) (split-at t) split.Post) where
+  abbrev start : split-lts.Start (split-calls t) (split-at t) split.Post
+  start = c .before .before .before .before
 
-off-long : (t : ℕ) (s : split-lts.Start (split-calls t) (split-at t) split.Post) → length (s .args .c .off) ≡ 255
-off-long t s = search needs
+  few : count (bookIn (start .args .book .now)) ≤ 255
+  few = omega (arith, shape-count _ _ (start .pre .1 .0 .read))
+
+  parted : let s = start .args in
+      Parted (bookIn (s .book .now)) (named (s .trailer .atom)) (s .paper .now) (s .trailer .from) (s .at) (s .r) (s .c)
+      (c .before .with-on .result) (c .branch .result)
+  parted = record {
+    within = start .pre .1 .1;
+    splits = start .pre .1 .2;
+    few = few;
+    on-long = search needs;
+    off-long = search needs;
+    on = c .before .with-on .ensures;
+    comes = c .branch .ensures;
+  }
 
 split-with-on-requires : (t : ℕ) → split-lts.Need-with-on-requires (split-calls t) (split-at t) split.Post
-split-with-on-requires t c κs = omega (arith, shape-count _ _ (c .before .before .pre .1 .0 .read), c .before .before .pre .1 .1 .0)
+split-with-on-requires t c κs =
+    let s = c .before .before in omega (arith, shape-count _ _ (s .pre .1 .0 .read), s .pre .1 .1 .0)
 
 split-branch-requires : (t : ℕ) → split-lts.Need-branch-requires (split-calls t) (split-at t) split.Post
-split-branch-requires t c κs = (omega (arith, c .before .before .before .pre .1 .1 .1), c .before .before .before .pre .1 .0)
+split-branch-requires t c κs = let s = c .before .before .before in (omega (arith, s .pre .1 .1 .1), s .pre .1 .0)
 
 split-with-off-requires : (t : ℕ) → split-lts.Need-with-off-requires (split-calls t) (split-at t) split.Post
-split-with-off-requires t c κs =
-    let start = c .before .before .before .before .before .before .before in
-    omega (arith, shape-count _ _ (start .pre .1 .0 .read), start .pre .1 .1 .0)
+split-with-off-requires t c κs = let p = c .before .before .before in omega (arith, few t p, start t p .pre .1 .1 .0)
 
 split-branch-requires-2 : (t : ℕ) → split-lts.Need-branch-requires-2 (split-calls t) (split-at t) split.Post
 split-branch-requires-2 t c κs =
-    let (h, g) = ends-done (c .before .before .before .before .branch .ensures .1) (c .before .before .next .given .1) in
-    (omega arith, c .before .before .before .before .before .before .before .before .pre .1 .0)
+    let p = c .before .before .before .before in
+    let (h, g) = ends-done (p .branch .ensures .1) (c .before .before .next .given .1) in
+    (omega arith, start t p .pre .1 .0)
 
 split-returns : (t : ℕ) → split-lts.Need-returns (split-calls t) (split-at t) split.Post
 split-returns t c =
-    let start = c .before .before .before .before .before .before .before .before .before in
-    split-done _ _ _ _ _ _ _ _ _ (start .pre .1 .1) (start .pre .1 .2)
-    (omega (arith, shape-count _ _ (start .pre .1 .0 .read))) (on-long t start)
-    (c .before .before .before .before .before .before .with-on .ensures) (c .before .before .before .before .before .branch .ensures)
-    _ (c .before .before .before .next .given .1) (off-long t start) _ (c .before .with-off .ensures) _ (c .branch2 .ensures)
+    let n = c .before .before .before in
+    split-done (parted t (n .before .before)) _ (n .next .given .1) _ (c .before .with-off .ensures) _ (c .branch2 .ensures)
 
 split-returns-2 : (t : ℕ) → split-lts.Need-returns-2 (split-calls t) (split-at t) split.Post
-split-returns-2 t c =
-    let start = c .before .before .before .before .before .before .before in
-    split-bad _ _ _ _ _ _ _ _ _ (start .pre .1 .1) (start .pre .1 .2)
-    (omega (arith, shape-count _ _ (start .pre .1 .0 .read))) (on-long t start)
-    (c .before .before .before .before .with-on .ensures) (c .before .before .before .branch .ensures) _ (c .before .place .given .1)
+split-returns-2 t c = split-refused (parted t (c .before .before .before)) _ _ (ap walked (c .before .place .given .1))
 
 split-returns-3 : (t : ℕ) → split-lts.Need-returns-3 (split-calls t) (split-at t) split.Post
-split-returns-3 t c =
-    let start = c .before .before .before .before .before .before .before in
-    split-fails _ _ _ _ _ _ _ _ _ (start .pre .1 .1) (start .pre .1 .2)
-    (omega (arith, shape-count _ _ (start .pre .1 .0 .read))) (on-long t start)
-    (c .before .before .before .before .with-on .ensures) (c .before .before .before .branch .ensures) _ (c .before .place2 .given .1)
+split-returns-3 t c = split-refused (parted t (c .before .before .before)) _ _ (ap walked (c .before .place2 .given .1))
 
 pub +branch+split-spec : {M : Type 1} → statement M
 +branch+split-spec = close μ-branch μ-split

@@ -27,16 +27,18 @@ loop-holds c = search needs
 returns : tie.Need-returns Inv-loop μ-loop
 unfolding of
 returns c =
-    sym (below-one _ _ (c .before .before .before .before .before .loop .i) (omega arith) (both (c .before .before .if1 .taken)
-    (c .if2 .taken)))
+    let p = c .before .before in
+    sym (below-one _ _ (p .before .before .before .loop .i) (omega arith) (both (p .if1 .taken) (c .if2 .taken)))
+
+abbrev turn : tie.Joined1 Inv-loop μ-loop → tie.At-loop Inv-loop μ-loop
+turn c = c .before .before .before
 
 loop-again : tie.Need-loop-again Inv-loop μ-loop
 unfolding of
 loop-again c = (
   omega arith,
-  none-next _ _ (⊎-elim (λ w. not-second (getD (c .before .before .before .before .args .on .now)
-      (c .before .before .before .loop .i) false) (w .2 .left)) (λ w. not-first _ (w .left)) (c .if1 .came))
-      (c .before .before .before .loop .inv .1),
+  none-next _ _ (⊎-elim (λ w. not-second (getD (turn c .before .args .on .now) (turn c .loop .i) false) (w .2 .left))
+      (λ w. not-first _ (w .left)) (c .if1 .came)) (turn c .loop .inv .1),
 )
 
 returns-2 : tie.Need-returns-2 Inv-loop μ-loop

@@ -26,26 +26,33 @@ loop-holds : tie.Need-loop-holds Inv-loop μ-loop
 unfolding someBelow
 loop-holds c = search needs
 
+-- rule r is looked up in the set: the turn of the loop, and the start
+module _ (c : tie.After-wide Inv-loop μ-loop) where
+  abbrev turn : tie.At-loop Inv-loop μ-loop
+  turn = c .before .before .before
+
+  abbrev start : tie.Start Inv-loop μ-loop
+  start = turn .before .before
+
 returns : tie.Need-returns Inv-loop μ-loop
 returns c =
-    let start = c .before .before .before .before .before .before .before .before .before .before .before in
-    sym (head-here _ _ _ _ (c .before .before .before .before .before .before .before .before .before .loop .r) _
-    (c .before .before .before .before .before .before .wide .ensures .0) (c .before .before .before .head .ensures)
-    (shape-in _ _ (start .pre) (ruleNo (c .before .before .before .before .before .before .before .before .before .loop .r))
-    (omega arith)) (c .before .before .before .before .if2 .taken) (c .if3 .taken))
+    let h = c .before .before .before in
+    let p = h .before .before .before in
+    sym (head-here _ _ _ _ (turn p .loop .r) _ (p .wide .ensures .0) (h .head .ensures)
+    (shape-in _ _ (start p .pre) (ruleNo (turn p .loop .r)) (omega arith)) (h .before .if2 .taken) (c .if3 .taken))
 
 loop-again : tie.Need-loop-again Inv-loop μ-loop
-loop-again c = (
-  omega arith,
-  none-next _ _ (⊎-elim (λ w. head-other _ _ _ _ (c .before .before .before .before .before .loop .r) _
-      (c .before .before .wide .ensures .0) (w .1 .ensures) (w .4 .left)) (λ w. head-out _ _ _ _ _
-      (c .before .before .wide .ensures .0) (w .left)) (c .if2 .came)) (c .before .before .before .before .before .loop .inv .1),
-)
+loop-again c =
+    let p = c .before .before in (
+      omega arith,
+      none-next _ _ (⊎-elim (λ w. head-other _ _ _ _ (turn p .loop .r) _ (p .wide .ensures .0) (w .1 .ensures) (w .4 .left))
+          (λ w. head-out _ _ _ _ _ (p .wide .ensures .0) (w .left)) (c .if2 .came)) (turn p .loop .inv .1),
+    )
 
 returns-2 : tie.Need-returns-2 Inv-loop μ-loop
 returns-2 c =
-    sym (head-none _ _ _ _ (shape-count _ _ (c .before .before .before .before .pre)) (none-end _ _ _ (omega arith) (omega arith)
-    (c .before .before .loop .inv .1)))
+    let t = c .before .before in
+    sym (head-none _ _ _ _ (shape-count _ _ (t .before .before .pre)) (none-end _ _ _ (omega arith) (omega arith) (t .loop .inv .1)))
 
 pub is-head-spec : {M : Type 1} → statement M
 is-head-spec =

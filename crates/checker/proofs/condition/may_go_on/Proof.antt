@@ -8,10 +8,10 @@ use Rattle.checker.proofs.condition.may_go_on.Tie as tie
 
 returns : tie.Need-returns
 returns c =
-    let start = c .before .before .before .before .before .before .before .before in
-    c .goes-on .ensures
-    ∙ goes-on-mayOn _ _ (start .pre .0) (omega arith) _ (start .pre .1) _ _
-    (c .before .before .before .before .before .heads-of .ensures) _ (c .before .before .before .lost-in .ensures)
+    let l = c .before .before .before in
+    let h = l .before .before in
+    let s = h .before .before .before in
+    c .goes-on .ensures ∙ goes-on-mayOn _ _ (s .pre .0) (omega arith) _ (s .pre .1) _ _ (h .heads-of .ensures) _ (l .lost-in .ensures)
 
 pub may-go-on-spec : {M : Type 1} → statement M
 may-go-on-spec =

@@ -3,7 +3,8 @@ use borrow.Author.Needs.{needs}
 use native.Mathlib.Omega.{arith}
 use mathlib.Core.Path.{_≡_, sym, _∙_}
 use mathlib.Core.Bool.{true}
-use Prim.Native.Nat.{_-_, _≤_}
+use mathlib.Core.List.{List}
+use Prim.Native.Nat.{ℕ, _-_, _≤_}
 use lib.ListN.{length, take}
 use borrow.Author.Tests.{not-true, not-false}
 use Rattle.meaning.specs.Sets.{every}
@@ -24,27 +25,34 @@ loop-holds c = search needs
 
 has-positive-in-requires : tie.Need-has-positive-in-requires Inv-loop μ-loop
 has-positive-in-requires c κs =
-    let start = c .before .before .before .before .before in
-    (start .pre .0, start .pre .1 .at (c .before .before .loop .i) (omega arith))
+    let t = c .before .before in
+    let s = t .before .before .before in
+    (s .pre .0, s .pre .1 .at (t .loop .i) (omega arith))
+
+-- a rule is asked: the turn of the loop, and the list
+module _ (c : tie.After-has-positive-in Inv-loop μ-loop) where
+  abbrev turn : tie.At-loop Inv-loop μ-loop
+  turn = c .before .before .before
+
+  abbrev rules : List ℕ
+  rules = turn .before .before .before .args .list .now
 
 returns : tie.Need-returns Inv-loop μ-loop
 returns c =
-    let start = c .before .before .before .before .before .before .before in
-    sym (has-stops _ _ (start .args .list .now) (c .before .before .before .before .loop .i) (omega arith)
-    (sym (c .before .has-positive-in .ensures) ∙ not-true _ (c .if1 .taken)))
+    let p = c .before in
+    sym (has-stops _ _ (rules p) (turn p .loop .i) (omega arith) (sym (p .has-positive-in .ensures) ∙ not-true _ (c .if1 .taken)))
 
 loop-again : tie.Need-loop-again Inv-loop μ-loop
 loop-again c =
-    let start = c .before .before .before .before .before .before .before in (
+    let p = c .before in (
       omega arith,
-      has-next _ _ (start .args .list .now) (c .before .before .before .before .loop .i) (omega arith)
-          (sym (c .before .has-positive-in .ensures) ∙ not-false _ (c .if1 .left)) (c .before .before .before .before .loop .inv .1),
+      has-next _ _ (rules p) (turn p .loop .i) (omega arith) (sym (p .has-positive-in .ensures) ∙ not-false _ (c .if1 .left))
+          (turn p .loop .inv .1),
     )
 
 returns-2 : tie.Need-returns-2 Inv-loop μ-loop
 returns-2 c =
-    sym (has-end _ _ (c .before .before .before .before .args .list .now) (c .before .loop .i) (omega arith)
-    (c .before .loop .inv .1))
+    let t = c .before in sym (has-end _ _ (t .before .before .before .args .list .now) (t .loop .i) (omega arith) (t .loop .inv .1))
 
 pub each-has-in-spec : {M : Type 1} → statement M
 each-has-in-spec =

@@ -3,7 +3,8 @@ use borrow.Author.Needs.{needs}
 use native.Mathlib.Omega.{arith}
 use mathlib.Core.Path.{_≡_, sym, _∙_}
 use mathlib.Core.Bool.{true}
-use Prim.Native.Nat.{_-_, _≤_}
+use mathlib.Core.List.{List}
+use Prim.Native.Nat.{ℕ, _-_, _≤_}
 use lib.Dec.{ltb}
 use lib.ListN.{length, take, drop}
 use Rattle.meaning.specs.Sets.{every, ascending}
@@ -22,30 +23,33 @@ loop-holds : tie.Need-loop-holds Inv-loop μ-loop
 unfolding every
 loop-holds c = let e = rising-all (c .args .list .now) in search needs
 
+-- a number is read: the turn of the loop, and the list
+module _ (c : tie.After-shared-slice-known Inv-loop μ-loop) where
+  abbrev turn : tie.At-loop Inv-loop μ-loop
+  turn = c .before .before
+
+  abbrev numbers : List ℕ
+  numbers = turn .before .args .list .now
+
 returns : tie.Need-returns Inv-loop μ-loop
-returns c =
-    sym (proper-out (c .before .before .before .before .args .list .now) (c .before .before .before .loop .i) _ (omega arith)
-    (omega arith))
+returns c = let p = c .before in sym (proper-out (numbers p) (turn p .loop .i) _ (omega arith) (omega arith))
 
 returns-2 : tie.Need-returns-2 Inv-loop μ-loop
 returns-2 c =
-    sym (proper-stops (c .before .before .before .before .before .args .list .now) _ (c .before .before .before .before .loop .i) _
-    (c .before .before .before .before .loop .inv .2) (omega arith) (omega arith))
+    let p = c .before .before in
+    sym (proper-stops (numbers p) _ (turn p .loop .i) _ (turn p .loop .inv .2) (omega arith) (omega arith))
 
 loop-again : tie.Need-loop-again Inv-loop μ-loop
 loop-again c =
-    let start = c .before .before .before .before .before in (
+    let p = c .before .before in (
       omega arith,
-      proper-next (start .args .list .now) (c .before .before .before .before .loop .i) _ (omega arith) (omega arith)
-          (c .before .before .before .before .loop .inv .1),
-      c .before .before .before .before .loop .inv .2 ∙ rising-next (start .args .list .now) _
-          (c .before .before .before .before .loop .i) (omega arith) (omega arith),
+      proper-next (numbers p) (turn p .loop .i) _ (omega arith) (omega arith) (turn p .loop .inv .1),
+      turn p .loop .inv .2 ∙ rising-next (numbers p) _ (turn p .loop .i) (omega arith) (omega arith),
     )
 
 returns-3 : tie.Need-returns-3 Inv-loop μ-loop
 returns-3 c =
-    sym (proper-end (c .before .before .args .list .now) _ (c .before .loop .i) _ (c .before .loop .inv .2) (omega arith)
-    (c .before .loop .inv .1))
+    let t = c .before in sym (proper-end (t .before .args .list .now) _ (t .loop .i) _ (t .loop .inv .2) (omega arith) (t .loop .inv .1))
 
 pub is-proper-spec : {M : Type 1} → statement M
 is-proper-spec =

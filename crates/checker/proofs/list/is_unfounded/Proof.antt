@@ -12,10 +12,11 @@ with-rules-requires c κs = below-more (omega arith) (c .before .before .before 
 
 returns : tie.Need-returns
 returns c =
-    let start = c .before .before .before .before .before .before .before .before .before in
+    let l = c .before .before in
+    let g = l .before .before .before in
+    let s = g .before .before .before .before in
     c .each-has-in .ensures
-    ∙ unfounded-by _ _ (start .pre .0) (omega arith) _ _ _ _ (c .before .before .before .before .before .with-rules .ensures)
-    (c .before .before .lost-in .ensures) (start .pre .1)
+    ∙ unfounded-by _ _ (s .pre .0) (omega arith) _ _ _ _ (g .with-rules .ensures) (l .lost-in .ensures) (s .pre .1)
 
 pub is-unfounded-spec : {M : Type 1} → statement M
 is-unfounded-spec =

@@ -3,8 +3,8 @@ use borrow.Author.Needs.{needs}
 use native.Mathlib.Omega.{arith}
 use mathlib.Core.Path.{_≡_}
 use mathlib.Core.List.{map}
-use Prim.Native.Nat.{_-_, _≤_}
-use lib.ListN.{length, take, length-set}
+use Prim.Native.Nat.{_-_, _≤_, _<_}
+use lib.ListN.{length, getD, take, length-set}
 use Rattle.meaning.specs.Books.{ruleNo}
 use Rattle.meaning.specs.Colours.{plus}
 use Rattle.meaning.specs.Written.{of}
@@ -21,25 +21,33 @@ abbrev μ-loop : tie.MeasureT-loop
 loop-holds : tie.Need-loop-holds Inv-loop μ-loop
 loop-holds c = (search needs, search needs, add-none _)
 
+-- the turn of the loop in which a rule is put in, and the start: the rule has a place in the set
+module _ (c : tie.After-wide Inv-loop μ-loop) where
+  abbrev turn : tie.At-loop Inv-loop μ-loop
+  turn = c .before .before .before
+
+  abbrev start : tie.Start Inv-loop μ-loop
+  start = turn .before .before
+
+  small : getD (start .args .list .now) (turn .loop .i) 0 < 255
+  small = start .pre .at (turn .loop .i) (omega arith)
+
 array-write-set : tie.Need-array-write-set Inv-loop μ-loop
-array-write-set c =
-    omega (arith, c .before .before .before .before .before .pre .at (c .before .before .before .loop .i) (omega arith))
+array-write-set c = omega (arith, small c)
 
 loop-again : tie.Need-loop-again Inv-loop μ-loop
-loop-again c =
-    let start = c .before .before .before .before .before in
-    let small = start .pre .at (c .before .before .before .loop .i) (omega arith) in (
-      omega arith,
-      simp length-set (c .before .before .before .loop .inv .1),
-      add-next (of (start .args .t1)) _
-          (start .args .list .now) (c .before .before .before .loop .i) _ (omega arith) (c .wide .ensures .0) (omega arith)
-          (c .before .before .before .loop .inv .2),
-    )
+loop-again c = (
+  omega arith,
+  simp length-set (turn c .loop .inv .1),
+  add-next (of (start c .args .t1)) _ (start c .args .list .now) (turn c .loop .i) _ (omega arith) (c .wide .ensures .0)
+      (omega (arith, small c)) (turn c .loop .inv .2),
+)
 
 returns : tie.Need-returns Inv-loop μ-loop
 returns c =
-    let start = c .before .before .before in
-    add-end (of (start .args .t1)) _ (start .args .list .now) (c .before .loop .i) (omega arith) (c .before .loop .inv .2)
+    let t = c .before in
+    let s = t .before .before in
+    add-end (of (s .args .t1)) _ (s .args .list .now) (t .loop .i) (omega arith) (t .loop .inv .2)
 
 pub with-rules-spec : {M : Type 1} → statement M
 with-rules-spec =

@@ -1,41 +1,52 @@
--- What the first branch comes to, then the place where it ends, then the witness.
+-- What the first branch comes to is told: its refusal, or the place where it ends, or what the witness comes to.
 use borrow.Author.Needs.{needs}
-use mathlib.Core.Path.{sym, _∙_, ap}
-use Rattle.checker.specs.Parts.{walked, verdict}
-use Rattle.checker.proofs.PaperChecked.{steps-stopped, steps-gap, witness-wrong, witness-fine}
+use mathlib.Core.Path.{_≡_, _∙_, ap}
+use Rattle.meaning.specs.Claim.{named}
+use Rattle.book.specs.Format.{bookIn}
+use Rattle.checker.specs.Branches.{Walked}
+use Rattle.checker.specs.Parts.{walked}
+use Rattle.checker.specs.Check.{branchTold, stepsTold}
+use Rattle.checker.proofs.PaperChecked.{steps-are, told-gap, told-wrong, told-fine}
 use Rattle.checker.proofs.paper.check_steps.Statement.{statement}
 use Rattle.checker.proofs.paper.check_steps.Tie as tie
 
+-- behind the first branch, which has come to x
+module _ (c : tie.After-branch) where
+  abbrev start : tie.Start
+  start = c .before .before .before .before .before
+
+  came : (x : Walked) → walked (c .branch .result) ≡ x → let s = start .args in let t = s .trailer in
+      branchTold (bookIn (s .book .now)) (s .paper .now) (t .atom .0) (t .count) (t .from) x
+      ≡ stepsTold (bookIn (s .book .now)) (named (t .atom)) (s .paper .now) (t .atom .0) (t .count) (t .from)
+  came x e = steps-are _ _ _ _ _ _ (c .before .empty .ensures) (c .branch .ensures .0) e
+
 returns : tie.Need-returns
 returns c =
-    sym (steps-gap _ _ _ _ _ _ _ _ (c .before .before .before .before .before .before .empty .ensures)
-    (c .before .before .before .before .before .branch .ensures .0) _ (ap walked (c .before .before .before .end .given .1))
-    (c .if1 .taken))
+    let p = c .before .before .before in told-gap _ _ _ _ _ _ (c .if1 .taken) ∙ came (p .before .before) _ (ap walked (p .end .given .1))
 
 returns-2 : tie.Need-returns-2
-returns-2 c =
-    sym (steps-stopped _ _ _ _ _ _ _ _ (c .before .before .before .before .empty .ensures)
-    (c .before .before .before .branch .ensures .0) _ _ (ap walked (c .before .at .given .1)))
+unfolding branchTold
+returns-2 c = came (c .before .before .before) _ (ap walked (c .before .at .given .1))
 
 returns-3 : tie.Need-returns-3
-returns-3 c =
-    sym (steps-stopped _ _ _ _ _ _ _ _ (c .before .before .before .before .empty .ensures)
-    (c .before .before .before .branch .ensures .0) _ _ (ap walked (c .before .at2 .given .1)))
+unfolding branchTold
+returns-3 c = came (c .before .before .before) _ (ap walked (c .before .at2 .given .1))
+
+-- ---- behind the witness, which starts where the branch ends
 
 returns-4 : tie.Need-returns-4
 returns-4 c =
-    sym (witness-wrong _ _ _ _ _ _ _ _ (c .before .before .before .before .before .before .before .before .before
-    .before .empty .ensures) (c .before .before .before .before .before .before .before .before .before .branch .ensures .0) _
-    (ap walked (c .before .before .before .before .before .before .before .end .given .1))
-    (c .before .before .before .before .if1 .left) _ (sym (c .before .before .before .check-witness .ensures)
-    ∙ ap verdict (c .before .at3 .given .1)))
+    let q = c .before .before .before in
+    let p = q .before .before .before .before in
+    told-wrong _ _ _ _ _ _ (q .before .if1 .left) _ (q .check-witness .ensures) _ (c .before .at3 .given .1)
+    ∙ came (p .before .before) _ (ap walked (p .end .given .1))
 
 returns-5 : tie.Need-returns-5
 returns-5 c =
-    sym (witness-fine _ _ _ _ _ _ _ _ (c .before .before .before .before .before .before .before .before .before .empty .ensures)
-    (c .before .before .before .before .before .before .before .before .branch .ensures .0) _
-    (ap walked (c .before .before .before .before .before .before .end .given .1)) (c .before .before .before .if1 .left)
-    (sym (c .before .before .check-witness .ensures) ∙ ap verdict (c .enum-told .given .1)))
+    let q = c .before .before in
+    let p = q .before .before .before .before in
+    told-fine _ _ _ _ _ _ (q .before .if1 .left) _ (q .check-witness .ensures) (c .enum-told .given .1)
+    ∙ came (p .before .before) _ (ap walked (p .end .given .1))
 
 pub check-steps-spec : {M : Type 1} → statement M
 check-steps-spec =

@@ -2,15 +2,14 @@
 -- so the bytes left fall.
 use borrow.Author.Needs.{needs}
 use native.Mathlib.Omega.{arith}
-use Prim.Native.Nat.{_+_, _-_, _≤_, _<_}
+use Prim.Native.Nat.{_+_, _-_, _≤_}
 use Rattle.meaning.specs.Books.{count}
 use Rattle.meaning.specs.Claim.{named}
 use Rattle.meaning.specs.Written.{pair}
 use Rattle.book.specs.Format.{bookIn}
 use Rattle.book.proofs.Places.{shape-count}
 use Rattle.checker.specs.Parts.Leads.{here}
-use Rattle.checker.proofs.StepsRun.{found-on, found-off, found-list, found-few, found-stop, stops-by, Led, led-on, led-off}
-use Rattle.checker.proofs.StepsRun.{led-list}
+use Rattle.checker.proofs.StepsRun.{found-by, list-small, step-is, Led, led-on, led-off, led-list}
 use Rattle.checker.proofs.run.run_steps.Statement.{statement}
 use Rattle.checker.proofs.run.run_steps.Tie as tie
 
@@ -21,122 +20,106 @@ Inv-loop book shape paper trailer at colours₀ i₀ colours i =
 abbrev μ-loop : tie.MeasureT-loop
 μ-loop book shape paper trailer at colours₀ i₀ colours i = trailer .from - i
 
+-- behind the step that was found: the turn of the loop, the start, and that a good book has at most 255 rules
+module _ (c : tie.After-check-step Inv-loop μ-loop) where
+  abbrev turn : tie.At-loop Inv-loop μ-loop
+  turn = c .before .before .before .before
+
+  abbrev start : tie.Start Inv-loop μ-loop
+  start = turn .before .before .before
+
+  few : count (bookIn (start .args .book .now)) ≤ 255
+  few = omega (arith, shape-count _ _ (start .pre .read))
+
 loop-holds : tie.Need-loop-holds Inv-loop μ-loop
 loop-holds c = record { leads = here; on-long = search needs; off-long = search needs }
 
+-- ---- 41
+
 with-on-requires : tie.Need-with-on-requires Inv-loop μ-loop
 with-on-requires c κs =
-    let start = c .before .before .before .before .before .before .before .before .before .before in
-    let small : c .before .r .given .0 .0 .0 < count (bookIn (start .args .book .now)) =
-    found-on (c .before .before .before .check-step .ensures) (c .before .r .given .1) .0 in
-    omega (arith, shape-count _ _ (start .pre .read))
+    let p = c .before .before .before in
+    omega (arith, few p, found-by (p .check-step .ensures) (c .before .r .given .1) .0)
 
 add-i : tie.Need-add-i Inv-loop μ-loop
 add-i c =
-    let turn = c .before .before .before .before .before .before .before .before in
-    let start = c .before .before .before .before .before .before .before .before .before .before .before in
-    let room : turn .loop .i + 2 ≤ start .args .trailer .from =
-    found-on (c .before .before .before .before .check-step .ensures) (c .before .before .r .given .1) .1 in
+    let p = c .before .before .before .before in
+    let (h, room) = found-by (p .check-step .ensures) (c .before .before .r .given .1) in
     search needs
 
 loop-less : tie.Need-loop-less Inv-loop μ-loop
 loop-less c =
-    let turn = c .before .before .before .before .before .before .before .before in
-    let start = c .before .before .before .before .before .before .before .before .before .before .before in
-    let room : turn .loop .i + 2 ≤ start .args .trailer .from =
-    found-on (c .before .before .before .before .check-step .ensures) (c .before .before .r .given .1) .1 in
-    omega arith
+    let p = c .before .before .before .before in
+    omega (arith, found-by (p .check-step .ensures) (c .before .before .r .given .1) .1)
 
 loop-again : tie.Need-loop-again Inv-loop μ-loop
 loop-again c =
-    let start = c .before .before .before .before .before .before .before .before .before .before .before in
-    let few : count (bookIn (start .args .book .now)) ≤ 255 = omega (arith, shape-count _ _ (start .pre .read)) in
-    rw (c .with-on .ensures) (led-on (c .before .before .before .before .before .before .before .before .loop .inv) few _
-    (c .before .before .before .before .check-step .ensures) _ (c .before .before .r .given .1))
+    let p = c .before .before .before .before in
+    rw (c .with-on .ensures) (led-on (turn p .loop .inv) (few p) _ (p .check-step .ensures) _ (c .before .before .r .given .1))
+
+-- ---- 42
 
 with-off-requires : tie.Need-with-off-requires Inv-loop μ-loop
 with-off-requires c κs =
-    let start = c .before .before .before .before .before .before .before .before .before .before in
-    let small : c .before .r2 .given .0 .0 .0 < count (bookIn (start .args .book .now)) =
-    found-off (c .before .before .before .check-step .ensures) (c .before .r2 .given .1) .0 in
-    omega (arith, shape-count _ _ (start .pre .read))
+    let p = c .before .before .before in
+    omega (arith, few p, found-by (p .check-step .ensures) (c .before .r2 .given .1) .0)
 
 add-i-2 : tie.Need-add-i-2 Inv-loop μ-loop
 add-i-2 c =
-    let turn = c .before .before .before .before .before .before .before .before in
-    let start = c .before .before .before .before .before .before .before .before .before .before .before in
-    let room : turn .loop .i + 2 ≤ start .args .trailer .from =
-    found-off (c .before .before .before .before .check-step .ensures) (c .before .before .r2 .given .1) .1 in
+    let p = c .before .before .before .before in
+    let (h, room) = found-by (p .check-step .ensures) (c .before .before .r2 .given .1) in
     search needs
 
 loop-less-2 : tie.Need-loop-less-2 Inv-loop μ-loop
 loop-less-2 c =
-    let turn = c .before .before .before .before .before .before .before .before in
-    let start = c .before .before .before .before .before .before .before .before .before .before .before in
-    let room : turn .loop .i + 2 ≤ start .args .trailer .from =
-    found-off (c .before .before .before .before .check-step .ensures) (c .before .before .r2 .given .1) .1 in
-    omega arith
+    let p = c .before .before .before .before in
+    omega (arith, found-by (p .check-step .ensures) (c .before .before .r2 .given .1) .1)
 
 loop-again-2 : tie.Need-loop-again-2 Inv-loop μ-loop
 loop-again-2 c =
-    let start = c .before .before .before .before .before .before .before .before .before .before .before in
-    let few : count (bookIn (start .args .book .now)) ≤ 255 = omega (arith, shape-count _ _ (start .pre .read)) in
-    rw (c .with-off .ensures) (led-off (c .before .before .before .before .before .before .before .before .loop .inv) few _
-    (c .before .before .before .before .check-step .ensures) _ (c .before .before .r2 .given .1))
+    let p = c .before .before .before .before in
+    rw (c .with-off .ensures) (led-off (turn p .loop .inv) (few p) _ (p .check-step .ensures) _ (c .before .before .r2 .given .1))
+
+-- ---- 55: its list ends before the witness
+
+module _ (c : tie.After-m Inv-loop μ-loop) where
+  abbrev found : tie.After-check-step Inv-loop μ-loop
+  found = c .before .before
+
+  room : turn found .loop .i + 2 + c .m .given .0 .0 ≤ start found .args .trailer .from
+  room = found-by (found .check-step .ensures) (c .m .given .1) .0
 
 add-first : tie.Need-add-first Inv-loop μ-loop
-add-first c =
-    let turn = c .before .before .before .before .before .before .before in
-    let start = c .before .before .before .before .before .before .before .before .before .before in
-    let room : turn .loop .i + 2 + c .before .m .given .0 .0 ≤ start .args .trailer .from =
-    found-list (c .before .before .before .check-step .ensures) (c .before .m .given .1) .0 in
-    search needs
+add-first c = let h = room (c .before) in search needs
 
 add-end : tie.Need-add-end Inv-loop μ-loop
-add-end c =
-    let turn = c .before .before .before .before .before .before .before in
-    let start = c .before .before .before .before .before .before .before .before .before .before in
-    let room : turn .loop .i + 2 + c .before .m .given .0 .0 ≤ start .args .trailer .from =
-    found-list (c .before .before .before .check-step .ensures) (c .before .m .given .1) .0 in
-    search needs
+add-end c = let h = room (c .before) in search needs
 
 part-with-rules-end : tie.Need-part-with-rules-end Inv-loop μ-loop
-part-with-rules-end c =
-    let turn = c .before .before .before .before .before .before .before .before in
-    let start = c .before .before .before .before .before .before .before .before .before .before .before in
-    let room : turn .loop .i + 2 + c .before .before .m .given .0 .0 ≤ start .args .trailer .from =
-    found-list (c .before .before .before .before .check-step .ensures) (c .before .before .m .given .1) .0 in
-    search needs
+part-with-rules-end c = let h = room (c .before .before) in search needs
 
 with-rules-requires : tie.Need-with-rules-requires Inv-loop μ-loop
 with-rules-requires c κs =
-    let start = c .before .before .before .before .before .before .before .before .before .before .before .before in
-    found-few (c .before .before .before .before .before .check-step .ensures) (c .before .before .before .m .given .1)
-    (omega (arith, shape-count _ _ (start .pre .read)))
+    let m = c .before .before .before in list-small (found m .check-step .ensures) (m .m .given .1) (few (found m))
 
 loop-less-3 : tie.Need-loop-less-3 Inv-loop μ-loop
-loop-less-3 c =
-    let turn = c .before .before .before .before .before .before .before .before .before .before in
-    let start = c .before .before .before .before .before .before .before .before .before .before .before .before .before in
-    let room : turn .loop .i + 2 + c .before .before .before .before .m .given .0 .0 ≤ start .args .trailer .from =
-    found-list (c .before .before .before .before .before .before .check-step .ensures)
-    (c .before .before .before .before .m .given .1) .0 in
-    omega arith
+loop-less-3 c = omega (arith, room (c .before .before .before .before))
 
 loop-again-3 : tie.Need-loop-again-3 Inv-loop μ-loop
 loop-again-3 c =
-    let start = c .before .before .before .before .before .before .before .before .before .before .before .before .before in
-    let few : count (bookIn (start .args .book .now)) ≤ 255 = omega (arith, shape-count _ _ (start .pre .read)) in
-    led-list (c .before .before .before .before .before .before .before .before .before .before .loop .inv) few _
-    (c .before .before .before .before .before .before .check-step .ensures) _ _ (c .before .before .before .before .m .given .1)
-    (search needs) (c .with-rules .ensures)
+    let m = c .before .before .before .before in
+    led-list (turn (found m) .loop .inv) (few (found m)) _ (found m .check-step .ensures) _ _ (m .m .given .1) (search needs)
+    (c .with-rules .ensures)
+
+-- ---- the stop
 
 returns : tie.Need-returns Inv-loop μ-loop
 returns c =
+    let p = c .before .before .before in
     record {
-      leads = c .before .before .before .before .before .before .before .loop .inv .leads;
-      stops = stops-by (c .before .before .before .check-step .ensures) _ (c .before .stop .given .1);
-      within = found-stop (c .before .before .before .check-step .ensures) (c .before .stop .given .1);
+      leads = turn p .loop .inv .leads;
+      stops = step-is (p .check-step .ensures) (c .before .stop .given .1);
+      within = found-by (p .check-step .ensures) (c .before .stop .given .1);
     }
 
 pub run-steps-spec : {M : Type 1} → statement M

@@ -1,91 +1,79 @@
--- One law for each way through the code; the list's rules are in the book, and it ends before the witness.
+-- One law for each way through the code. The list, once read, ends before the witness; then it is tested, and then the condition.
 use borrow.Author.Needs.{needs}
 use native.Mathlib.Omega.{arith}
-use mathlib.Core.Path.{sym, _∙_}
-use Prim.Native.Nat.{_+_}
+use mathlib.Core.Path.{_≡_, refl, sym, _∙_}
+use mathlib.Core.List.{List}
+use Prim.Native.Nat.{ℕ, _+_, _-_}
+use lib.ListN.{take, drop}
 use borrow.Author.Tests.{not-true, not-false}
+use Rattle.book.specs.Format.{bookIn}
 use Rattle.book.proofs.Places.{shape-count}
-use Rattle.checker.proofs.Lists.{part-is, proper-part, proper-below, proper-in-book}
-use Rattle.checker.proofs.StepChecked.{list-late, list-empty, list-long, list-bad, list-holds, list-fails}
+use Rattle.checker.specs.Steps.{properList}
+use Rattle.checker.proofs.Lists.{proper-is, proper-below}
+use Rattle.checker.proofs.StepChecked.{Listed, list-late, list-empty, list-long, list-bad, list-holds, list-fails}
 use Rattle.checker.proofs.step.check_list_step.Statement.{statement}
 use Rattle.checker.proofs.step.check_list_step.Tie as tie
 
+-- the length of the list is read, behind the start
+abbrev start : tie.After-wide → tie.Start
+start c = c .before .before .before .before .before .before
+
+-- the list is read and tested
+module _ (c : tie.After-is-proper) where
+  abbrev read : tie.After-wide
+  read = c .before .before .before .before .before
+
+  abbrev first : ℕ
+  first = start read .args .at + 2
+
+  abbrev list : List ℕ
+  list = take (first + read .wide .result - first) (drop first (start read .args .paper .now))
+
+  listed : Listed (start read .args .paper .now) (start read .args .trailer .from) (start read .args .at) (read .wide .result) list
+  listed = record {
+    here = start read .pre .1;
+    code = start read .pre .2;
+    counted = read .wide .ensures .0;
+    some = omega arith;
+    room = omega arith;
+    bytes = refl;
+  }
+
+  proper : properList (bookIn (start read .args .book .now)) list ≡ c .is-proper .result
+  proper = sym (proper-is _ _ _ (shape-count _ _ (start read .pre .0 .read))) ∙ sym (c .is-proper .ensures)
+
 returns : tie.Need-returns
-returns c =
-    let start = c .before .before .before .before in
-    λ on. record { found = sym (list-late _ _ _ _ _ _ (start .pre .1) (start .pre .2) (omega arith)); within = tt }
+returns c = let s = c .before .before .before .before in λ on. list-late _ _ _ _ _ _ (s .pre .1) (s .pre .2) (omega arith)
 
 returns-2 : tie.Need-returns-2
 returns-2 c =
-    let start = c .before .before .before .before .before .before .before in
-    λ on. record {
-      found = sym (list-empty _ _ _ _ _ _ (start .pre .1) (start .pre .2) (omega arith) _ (c .before .wide .ensures .0)
-          (c .if2 .taken));
-      within = tt;
-    }
+    let p = c .before in
+    λ on. list-empty _ _ _ _ _ _ (start p .pre .1) (start p .pre .2) (omega arith) _ (p .wide .ensures .0) (c .if2 .taken)
 
 returns-3 : tie.Need-returns-3
 returns-3 c =
-    let start = c .before .before .before .before .before .before .before .before .before in
-    λ on. record {
-      found = sym (list-long _ _ _ _ _ _ (start .pre .1) (start .pre .2) (omega arith) _
-          (c .before .before .before .wide .ensures .0) (c .before .before .if2 .left) (omega arith));
-      within = tt;
-    }
+    let p = c .before .before .before in
+    λ on. list-long _ _ _ _ _ _ (start p .pre .1) (start p .pre .2) (omega arith) _ (p .wide .ensures .0) (omega arith) (omega arith)
 
 returns-4 : tie.Need-returns-4
-returns-4 c =
-    let start = c .before .before .before .before .before .before .before .before .before .before .before .before in
-    let p = sym (proper-part _ (start .args .paper .now) (start .args .at + 2)
-    (c .before .before .before .before .before .before .wide .result) _ (shape-count _ _ (start .pre .0 .read)))
-    ∙ sym (c .before .is-proper .ensures) ∙ not-true _ (c .if4 .taken) in
-    λ on. record {
-      found = sym (list-bad _ _ _ _ _ _ (start .pre .1) (start .pre .2) (omega arith) _
-          (c .before .before .before .before .before .before .wide .ensures .0) (c .before .before .before .before .before .if2 .left)
-          (omega arith) p);
-      within = tt;
-    }
+returns-4 c = let p = c .before in λ on. list-bad _ _ _ _ _ _ _ _ (listed p) (proper p ∙ not-true _ (c .if4 .taken))
 
 is-unfounded-requires : tie.Need-is-unfounded-requires
 is-unfounded-requires c κs =
-    let start = c .before .before .before .before .before .before .before .before .before .before .before .before .before in
-    (start .pre .0 .read, proper-below _ _ (sym (c .before .before .is-proper .ensures) ∙ not-false _ (c .before .if4 .left)))
+    let p = c .before .before in
+    (start (read p) .pre .0 .read, proper-below _ _ (sym (p .is-proper .ensures) ∙ not-false _ (c .before .if4 .left)))
 
 returns-5 : tie.Need-returns-5
 returns-5 c =
-    let start = c .before .before .before .before .before .before .before .before .before .before .before .before .before .before
-    .before in
-    let p = sym (proper-part _ (start .args .paper .now) (start .args .at + 2)
-    (c .before .before .before .before .before .before .before .before .before .wide .result) _ (shape-count _ _
-    (start .pre .0 .read))) ∙ sym (c .before .before .before .before .is-proper .ensures)
-    ∙ not-false _ (c .before .before .before .if4 .left) in
-    λ on. record {
-      found = sym (list-fails _ _ _ _ _ _ (start .pre .1) (start .pre .2) (omega arith) _
-          (c .before .before .before .before .before .before .before .before .before .wide .ensures .0)
-          (c .before .before .before .before .before .before .before .before .if2 .left) (omega arith) p
-          (rw (← part-is (start .args .paper .now) (start .args .at + 2)
-          (c .before .before .before .before .before .before .before .before .before .wide .result))
-          (sym (c .before .is-unfounded .ensures) ∙ not-true _ (c .if5 .taken))));
-      within = tt;
-    }
+    let p = c .before .before .before .before in
+    let e = proper p ∙ not-false _ (c .before .before .before .if4 .left) in
+    λ on. list-fails _ _ _ _ _ _ _ _ (listed p) e _ (c .before .is-unfounded .ensures) (not-true _ (c .if5 .taken))
 
 returns-6 : tie.Need-returns-6
 returns-6 c =
-    let start = c .before .before .before .before .before .before .before .before .before .before .before .before .before .before
-    .before in
-    let p = sym (proper-part _ (start .args .paper .now) (start .args .at + 2)
-    (c .before .before .before .before .before .before .before .before .before .wide .result) _ (shape-count _ _
-    (start .pre .0 .read))) ∙ sym (c .before .before .before .before .is-proper .ensures)
-    ∙ not-false _ (c .before .before .before .if4 .left) in
-    λ on. record {
-      found = sym (list-holds _ _ _ _ _ _ (start .pre .1) (start .pre .2) (omega arith) _
-          (c .before .before .before .before .before .before .before .before .before .wide .ensures .0)
-          (c .before .before .before .before .before .before .before .before .if2 .left) (omega arith) p
-          (rw (← part-is (start .args .paper .now) (start .args .at + 2)
-          (c .before .before .before .before .before .before .before .before .before .wide .result))
-          (sym (c .before .is-unfounded .ensures) ∙ not-false _ (c .if5 .left))));
-      within = (omega arith, proper-in-book _ _ p);
-    }
+    let p = c .before .before .before .before in
+    let e = proper p ∙ not-false _ (c .before .before .before .if4 .left) in
+    λ on. list-holds _ _ _ _ _ _ _ _ (listed p) e _ (c .before .is-unfounded .ensures) (not-false _ (c .if5 .left))
 
 pub check-list-step-spec : {M : Type 1} → statement M
 check-list-step-spec =

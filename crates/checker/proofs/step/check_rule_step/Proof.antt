@@ -1,100 +1,80 @@
--- One law for each way through the code; the step's rule is in the book, and ends before the witness.
+-- One law for each way through the code. The step's rule, once read, is in the book, and the step ends before the witness; then the code
+-- says which condition is asked of it.
 use borrow.Author.Needs.{needs}
 use native.Mathlib.Omega.{arith}
-use mathlib.Core.Path.{sym, _∙_}
 use Rattle.meaning.specs.Colours.{blocked}
+use Rattle.book.specs.Format.{bookIn}
 use Rattle.book.proofs.Places.{shape-count}
-use Rattle.checker.proofs.StepChecked.{rule-late, rule-out, on-holds, on-fails, off-holds, off-fails, split-holds, split-fails}
+use Rattle.checker.proofs.StepChecked.{Ruled, rule-late, rule-out, on-asks, off-asks, split-asks, rule-holds, rule-fails}
 use Rattle.checker.proofs.StepChecked.{code-unknown}
 use Rattle.checker.proofs.step.check_rule_step.Statement.{statement}
 use Rattle.checker.proofs.step.check_rule_step.Tie as tie
 
+-- the rule is read
+module _ (c : tie.Else2) where
+  abbrev start : tie.Start
+  start = c .before .before .before .before .before .before .before .before
+
+  rule : Ruled (bookIn (start .args .book .now)) (start .args .paper .now) (start .args .trailer .from) (start .args .at)
+  rule = record {
+    here = start .pre .1;
+    not-list = start .pre .2;
+    not-end = start .pre .3;
+    room = omega arith;
+    known = omega (arith, shape-count _ _ (start .pre .0 .read));
+  }
+
 returns : tie.Need-returns
-returns c =
-    let start = c .before .before .before .before .before in
-    record { found = sym (rule-late _ _ _ _ _ _ (start .pre .1) (start .pre .2) (start .pre .3) (omega arith)); within = tt }
+returns c = let s = c .before .before .before .before .before in rule-late _ _ _ _ _ _ (s .pre .1) (s .pre .2) (s .pre .3) (omega arith)
 
 returns-2 : tie.Need-returns-2
 returns-2 c =
-    let start = c .before .before .before .before .before .before .before .before in
-    let e = shape-count _ _ (start .pre .0 .read) in
-    record {
-      found = sym (rule-out _ _ _ _ _ _ (start .pre .1) (start .pre .2) (start .pre .3) (omega arith)
-          (omega arith));
-      within = tt;
-    }
+    let s = c .before .before .before .before .before .before .before .before in
+    rule-out _ _ _ _ _ _ (s .pre .1) (s .pre .2) (s .pre .3) (omega arith) (omega (arith, shape-count _ _ (s .pre .0 .read)))
+
+-- ---- 41
 
 returns-3 : tie.Need-returns-3
 returns-3 c =
-    let start = c .before .before .before .before .before .before .before .before .before .before .before in
-    let e = shape-count _ _ (start .pre .0 .read) in
-    record {
-      found = sym (on-holds _ _ _ _ _ _ (start .pre .1) (start .pre .2) (start .pre .3) (omega arith) (omega arith)
-          (c .before .before .if3 .taken) (sym (c .before .may-go-on .ensures) ∙ c .if4 .taken));
-      within = (omega arith, omega arith);
-    }
+    let p = rule (c .before .before .before) in
+    rule-holds _ _ _ _ _ _ p (on-asks _ _ _ _ _ _ p (c .before .before .if3 .taken)) _ (c .before .may-go-on .ensures) (c .if4 .taken)
 
 returns-4 : tie.Need-returns-4
 returns-4 c =
-    let start = c .before .before .before .before .before .before .before .before .before .before .before in
-    let e = shape-count _ _ (start .pre .0 .read) in
-    record {
-      found = sym (on-fails _ _ _ _ _ _ (start .pre .1) (start .pre .2) (start .pre .3) (omega arith) (omega arith)
-          (c .before .before .if3 .taken) (sym (c .before .may-go-on .ensures) ∙ c .if4 .left));
-      within = tt;
-    }
+    let p = rule (c .before .before .before) in
+    rule-fails _ _ _ _ _ _ p (on-asks _ _ _ _ _ _ p (c .before .before .if3 .taken)) _ (c .before .may-go-on .ensures) (c .if4 .left)
+
+-- ---- 42
 
 returns-5 : tie.Need-returns-5
 unfolding blocked
 returns-5 c =
-    let start = c .before .before .before .before .before .before .before .before .before .before .before .before in
-    let e = shape-count _ _ (start .pre .0 .read) in
-    record {
-      found = sym (off-holds _ _ _ _ _ _ (start .pre .1) (start .pre .2) (start .pre .3) (omega arith) (omega arith)
-          (c .before .before .if5 .taken) (sym (c .before .may-go-off .ensures) ∙ c .if6 .taken));
-      within = (omega arith, omega arith);
-    }
+    let p = rule (c .before .before .before .before) in
+    rule-holds _ _ _ _ _ _ p (off-asks _ _ _ _ _ _ p (c .before .before .if5 .taken)) _ (c .before .may-go-off .ensures) (c .if6 .taken)
 
 returns-6 : tie.Need-returns-6
 unfolding blocked
 returns-6 c =
-    let start = c .before .before .before .before .before .before .before .before .before .before .before .before in
-    let e = shape-count _ _ (start .pre .0 .read) in
-    record {
-      found = sym (off-fails _ _ _ _ _ _ (start .pre .1) (start .pre .2) (start .pre .3) (omega arith) (omega arith)
-          (c .before .before .if5 .taken) (sym (c .before .may-go-off .ensures) ∙ c .if6 .left));
-      within = tt;
-    }
+    let p = rule (c .before .before .before .before) in
+    rule-fails _ _ _ _ _ _ p (off-asks _ _ _ _ _ _ p (c .before .before .if5 .taken)) _ (c .before .may-go-off .ensures) (c .if6 .left)
+
+-- ---- 53, and an unknown code
 
 returns-7 : tie.Need-returns-7
 returns-7 c =
-    let start = c .before .before .before .before .before .before .before .before .before .before .before .before .before in
-    let e = shape-count _ _ (start .pre .0 .read) in
-    record {
-      found = sym (split-holds _ _ _ _ _ _ (start .pre .1) (start .pre .2) (start .pre .3) (omega arith) (omega arith)
-          (c .before .before .if7 .taken) (sym (c .before .is-uncoloured .ensures) ∙ c .if8 .taken));
-      within =
-          (omega arith, omega arith);
-    }
+    let p = rule (c .before .before .before .before .before) in
+    rule-holds _ _ _ _ _ _ p (split-asks _ _ _ _ _ _ p (c .before .before .if7 .taken)) _ (c .before .is-uncoloured .ensures)
+    (c .if8 .taken)
 
 returns-8 : tie.Need-returns-8
 returns-8 c =
-    let start = c .before .before .before .before .before .before .before .before .before .before .before .before .before in
-    let e = shape-count _ _ (start .pre .0 .read) in
-    record {
-      found = sym (split-fails _ _ _ _ _ _ (start .pre .1) (start .pre .2) (start .pre .3) (omega arith) (omega arith)
-          (c .before .before .if7 .taken) (sym (c .before .is-uncoloured .ensures) ∙ c .if8 .left));
-      within = tt;
-    }
+    let p = rule (c .before .before .before .before .before) in
+    rule-fails _ _ _ _ _ _ p (split-asks _ _ _ _ _ _ p (c .before .before .if7 .taken)) _ (c .before .is-uncoloured .ensures)
+    (c .if8 .left)
 
 returns-9 : tie.Need-returns-9
 returns-9 c =
-    let start = c .before .before .before .before .before .before .before .before .before .before .before in
-    record {
-      found = sym (code-unknown _ _ _ _ _ _ (start .pre .1) (start .pre .2) (start .pre .3) (c .before .before .if3 .left)
-          (c .before .if5 .left) (c .if7 .left));
-      within = tt;
-    }
+    code-unknown _ _ _ _ _ _ (rule (c .before .before .before)) (c .before .before .if3 .left) (c .before .if5 .left) (c .if7 .left)
 
 pub check-rule-step-spec : {M : Type 1} → statement M
 check-rule-step-spec =

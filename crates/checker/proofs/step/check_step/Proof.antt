@@ -7,7 +7,7 @@ use Rattle.checker.proofs.step.check_step.Statement.{statement}
 use Rattle.checker.proofs.step.check_step.Tie as tie
 
 returns : tie.Need-returns
-returns c = record { found = sym (step-late _ _ _ _ _ _ (omega arith)); within = tt }
+returns c = step-late _ _ _ _ _ _ (omega arith)
 
 returns-2 : tie.Need-returns-2
 returns-2 c =
@@ -16,19 +16,11 @@ returns-2 c =
 
 returns-3 : tie.Need-returns-3
 returns-3 c =
-    record {
-      found = sym (end-holds _ _ _ _ _ _ (omega arith) (c .before .before .before .if3 .taken)
-          (sym (c .before .is-ended .ensures) ∙ c .if4 .taken));
-      within = omega arith;
-    }
+    end-holds _ _ _ _ _ _ (omega arith) (c .before .before .before .if3 .taken) (sym (c .before .is-ended .ensures) ∙ c .if4 .taken)
 
 returns-4 : tie.Need-returns-4
 returns-4 c =
-    record {
-      found = sym (end-fails _ _ _ _ _ _ (omega arith) (c .before .before .before .if3 .taken)
-          (sym (c .before .is-ended .ensures) ∙ c .if4 .left));
-      within = tt;
-    }
+    end-fails _ _ _ _ _ _ (omega arith) (c .before .before .before .if3 .taken) (sym (c .before .is-ended .ensures) ∙ c .if4 .left)
 
 pub check-step-spec : {M : Type 1} → statement M
 check-step-spec =

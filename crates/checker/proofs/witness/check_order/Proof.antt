@@ -1,14 +1,19 @@
 -- The first i bytes are right, the tables hold their rules and the heads of these, and the rest decides.
 use borrow.Author.Needs.{needs}
 use native.Mathlib.Omega.{arith}
-use mathlib.Core.Path.{sym, _∙_}
-use Prim.Native.Nat.{_-_}
-use lib.ListN.{length}
+use mathlib.Core.Path.{_≡_, sym, _∙_}
+use mathlib.Core.List.{List·Memᴰ}
+use Prim.Native.Nat.{_-_, _<_}
+use lib.ListN.{length, getD}
 use borrow.Author.Tests.{not-true, not-false}
+use Rattle.meaning.specs.declared.AtomNo.{AtomNo}
+use Rattle.meaning.specs.Sets.{every}
+use Rattle.meaning.specs.Books.{ruleNo, Rule, rule}
 use Rattle.book.specs.Format.{bookIn}
+use Rattle.book.specs.Tables.{atomsIn}
 use Rattle.book.proofs.Bodies.{every-part}
 use Rattle.book.proofs.Asked.{pos-small}
-use Rattle.book.proofs.Places.{shape-count, head-below, pos-below}
+use Rattle.book.proofs.Places.{shape-count, head-small, pos-below}
 use Rattle.checker.proofs.WitnessChecked.{Ordered, ordered-start, ordered-end, stops-number, stops-again, stops-positive}
 use Rattle.checker.proofs.WitnessChecked.{ordered-next}
 use Rattle.checker.proofs.witness.check_order.Statement.{statement}
@@ -23,48 +28,66 @@ abbrev μ-loop : tie.MeasureT-loop
 loop-holds : tie.Need-loop-holds Inv-loop μ-loop
 loop-holds c = ordered-start _ _ _
 
+-- the turn's number is one of the book: the turn of the loop, the start, and that its positive atoms have places in the table
+module _ (c : tie.After-wide Inv-loop μ-loop) where
+  abbrev turn : tie.At-loop Inv-loop μ-loop
+  turn = c .before .before .before .before .before
+
+  abbrev start : tie.Start Inv-loop μ-loop
+  start = turn .before .before .before
+
+  abbrev ruleAt : Rule
+  ruleAt = rule (bookIn (start .args .book .now)) (ruleNo (getD (start .args .list .now) (turn .loop .i) 0))
+
+  small : (a : AtomNo) → List·Memᴰ a (ruleAt .pos) → a .0 < 255
+  small = pos-small _ _ (start .pre .0) (omega arith) _ (omega arith)
+
+-- its positive atoms are looked up
+module _ (c : tie.After-every-in Inv-loop μ-loop) where
+  abbrev known : tie.After-wide Inv-loop μ-loop
+  known = c .before .before .before .before
+
+  looked-up : every (atomsIn (turn known .loop .headed)) (ruleAt known .pos) ≡ c .every-in .result
+  looked-up = sym (every-part _ _ _ (c .before .before .positives .ensures)) ∙ sym (c .every-in .ensures)
+
+-- its head is read, which has a place in the table
+module _ (c : tie.After-head Inv-loop μ-loop) where
+  abbrev asked : tie.After-every-in Inv-loop μ-loop
+  asked = c .before .before .before
+
+  place : c .head .result .0 < 255
+  place = head-small _ _ (start (known asked) .pre .0) _ (omega arith) (omega arith) _ (c .head .ensures)
+
 returns : tie.Need-returns Inv-loop μ-loop
 returns c =
-    let start = c .before .before .before .before .before .before .before in
-    sym (stops-number (c .before .before .before .before .loop .inv) (omega arith) (omega (arith, shape-count _ _ (start .pre .0))))
+    let t = c .before .before .before .before in
+    sym (stops-number (t .loop .inv) (omega arith) (omega (arith, shape-count _ _ (t .before .before .before .pre .0))))
 
 returns-2 : tie.Need-returns-2 Inv-loop μ-loop
-returns-2 c =
-    sym (stops-again (c .before .before .before .before .before .before .loop .inv) (omega arith) _ (c .before .wide .ensures .0)
-    (c .if2 .taken))
+returns-2 c = let p = c .before in sym (stops-again (turn p .loop .inv) (omega arith) _ (p .wide .ensures .0) (c .if2 .taken))
 
 every-in-requires : tie.Need-every-in-requires Inv-loop μ-loop
 every-in-requires c κs =
-    let start = c .before .before .before .before .before .before .before .before .before .before .before in
-    pos-below _ _ (start .pre .0) _ (omega arith) (omega arith) _ (c .before .positives .ensures)
+    pos-below _ _ (start (c .before .before .before) .pre .0) _ (omega arith) (omega arith) _ (c .before .positives .ensures)
 
 returns-3 : tie.Need-returns-3 Inv-loop μ-loop
 returns-3 c =
-    let start = c .before .before .before .before .before .before .before .before .before .before .before .before .before in
-    sym (stops-positive (c .before .before .before .before .before .before .before .before .before .before .loop .inv)
-    (omega arith) _ (c .before .before .before .before .before .wide .ensures .0) (pos-small _ _ (start .pre .0) (omega arith) _
-    (omega arith)) (sym (every-part _ _ _ (c .before .before .before .positives .ensures)) ∙ sym (c .before .every-in .ensures)
-    ∙ not-true _ (c .if3 .taken)))
+    let q = c .before in
+    let p = known q in
+    sym (stops-positive (turn p .loop .inv) (omega arith) _ (p .wide .ensures .0) (small p) (looked-up q ∙ not-true _ (c .if3 .taken)))
 
 array-write-headed : tie.Need-array-write-headed Inv-loop μ-loop
-array-write-headed c =
-    let start = c .before .before .before .before .before .before .before .before .before .before .before .before .before .before
-    .before .before in
-    omega (arith, head-below _ _ (start .pre .0) _ (omega arith) _ (c .before .head .ensures))
+array-write-headed c = omega (arith, place (c .before))
 
 loop-again : tie.Need-loop-again Inv-loop μ-loop
 loop-again c =
-    let start = c .before .before .before .before .before .before .before .before .before .before .before .before .before .before
-    .before .before in
-    let small = head-below _ _ (start .pre .0) _ (omega arith) _ (c .before .head .ensures) in
-    let e = shape-count _ _ (start .pre .0) in
-    ordered-next (c .before .before .before .before .before .before .before .before .before .before .before .before
-    .before .loop .inv) (omega arith) _ (c .before .before .before .before .before .before .before .before .wide .ensures .0)
-    (pos-small _ _ (start .pre .0) (omega arith) _ (omega arith)) (omega arith) (omega arith)
-    (c .before .before .before .before .before .before .before .if2 .left)
-    (sym (every-part _ _ _ (c .before .before .before .before .before .before .positives .ensures))
-    ∙ sym (c .before .before .before .before .every-in .ensures) ∙ not-false _ (c .before .before .before .if3 .left)) _ _ _
-    (c .before .before .wide2 .ensures .0) (c .wide3 .ensures .0) (c .before .head .ensures) (omega arith)
+    let h = c .before in
+    let q = asked h in
+    let p = known q in
+    let e = shape-count _ _ (start p .pre .0) in
+    ordered-next (turn p .loop .inv) (omega arith) _ (p .wide .ensures .0) (small p) (omega arith) (omega arith)
+    (q .before .before .before .if2 .left) (looked-up q ∙ not-false _ (h .before .before .if3 .left)) _ _ _
+    (h .before .wide2 .ensures .0) (c .wide3 .ensures .0) (h .head .ensures) (place h)
 
 returns-4 : tie.Need-returns-4 Inv-loop μ-loop
 returns-4 c = sym (ordered-end (c .before .loop .inv) (omega arith))

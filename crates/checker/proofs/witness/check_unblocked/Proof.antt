@@ -24,27 +24,37 @@ loop-holds c = (search needs, rw add-zero)
 
 is-blocked-requires : tie.Need-is-blocked-requires Inv-loop μ-loop
 is-blocked-requires c κs =
-    let start = c .before .before .before .before .before in
-    (start .pre .0, start .pre .1 .at (c .before .before .loop .i) (omega arith))
+    let t = c .before .before in
+    let s = t .before .before .before in
+    (s .pre .0, s .pre .1 .at (t .loop .i) (omega arith))
+
+-- a rule is tested: the turn of the loop, and the start
+module _ (c : tie.After-is-blocked Inv-loop μ-loop) where
+  abbrev turn : tie.At-loop Inv-loop μ-loop
+  turn = c .before .before .before
+
+  abbrev start : tie.Start Inv-loop μ-loop
+  start = turn .before .before .before
 
 returns : tie.Need-returns Inv-loop μ-loop
 returns c =
-    let start = c .before .before .before .before .before .before .before in
-    sym (c .before .before .before .before .loop .inv .1 ∙ blocked-stops _ (start .args .list .now) (start .args .from)
-    (c .before .before .before .before .loop .i) _ (omega arith) (sym (c .before .is-blocked .ensures) ∙ c .if1 .taken))
+    let p = c .before in
+    sym (turn p .loop .inv .1 ∙ blocked-stops _ (start p .args .list .now) (start p .args .from) (turn p .loop .i) _ (omega arith)
+    (sym (p .is-blocked .ensures) ∙ c .if1 .taken))
 
 loop-again : tie.Need-loop-again Inv-loop μ-loop
 loop-again c =
-    let start = c .before .before .before .before .before .before .before in (
+    let p = c .before in (
       omega arith,
-      c .before .before .before .before .loop .inv .1 ∙ blocked-next _ (start .args .list .now) (start .args .from)
-          (c .before .before .before .before .loop .i) _ (omega arith) (sym (c .before .is-blocked .ensures) ∙ c .if1 .left),
+      turn p .loop .inv .1 ∙ blocked-next _ (start p .args .list .now) (start p .args .from) (turn p .loop .i) _ (omega arith)
+          (sym (p .is-blocked .ensures) ∙ c .if1 .left),
     )
 
 returns-2 : tie.Need-returns-2 Inv-loop μ-loop
 returns-2 c =
-    let start = c .before .before .before .before in
-    sym (c .before .loop .inv .1 ∙ blocked-end _ (start .args .list .now) (start .args .from) (c .before .loop .i) _ (omega arith))
+    let t = c .before in
+    let s = t .before .before .before in
+    sym (t .loop .inv .1 ∙ blocked-end _ (s .args .list .now) (s .args .from) (t .loop .i) _ (omega arith))
 
 pub check-unblocked-spec : {M : Type 1} → statement M
 check-unblocked-spec =

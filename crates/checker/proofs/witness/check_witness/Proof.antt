@@ -1,71 +1,91 @@
 -- The three passes in their order. Once the order is right, the tables of the listed rules and of their heads say what the definition asks.
 use borrow.Author.Needs.{needs}
 use native.Mathlib.Omega.{arith}
-use mathlib.Core.Path.{refl, sym, _∙_, ap}
+use mathlib.Core.Path.{_≡_, refl, sym, _∙_, ap}
+use mathlib.Core.List.{List, []}
+use Prim.Native.Nat.{ℕ, _+_, _-_, _≤_}
+use lib.ListN.{take, drop}
 use borrow.Author.Tests.{not-true, not-false}
+use Rattle.book.specs.Format.{bookIn}
+use Rattle.book.specs.Tables.{Below}
 use Rattle.book.proofs.Places.{shape-count}
+use Rattle.checker.specs.Witness.{fine, orderOf}
 use Rattle.checker.specs.Parts.{verdict}
 use Rattle.checker.proofs.Lists.{below-more}
-use Rattle.checker.proofs.WitnessChecked.{order-below, witness-order, finds-blocked, finds-rest, finds-right}
+use Rattle.checker.proofs.WitnessChecked.{order-below, Tabled, finds-order, finds-blocked, finds-rest, finds-right}
 use Rattle.checker.proofs.witness.check_witness.Statement.{statement}
 use Rattle.checker.proofs.witness.check_witness.Tie as tie
 
+-- behind the first pass: the start, and the witness as the code has it
+module _ (c : tie.After-check-order) where
+  abbrev start : tie.Start
+  start = c .before .before .before .before .before
+
+  abbrev from : ℕ
+  from = start .args .trailer .from
+
+  abbrev list : List ℕ
+  list = take (from + start .args .trailer .count - from) (drop from (start .args .paper .now))
+
+-- the order is right
+module _ (c : tie.After-enum-told) where
+  abbrev first : tie.After-check-order
+  first = c .before .before
+
+  ordered : orderOf (bookIn (start first .args .book .now)) (from first) [] (list first) ≡ fine
+  ordered = sym (first .check-order .ensures) ∙ ap verdict (c .enum-told .given .1)
+
+  below : (n : ℕ) → start first .args .shape .rules ≤ n → Below n (list first)
+  below n h = below-more (omega (arith, shape-count _ _ (start first .pre .0))) (order-below _ _ _ ordered)
+
+-- the tables are made
+module _ (c : tie.After-heads-of) where
+  abbrev right : tie.After-enum-told
+  right = c .before .before .before .before .before
+
+  tabled : let s = start (first right) .args in
+      Tabled (s .book .now) (s .shape) (s .paper .now) (s .trailer .from) (s .trailer .count) (list (first right))
+      (c .before .before .before .with-rules .result) (c .heads-of .last .1 .1 .1 .0)
+  tabled = record {
+    read = start (first right) .pre .0;
+    small = omega arith;
+    part = refl;
+    order = ordered right;
+    rules = c .before .before .before .with-rules .ensures;
+    table = c .heads-of .ensures;
+  }
+
 returns : tie.Need-returns
 returns c =
-    sym (witness-order _ _ _ _ _ refl _ (sym (c .before .before .before .check-order .ensures)
-    ∙ ap verdict (c .before .at .given .1)))
+    let p = c .before .before .before in finds-order _ _ _ _ _ refl _ (p .check-order .ensures) _ (c .before .at .given .1)
 
 with-rules-requires : tie.Need-with-rules-requires
-with-rules-requires c κs =
-    let start = c .before .before .before .before .before .before .before .before in
-    let fine = sym (c .before .before .before .check-order .ensures) ∙ ap verdict (c .before .enum-told .given .1) in
-    below-more (omega (arith, shape-count _ _ (start .pre .0))) (order-below _ _ _ fine)
+with-rules-requires c κs = below (c .before) _ (omega arith)
 
 check-unblocked-requires : tie.Need-check-unblocked-requires
 check-unblocked-requires c κs =
-    let start = c .before .before .before .before .before .before .before .before .before .before .before .before .before .before in
-    let fine = sym (c .before .before .before .before .before .before .before .before .before .check-order .ensures)
-    ∙ ap verdict (c .before .before .before .before .before .before .before .enum-told .given .1) in
-    (start .pre .0, below-more (omega (arith, shape-count _ _ (start .pre .0))) (order-below _ _ _ fine), search needs)
+    let p = right (c .before .before) in (start (first p) .pre .0, below p _ (omega arith), search needs)
 
 returns-2 : tie.Need-returns-2
 returns-2 c =
-    let start = c .before .before .before .before .before .before .before .before .before .before .before .before .before .before
-    .before .before .before .before in
-    sym (finds-blocked _ _ (start .pre .0) (omega arith) _ _ _ _ refl
-    (sym (c .before .before .before .before .before .before .before .before .before .before .before .before
-    .before .check-order .ensures) ∙ ap verdict (c .before .before .before .before .before .before .before .before .before .before
-    .before .enum-told .given .1)) _ _ (c .before .before .before .before .before .before .before .before
-    .before .with-rules .ensures) (c .before .before .before .before .before .before .heads-of .ensures) _
-    (sym (c .before .before .before .check-unblocked .ensures) ∙ ap verdict (c .before .at2 .given .1)))
+    let p = c .before .before .before in
+    finds-blocked (tabled (p .before .before .before)) _ (p .check-unblocked .ensures) _ (c .before .at2 .given .1)
+
+-- ---- behind the second pass, which finds nothing
 
 returns-3 : tie.Need-returns-3
 returns-3 c =
-    let start = c .before .before .before .before .before .before .before .before .before .before .before .before .before .before
-    .before .before .before .before .before .before .before in
-    sym (finds-rest _ _ (start .pre .0) (omega arith) _ _ _ _ refl
-    (sym (c .before .before .before .before .before .before .before .before .before .before .before .before .before .before .before
-    .before .check-order .ensures) ∙ ap verdict (c .before .before .before .before .before .before .before .before .before .before
-    .before .before .before .before .enum-told .given .1)) _ _
-    (c .before .before .before .before .before .before .before .before .before .before .before .before .with-rules .ensures)
-    (c .before .before .before .before .before .before .before .before .before .heads-of .ensures)
-    (sym (c .before .before .before .before .before .before .check-unblocked .ensures)
-    ∙ ap verdict (c .before .before .before .before .enum-told2 .given .1)) (sym (c .before .rest-fails .ensures)
-    ∙ not-true _ (c .if1 .taken)))
+    let q = c .before .before .before .before in
+    let p = q .before .before in
+    finds-rest (tabled (p .before .before .before)) _ (p .check-unblocked .ensures) (q .enum-told2 .given .1) _
+    (c .before .rest-fails .ensures) (not-true _ (c .if1 .taken))
 
 returns-4 : tie.Need-returns-4
 returns-4 c =
-    let start = c .before .before .before .before .before .before .before .before .before .before .before .before .before .before
-    .before .before .before .before .before .before .before in
-    sym (finds-right _ _ (start .pre .0) (omega arith) _ _ _ _ refl
-    (sym (c .before .before .before .before .before .before .before .before .before .before .before .before .before .before .before
-    .before .check-order .ensures) ∙ ap verdict (c .before .before .before .before .before .before .before .before .before .before
-    .before .before .before .before .enum-told .given .1)) _ _
-    (c .before .before .before .before .before .before .before .before .before .before .before .before .with-rules .ensures)
-    (c .before .before .before .before .before .before .before .before .before .heads-of .ensures)
-    (sym (c .before .before .before .before .before .before .check-unblocked .ensures)
-    ∙ ap verdict (c .before .before .before .before .enum-told2 .given .1)) (sym (c .before .rest-fails .ensures)
-    ∙ not-false _ (c .if1 .left)))
+    let q = c .before .before .before .before in
+    let p = q .before .before in
+    finds-right (tabled (p .before .before .before)) _ (p .check-unblocked .ensures) (q .enum-told2 .given .1) _
+    (c .before .rest-fails .ensures) (not-false _ (c .if1 .left))
 
 pub check-witness-spec : {M : Type 1} → statement M
 check-witness-spec =

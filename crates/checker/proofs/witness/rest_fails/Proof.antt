@@ -31,28 +31,38 @@ loop-holds : tie.Need-loop-holds Inv-loop μ-loop
 unfolding everyBelow
 loop-holds c = search needs
 
+-- rule r is looked up in the set of listed rules: the turn of the loop, the start, and what the turn asks of the rule
+module _ (c : tie.After-wide Inv-loop μ-loop) where
+  abbrev turn : tie.At-loop Inv-loop μ-loop
+  turn = c .before .before .before
+
+  abbrev start : tie.Start Inv-loop μ-loop
+  start = turn .before .before
+
+  abbrev Passes : Type 0
+  Passes = (of (start .args .listed .now) (ruleNo (turn .loop .r))
+      || fails (atomsIn (start .args .headed .now)) (rule (bookIn (start .args .book .now)) (ruleNo (turn .loop .r)))) ≡ true
+
 returns : tie.Need-returns Inv-loop μ-loop
 returns c =
-    let start = c .before .before .before .before .before .before .before .before .before in
-    sym (rest-stops _ _ (ruleNo (c .before .before .before .before .before .before .before .loop .r)) (shape-in _ _ (start .pre)
-    (ruleNo (c .before .before .before .before .before .before .before .loop .r)) (omega arith))
-    (neither (of-place _ _ (c .before .before .before .before .before .before .before .loop .r) _
-    (c .before .before .before .before .wide .ensures .0) (not-true _ (c .before .before .if2 .taken)))
+    let p = c .before .before .before .before in
+    sym (rest-stops _ _ (ruleNo (turn p .loop .r)) (shape-in _ _ (start p .pre) (ruleNo (turn p .loop .r)) (omega arith))
+    (neither (of-place _ _ (turn p .loop .r) _ (p .wide .ensures .0) (not-true _ (c .before .before .if2 .taken)))
     (sym (c .before .fails-in .ensures) ∙ not-true _ (c .if3 .taken))))
 
+passes : (c : tie.Joined2 Inv-loop μ-loop) → Passes (c .before .before)
+passes c =
+    let p = c .before .before in
+    ⊎-elim {C = Passes p}
+    (λ w. other (of (start p .args .listed .now) (ruleNo (turn p .loop .r))) (sym (w .1 .ensures) ∙ not-false _ (w .2 .left)))
+    (λ w. first _ (of-place _ _ (turn p .loop .r) _ (p .wide .ensures .0) (not-false _ (w .left)))) (c .if2 .came)
+
 loop-again : tie.Need-loop-again Inv-loop μ-loop
-loop-again c =
-    let start = c .before .before .before .before .before .before .before in (
-      omega arith,
-      all-next _ _ (⊎-elim (λ w. other (of (start .args .listed .now)
-          (ruleNo (c .before .before .before .before .before .loop .r))) (sym (w .1 .ensures) ∙ not-false _ (w .2 .left)))
-          (λ w. first _ (of-place _ _ (c .before .before .before .before .before .loop .r) _ (c .before .before .wide .ensures .0)
-          (not-false _ (w .left)))) (c .if2 .came)) (c .before .before .before .before .before .loop .inv .1),
-    )
+loop-again c = (omega arith, all-next _ _ (passes c) (turn (c .before .before) .loop .inv .1))
 
 returns-2 : tie.Need-returns-2 Inv-loop μ-loop
 returns-2 c =
-    sym (rest-end _ _ _ (omega (arith, shape-count _ _ (c .before .before .before .before .pre))) (c .before .before .loop .inv .1))
+    let t = c .before .before in sym (rest-end _ _ _ (omega (arith, shape-count _ _ (t .before .before .pre))) (t .loop .inv .1))
 
 pub rest-fails-spec : {M : Type 1} → statement M
 rest-fails-spec =
