@@ -7,7 +7,8 @@
 //
 // With R rules, a step 41 costs two passes over the rules and one over its body, a 42 one and one;
 // a 55 one pass over the rules, one over its list and one over the positive atoms of each listed
-// rule; a 45 two passes over the rules; a 53 two reads. A pass over the rules reads one head a rule.
+// rule; a 45 two passes over the rules; a 53 two reads. A pass over the rules reads one head of
+// each.
 
 mod answer;
 mod branch;

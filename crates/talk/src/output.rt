@@ -47,7 +47,8 @@ fn least(a: usize, b: usize) -> usize
 // The first n bytes, two digits each, at the start of out. Gives how many digits.
 fn put_digits(bytes: &[u8], n: usize, out: &mut [u8]) -> usize
     requires { ⌜ (n ≤ length (now bytes)) × (2 * n ≤ length (now out)) ⌝ }
-    ensures { λ r. ⌜ (r ≡ 2 * n) × (now (out .exit) ≡ spelled n (now (bytes .entry)) (now (out .entry))) ⌝ }
+    ensures { λ r. ⌜ (r ≡ 2 * n)
+        × (now (out .exit) ≡ spelled n (now (bytes .entry)) (now (out .entry))) ⌝ }
     ensures { λ r. ⌜ Counts r (now (out .exit)) ⌝ }
 {
     let mut i = 0;

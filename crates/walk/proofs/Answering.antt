@@ -24,7 +24,7 @@ use Rattle.walk.specs.Run.{Wanted, State, run}
 use Rattle.walk.specs.Room.{Room}
 use Rattle.walk.specs.Find.{Told, refused, refusedAt, toldBy, startOf, answeredBy, findIn, findOf}
 use Rattle.walk.specs.Page.{Told as PageTold, refused as small, refusedAt as badAt, toldBy as pageToldBy, setIn, eventsFrom, roomIn}
-use Rattle.walk.specs.Page.{pagedBy, pageIn, pageRead, pageOf}
+use Rattle.walk.specs.Page.{Paged, pagedBy, pageIn, pageRead, pageOf}
 use Rattle.walk.specs.declared.tally.Halt.{Halt}
 use Rattle.walk.specs.declared.tally.Halt.the-variants.{Going, Full, Limit, NotLeast}
 use Rattle.walk.specs.declared.tally.Tally.{Tally}
@@ -55,6 +55,11 @@ module _ (s : List ℕ) {x : Read} (e : bookTold x ≡ toldOf (readOf s)) where
       → record { told = badAt (numberOf f) (placeOf f); buffer = out } ≡ pageOf s limit tries row out
   unfolding pageOf pageRead
   page-refused limit tries row out f = sym (rw (read-bad f))
+
+  pub page-read : (limit tries : ℕ) (row out : List ℕ) {h : Shape} {p : Paged} → x ≡ Good h
+      → p ≡ pageIn (bookIn s) limit tries row out → p ≡ pageOf s limit tries row out
+  unfolding pageOf pageRead bookIn bookOf
+  page-read limit tries row out f g = g ∙ rw (told-good (readOf s) _ _ _ (read-as f))
 
 -- ---- the start of a walk
 
@@ -117,52 +122,51 @@ first-events : (b : Book) (n : ℕ) (x : Atoms) → n ≡ 0 → eventsFrom b n x
 unfolding eventsFrom
 first-events b n x e = rw e
 
-module _ (s : List ℕ) (h : Shape) (e : ReadAs s h) where
-  pub page-read : (limit tries : ℕ) (row out : List ℕ) → pageIn (bookIn s) limit tries row out ≡ pageOf s limit tries row out
-  unfolding pageOf pageRead bookIn bookOf
-  page-read limit tries row out = rw (told-good (readOf s) _ _ _ e)
+module _ (s : List ℕ) (h : Shape) (e : ReadAs s h) (tries : ℕ) (out : List ℕ) where
+  abbrev start : State
+  start = record { tally = record { tries = tries; sets = 0; halt = Going }; out = out }
 
-  module _ (limit tries : ℕ) (row out : List ℕ) where
-    pub page-no-room : length out < h .atoms → record { told = small 8; buffer = out } ≡ pageIn (bookIn s) limit tries row out
-    unfolding pageIn
-    page-no-room l = sym (lt-yes _ _ _ _ (rw (shape-atoms s h e) l))
+  pub page-no-room : (limit : ℕ) (row : List ℕ) → length out < h .atoms
+      → record { told = small 8; buffer = out } ≡ pageIn (bookIn s) limit tries row out
+  unfolding pageIn
+  page-no-room limit row l = sym (lt-yes _ _ _ _ (rw (shape-atoms s h e) l))
 
-    module _ (l : h .atoms ≤ length out) {room : ℕ} (f : room ≡ ifEq (h .atoms) 0 1 (length out / h .atoms)) where
-      room-is : room ≡ roomIn (bookIn s) (length out)
-      unfolding roomIn
-      room-is = f ∙ ap (λ (a : ℕ). ifEq a 0 1 (length out / a)) (sym (shape-atoms s h e))
+  module _ (l : h .atoms ≤ length out) {room : ℕ} (f : room ≡ ifEq (h .atoms) 0 1 (length out / h .atoms)) where
+    room-is : room ≡ roomIn (bookIn s) (length out)
+    unfolding roomIn
+    room-is = f ∙ ap (λ (a : ℕ). ifEq a 0 1 (length out / a)) (sym (shape-atoms s h e))
 
-      pub page-room : Room (bookIn s) 0 room (record { tally = record { tries = tries; sets = 0; halt = Going }; out = out })
-      page-room =
-          room-start (bookIn s) 0 room tries out (rw room-is (room-some (bookIn s) (length out) (rw (shape-atoms s h e) l)))
-          (rw room-is (rooms-fit (bookIn s) (length out)))
+    -- what the walk and resuming ask
+    pub page-room : ReadAs s h × Room (bookIn s) 0 room start
+    page-room = (
+      e,
+      room-start (bookIn s) 0 room tries out (rw room-is (room-some (bookIn s) (length out) (rw (shape-atoms s h e) l)))
+          (rw room-is (rooms-fit (bookIn s) (length out))),
+    )
 
-      page-walked : {t : Tally} {w : List ℕ} {r : PageTold} → record { tally = t; out = w }
-          ≡ run (bookIn s) (record { pass = 0; room = room; limit = limit })
-          (record { tally = record { tries = tries; sets = 0; halt = Going }; out = out }) (eventsFrom (bookIn s) tries (setIn row))
-          → r ≡ pageToldBy (t .halt) (record { tally = t; out = [] })
-          → record { told = r; buffer = w } ≡ pageIn (bookIn s) limit tries row out
-      unfolding pageIn
-      page-walked {t} {w} g k =
-          rw (k ∙ page-any-buffer (t .halt) t [] w)
-          (sym (lt-no _ _ _ _ (rw (shape-atoms s h e) l) ∙ ap pagedBy (rw (← room-is) (sym g))))
-
+    module _ (limit : ℕ) (row : List ℕ) where
       abbrev w : Wanted
       w = record { pass = 0; room = room; limit = limit }
 
-      abbrev start : State
-      start = record { tally = record { tries = tries; sets = 0; halt = Going }; out = out }
-
-      module _ {c : Colouring} (empty : c ≡ nothing) {t : Tally} {o : List ℕ} {r : PageTold}
-          (k : r ≡ pageToldBy (t .halt) (record { tally = t; out = [] })) where
-        pub page-first : tries ≡ 0 → record { tally = t; out = o } ≡ run (bookIn s) w start (events (bookIn s) c)
+      -- a walk from the start along the events of the page tells the page
+      module _ {t : Tally} {o : List ℕ} {r : PageTold} (k : r ≡ pageToldBy (t .halt) (record { tally = t; out = [] })) where
+        page-walked : record { tally = t; out = o } ≡ run (bookIn s) w start (eventsFrom (bookIn s) tries (setIn row))
             → record { told = r; buffer = o } ≡ pageIn (bookIn s) limit tries row out
-        page-first z g =
+        unfolding pageIn
+        page-walked g =
+            rw (k ∙ page-any-buffer (t .halt) t [] o)
+            (sym (lt-no _ _ _ _ (rw (shape-atoms s h e) l) ∙ ap pagedBy (rw (← room-is) (sym g))))
+
+        pub page-first : {c : Colouring} → c ≡ nothing → tries ≡ 0
+            → record { tally = t; out = o } ≡ run (bookIn s) w start (events (bookIn s) c)
+            → record { told = r; buffer = o } ≡ pageIn (bookIn s) limit tries row out
+        page-first empty z g =
             page-walked (walk-from (bookIn s) w start empty g
-            ∙ ap (run (bookIn s) w start) (sym (first-events (bookIn s) tries (setIn row) z))) k
+            ∙ ap (run (bookIn s) w start) (sym (first-events (bookIn s) tries (setIn row) z)))
 
-        pub page-later : (tries ≡ 0 → ⊥) → record { tally = t; out = o } ≡ run (bookIn s) w start (rest (bookIn s) c (setIn row))
+        pub page-later : {c : Colouring} → c ≡ nothing → (tries ≡ 0 → ⊥)
+            → record { tally = t; out = o } ≡ run (bookIn s) w start (rest (bookIn s) c (setIn row))
             → record { told = r; buffer = o } ≡ pageIn (bookIn s) limit tries row out
-        page-later n g =
+        page-later empty n g =
             page-walked (g ∙ ap (λ (x : Colouring). run (bookIn s) w start (rest (bookIn s) x (setIn row))) empty
-            ∙ ap (run (bookIn s) w start) (sym (later-events (bookIn s) tries (setIn row) (omega arith)))) k
+            ∙ ap (run (bookIn s) w start) (sym (later-events (bookIn s) tries (setIn row) (omega arith))))

@@ -21,14 +21,18 @@ pub record BarredBelow (b : Book) (x : Atoms) (n : ℕ) (l : List Bool) : Type 0
   pub before : (r : RuleNo) → r .0 < n → of l r ≡ barred b x r
   pub behind : (r : RuleNo) → n ≤ r .0 → of l r ≡ false
 
-module _ (b : Book) (x : Atoms) where
+past : (b : Book) (x : Atoms) (r : RuleNo) → count b ≤ r .0 → barred b x r ≡ false
+unfolding barred rule count some
+past b x r h = rw (List·getD-eq-default (b .rules) _ h)
+
+module _ {b : Book} {x : Atoms} where
   pub barred-start : BarredBelow b x 0 (replicate 255 false)
   barred-start = record { before = λ r h. absurd (omega arith); behind = λ r h. of-none 255 r }
 
-  pub barred-turn : {n : ℕ} {l : List Bool} {v : Bool} → n < length l → v ≡ some x (rule b (ruleNo n) .neg) → BarredBelow b x n l
+  pub barred-turn : {n : ℕ} {l : List Bool} {v : Bool} → BarredBelow b x n l → n < length l → v ≡ some x (rule b (ruleNo n) .neg)
       → BarredBelow b x (n + 1) (set l n v)
   unfolding of barred
-  barred-turn {n} {l} {v} h e k = record {
+  barred-turn {n} {l} {v} k h e = record {
     before = λ r g. elim (ℕ-discrete (r .0) n) [
       | yes p ↦ here r p
       | no p ↦ getD-set-other l n (r .0) v false p ∙ k .before r (omega arith)
@@ -39,10 +43,6 @@ module _ (b : Book) (x : Atoms) where
       here : (r : RuleNo) → r .0 ≡ n → of (set l n v) r ≡ barred b x r
       here r p = rw p (getD-set-same l n v false h ∙ e)
 
-  past : (r : RuleNo) → count b ≤ r .0 → barred b x r ≡ false
-  unfolding barred rule count some
-  past r h = rw (List·getD-eq-default (b .rules) _ h)
-
-  pub barred-end : {n : ℕ} {l : List Bool} → n ≡ count b → BarredBelow b x n l → of l ≡ barred b x
-  barred-end {n} {l} e k =
-      fun-ext (λ r. ⊎-elim (λ h. k .before r (rw e h)) (λ h. k .behind r (rw e h) ∙ sym (past r h)) (in-book-or-not b r))
+  pub barred-end : {n : ℕ} {l : List Bool} → BarredBelow b x n l → n ≡ count b → of l ≡ barred b x
+  barred-end {n} {l} k e =
+      fun-ext (λ r. ⊎-elim (λ h. k .before r (rw e h)) (λ h. k .behind r (rw e h) ∙ sym (past b x r h)) (in-book-or-not b r))

@@ -8,7 +8,7 @@ use Prim.Native.Nat.{ℕ, zero, suc, _≤_, _<_}
 use native.Mathlib.Omega.{arith}
 use Rattle.meaning.specs.declared.RuleNo.{RuleNo}
 use Rattle.meaning.specs.declared.colouring.Colouring.{Colouring}
-use Rattle.meaning.specs.Books.{Atoms, Book, count}
+use Rattle.meaning.specs.Books.{Atoms, Book, InBook, count}
 use Rattle.meaning.specs.AnswerSet.{generating}
 use Rattle.meaning.specs.Colours.{Side, onSide, offSide, clashing, uncoloured}
 use Rattle.meaning.specs.Written.{colourOn, colourOff, pair}
@@ -86,70 +86,92 @@ module _ (b : Book) (fits : count b ≤ 255) where
     rest-unfold x = past-same _ _ _ _ _ _ _ (λ y r e.
         rest-enough (count b) _ x (below-sized c s y r e) (omega (arith, below-left c s y r e, left-count b c)))
 
-    -- the three ways after a closing that gave d
-    module _ (d : Colouring) (closed : d ≡ close b c) where
-      events-of : events b c ≡ afterClosing b d (events b)
-      events-of = rw closed events-unfold
+-- ---- the three ways after a closing
 
-      rest-of : (x : Atoms) → rest b c x ≡ afterPast b d x (clashing b (pair d)) (lowest b (uncoloured (pair d))) (λ e. rest b e x)
-      rest-of x = rw closed (rest-unfold x)
-
-      pub events-clash : clashing b (pair d) ≡ true → events b c ≡ clash ∷ []
-      unfolding after
-      events-clash t = rw t at events-of
-
-      pub rest-clash : (x : Atoms) → clashing b (pair d) ≡ true → rest b c x ≡ []
-      unfolding afterPast
-      rest-clash x t = rw t at (rest-of x)
-
-      -- each side of a fork has fewer rules without a colour
-      module _ (x : Side) (r : RuleNo) (p : lowest b (uncoloured (pair d)) ≡ one r) where
-        pub fork-falls : left b (chosen x r d) < left b c
-        fork-falls = rw closed (below-left c s x r (rw closed at p))
-
-        pub fork-fewer : left b (close b (chosen x r d)) < left b (close b c)
-        fork-fewer = let e = rw closed at p in
-            rw closed (omega (arith, below-fewer c s x r e, left-close b fits _ (below-sized c s x r e)))
-
-      module _ (t : clashing b (pair d) ≡ false) where
-        pub events-reading : lowest b (uncoloured (pair d)) ≡ none → events b c ≡ reading d ∷ []
-        unfolding after
-        events-reading p = rw (t, p) at events-of
-
-        pub rest-reading : (x : Atoms) → lowest b (uncoloured (pair d)) ≡ none → rest b c x ≡ []
-        unfolding afterPast
-        rest-reading x p = rw (t, p) at (rest-of x)
-
-        module _ (r : RuleNo) (p : lowest b (uncoloured (pair d)) ≡ one r) where
-          pub events-fork : events b c ≡ fork r ∷ (events b (colourOn r d) ++ events b (colourOff r d))
-          unfolding after
-          events-fork = rw (t, p) at events-of
-
-          rest-fork : (x : Atoms) → rest b c x
-              ≡ beside (generating b x r) (rest b (colourOn r d) x) (rest b (colourOff r d) x) (events b (colourOff r d))
-          unfolding afterPast
-          rest-fork x = rw (t, p) at (rest-of x)
-
-          pub rest-fork-on : (x : Atoms) → generating b x r ≡ true → rest b c x ≡ rest b (colourOn r d) x ++ events b (colourOff r d)
-          unfolding beside
-          rest-fork-on x g = rw g at (rest-fork x)
-
-          pub rest-fork-off : (x : Atoms) → generating b x r ≡ false → rest b c x ≡ rest b (colourOff r d) x
-          unfolding beside
-          rest-fork-off x g = rw g at (rest-fork x)
-
--- ---- how a walk's events are built up
-
--- at a closing that gave d
+-- a colouring c of a book that has at most 255 rules, closed to d
 pub record Closes (b : Book) (c d : Colouring) : Type 0 where
+  pub few : count b ≤ 255
   pub sized : Sized c
   pub closed : d ≡ close b c
+
+-- such a closing has no contradiction and leaves r to choose
+pub record Forks (b : Book) (c d : Colouring) (r : RuleNo) : Type 0 where
+  pub closes : Closes b c d
+  pub calm : clashing b (pair d) ≡ false
+  pub choice : lowest b (uncoloured (pair d)) ≡ one r
+
+module _ {b : Book} {c d : Colouring} where
+  module _ (k : Closes b c d) where
+    events-of : events b c ≡ afterClosing b d (events b)
+    events-of = rw (k .closed) (events-unfold b (k .few) c (k .sized))
+
+    rest-of : (x : Atoms) → rest b c x ≡ afterPast b d x (clashing b (pair d)) (lowest b (uncoloured (pair d))) (λ e. rest b e x)
+    rest-of x = rw (k .closed) (rest-unfold b (k .few) c (k .sized) x)
+
+    pub events-clash : clashing b (pair d) ≡ true → events b c ≡ clash ∷ []
+    unfolding after
+    events-clash t = rw t at events-of
+
+    pub rest-clash : (x : Atoms) → clashing b (pair d) ≡ true → rest b c x ≡ []
+    unfolding afterPast
+    rest-clash x t = rw t at (rest-of x)
+
+    module _ (t : clashing b (pair d) ≡ false) (p : lowest b (uncoloured (pair d)) ≡ none) where
+      pub events-reading : events b c ≡ reading d ∷ []
+      unfolding after
+      events-reading = rw (t, p) at events-of
+
+      pub rest-reading : (x : Atoms) → rest b c x ≡ []
+      unfolding afterPast
+      rest-reading x = rw (t, p) at (rest-of x)
+
+  module _ {r : RuleNo} (f : Forks b c d r) where
+    abbrev k : Closes b c d
+    k = f .closes
+
+    pub fork-in-book : InBook b r
+    fork-in-book = lowest-one b _ r (f .choice) .0
+
+    pub fork-low : r .0 < 255
+    fork-low = omega (arith, fork-in-book, k .few)
+
+    -- each side has fewer rules without a colour
+    module _ (x : Side) where
+      pub fork-falls : left b (chosen x r d) < left b c
+      fork-falls = rw (k .closed) (below-left b (k .few) c (k .sized) x r (rw (k .closed) at (f .choice)))
+
+      pub fork-fewer : left b (close b (chosen x r d)) < left b (close b c)
+      fork-fewer = let e = rw (k .closed) at (f .choice) in
+          rw (k .closed) (omega (
+            arith,
+            below-fewer b (k .few) c (k .sized) x r e,
+            left-close b (k .few) _ (below-sized b (k .few) c (k .sized) x r e),
+          ))
+
+    pub events-fork : events b c ≡ fork r ∷ (events b (colourOn r d) ++ events b (colourOff r d))
+    unfolding after
+    events-fork = rw (f .calm, f .choice) at (events-of k)
+
+    rest-fork : (x : Atoms) → rest b c x
+        ≡ beside (generating b x r) (rest b (colourOn r d) x) (rest b (colourOff r d) x) (events b (colourOff r d))
+    unfolding afterPast
+    rest-fork x = rw (f .calm, f .choice) at (rest-of k x)
+
+    pub rest-fork-on : (x : Atoms) → generating b x r ≡ true → rest b c x ≡ rest b (colourOn r d) x ++ events b (colourOff r d)
+    unfolding beside
+    rest-fork-on x g = rw g at (rest-fork x)
+
+    pub rest-fork-off : (x : Atoms) → generating b x r ≡ false → rest b c x ≡ rest b (colourOff r d) x
+    unfolding beside
+    rest-fork-off x g = rw g at (rest-fork x)
+
+-- ---- how a walk's events are built up
 
 pub data Walk (b : Book) : Colouring → List Event → Type 0 where
   at-clash : {c d : Colouring} → Closes b c d → clashing b (pair d) ≡ true → Walk b c (clash ∷ [])
   at-reading : {c d : Colouring} → Closes b c d → clashing b (pair d) ≡ false → lowest b (uncoloured (pair d)) ≡ none
       → Walk b c (reading d ∷ [])
-  at-fork : {c d : Colouring} {r : RuleNo} → Closes b c d → clashing b (pair d) ≡ false → lowest b (uncoloured (pair d)) ≡ one r
+  at-fork : {c d : Colouring} {r : RuleNo} → Forks b c d r
       → Walk b (colourOn r d) (events b (colourOn r d)) → Walk b (colourOff r d) (events b (colourOff r d))
       → Walk b c (fork r ∷ (events b (colourOn r d) ++ events b (colourOff r d)))
 
@@ -166,11 +188,14 @@ module _ (b : Book) (fits : count b ≤ 255) where
           d = close b c
 
           here : Closes b c d
-          here = record { sized = s; closed = refl }
+          here = record { few = fits; sized = s; closed = refl }
 
           ways : (t : Bool) → clashing b (pair d) ≡ t → (p : Pick) → lowest b (uncoloured (pair d)) ≡ p
               → ((x : Side) (r : RuleNo) → lowest b (uncoloured (pair d)) ≡ one r → Walk b (chosen x r d) (events b (chosen x r d)))
               → Walk b c (events b c)
-          ways true t p q f = rw (events-clash b fits c s d refl t) (at-clash here t)
-          ways false t none q f = rw (events-reading b fits c s d refl t q) (at-reading here t q)
-          ways false t (one r) q f = rw (events-fork b fits c s d refl t r q) (at-fork here t q (f onSide r q) (f offSide r q))
+          ways true t p q g = rw (events-clash here t) (at-clash here t)
+          ways false t none q g = rw (events-reading here t q) (at-reading here t q)
+          ways false t (one r) q g = rw (events-fork forks) (at-fork forks (g onSide r q) (g offSide r q))
+            where
+              forks : Forks b c d r
+              forks = record { closes = here; calm = t; choice = q }

@@ -3,18 +3,18 @@
 use mathlib.Core.Path.{_≡_, sym, _∙_, subst}
 use mathlib.Core.Logic.{⊎-elim}
 use mathlib.Core.Bool.{true, false, false≢true}
-use Prim.Native.Nat.{_≤_, _<_}
+use Prim.Native.Nat.{_<_}
 use native.Mathlib.Omega.{arith}
 use borrow.Author.Tests.{not-true}
 use Rattle.meaning.specs.declared.RuleNo.{RuleNo}
 use Rattle.meaning.specs.declared.colouring.Colouring.{Colouring}
 use Rattle.meaning.specs.Sets.{_∈_, _∉_}
-use Rattle.meaning.specs.Books.{Atoms, Book, count, InBook}
+use Rattle.meaning.specs.Books.{Atoms, Book, InBook}
 use Rattle.meaning.specs.AnswerSet.{AnswerSet, generating}
 use Rattle.meaning.specs.Colours.{Pair, Side, onSide, offSide, side, Under, Within, Closing}
 use Rattle.meaning.specs.Colours.{clashing, uncoloured, Total, colouringOf}
 use Rattle.meaning.specs.Written.{of, nothing, pair}
-use Rattle.meaning.specs.Lowest.{none, one, lowest}
+use Rattle.meaning.specs.Lowest.{none, lowest}
 use Rattle.meaning.proofs.Tests.{clash, same}
 use Rattle.meaning.proofs.Rules.{within-on, within-off, within-both, within-trans, clashing-no, uncoloured-no, heads-mono}
 use Rattle.meaning.proofs.Written.{Sized, pair-nothing}
@@ -24,7 +24,7 @@ use Rattle.meaning.proofs.Answers.{total-answer, total-stands, answer-heads, cl
 use Rattle.closing.specs.Left.{chosen}
 use Rattle.walk.specs.Readings.{readingOf, Agree, Before}
 use Rattle.closing.proofs.Left.{chosen-above, chosen-within, chosen-in}
-use Rattle.walk.proofs.Events.{Closes}
+use Rattle.walk.proofs.Events.{Closes, Forks, fork-in-book, fork-low}
 
 -- x is an answer set, and the colouring that stands for it holds c
 pub record Stands (b : Book) (c : Colouring) (x : Atoms) : Type 0 where
@@ -39,13 +39,13 @@ stands-nothing b x p = record {
       (within-both b (λ r h m. absurd (false≢true m)) (λ r h m. absurd (false≢true m)));
 }
 
-module _ (b : Book) (fits : count b ≤ 255) where
-  module _ {c d : Colouring} (k : Closes b c d) where
+module _ {b : Book} {c d : Colouring} where
+  module _ (k : Closes b c d) where
     closing : Closing b (pair c) (pair d)
-    closing = rw (k .closed) (close-is b fits c (k .sized))
+    closing = rw (k .closed) (close-is b (k .few) c (k .sized))
 
     sized : Sized d
-    sized = rw (k .closed) (close-sized b fits c (k .sized))
+    sized = rw (k .closed) (close-sized b (k .few) c (k .sized))
 
     -- ---- the answer sets above c are those above d
 
@@ -82,54 +82,54 @@ module _ (b : Book) (fits : count b ≤ 255) where
           on-if : Under b (generating b x) (of (d .on))
           on-if r h m = ⊎-elim (λ e. e) (λ e. clash m (not-true _ (within-off b w r h e))) (total r h)
 
-    -- ---- at a fork, each is on one side
+  -- ---- at a fork, each is on one side
 
-    module _ (r : RuleNo) (p : lowest b (uncoloured (pair d)) ≡ one r) where
-      in-book : InBook b r
-      in-book = lowest-one b _ r p .0
+  module _ {r : RuleNo} (f : Forks b c d r) where
+    abbrev k : Closes b c d
+    k = f .closes
 
-      low : r .0 < 255
-      low = omega (arith, in-book)
+    pub side-stands : (x : Side) (y : Atoms) → Stands b (chosen x r d) y → Stands b c y
+    side-stands x y s = stands-before k y (record {
+      answer = s .answer;
+      holds = within-trans b (chosen-above b d (sized k) x r (fork-low f)) (s .holds);
+    })
 
-      pub side-stands : (x : Side) (y : Atoms) → Stands b (chosen x r d) y → Stands b c y
-      side-stands x y s = stands-before y (record {
-        answer = s .answer;
-        holds = within-trans b (chosen-above b d sized x r low) (s .holds);
-      })
+    pub stands-side : (x : Side) (y : Atoms) → Stands b c y → r ∈ side x (colouringOf b y) → Stands b (chosen x r d) y
+    stands-side x y s m = record {
+      answer = s .answer;
+      holds = chosen-within b d (sized k) x r (fork-low f) _ (stands-after k y s .holds) m;
+    }
 
-      pub stands-side : (x : Side) (y : Atoms) → Stands b c y → r ∈ side x (colouringOf b y) → Stands b (chosen x r d) y
-      stands-side x y s m = record { answer = s .answer; holds = chosen-within b d sized x r low _ (stands-after y s .holds) m }
+    pub side-on : (y : Atoms) → Stands b (chosen onSide r d) y → r ∈ generating b y
+    unfolding side
+    side-on y s = s .holds .each onSide r (fork-in-book f) (chosen-in b d (sized k) onSide r (fork-low f))
 
-      pub side-on : (y : Atoms) → Stands b (chosen onSide r d) y → r ∈ generating b y
-      unfolding side
-      side-on y s = s .holds .each onSide r in-book (chosen-in b d sized onSide r low)
+    pub side-off : (y : Atoms) → Stands b (chosen offSide r d) y → r ∉ generating b y
+    unfolding side
+    side-off y s = not-true _ (s .holds .each offSide r (fork-in-book f) (chosen-in b d (sized k) offSide r (fork-low f)))
 
-      pub side-off : (y : Atoms) → Stands b (chosen offSide r d) y → r ∉ generating b y
-      unfolding side
-      side-off y s = not-true _ (s .holds .each offSide r in-book (chosen-in b d sized offSide r low))
+    -- all have the same rules below r
+    lower-agree : (x y : Atoms) → Stands b c x → Stands b c y → (q : RuleNo) → q .0 < r .0 → generating b x q ≡ generating b y q
+    lower-agree x y s t q h = ⊎-elim
+        (λ m. within-on b v q l m ∙ sym (within-on b w q l m))
+        (λ m. not-true _ (within-off b v q l m) ∙ sym (not-true _ (within-off b w q l m)))
+        (uncoloured-no b (pair d) q (lowest-one b _ r (f .choice) .2 q h))
+      where
+        v : Within b (pair d) (colouringOf b x)
+        v = stands-after k x s .holds
 
-      -- all have the same rules below r
-      lower-agree : (x y : Atoms) → Stands b c x → Stands b c y → (q : RuleNo) → q .0 < r .0 → generating b x q ≡ generating b y q
-      lower-agree x y s t q h = ⊎-elim
-          (λ m. within-on b v q l m ∙ sym (within-on b w q l m))
-          (λ m. not-true _ (within-off b v q l m) ∙ sym (not-true _ (within-off b w q l m)))
-          (uncoloured-no b (pair d) q (lowest-one b _ r p .2 q h))
-        where
-          v : Within b (pair d) (colouringOf b x)
-          v = stands-after x s .holds
+        w : Within b (pair d) (colouringOf b y)
+        w = stands-after k y t .holds
 
-          w : Within b (pair d) (colouringOf b y)
-          w = stands-after y t .holds
+        l : InBook b q
+        l = omega (arith, fork-in-book f)
 
-          l : InBook b q
-          l = omega (arith, in-book)
-
-      -- those that have the rule come first
-      pub fork-before : (x y : Atoms) → Stands b (chosen onSide r d) x → Stands b (chosen offSide r d) y → Before b x y
-      fork-before x y s t = record {
-        at = r;
-        in-book = in-book;
-        in-first = side-on x s;
-        not-in-second = side-off y t;
-        lower-agree = lower-agree x y (side-stands onSide x s) (side-stands offSide y t);
-      }
+    -- those that have the rule come first
+    pub fork-before : (x y : Atoms) → Stands b (chosen onSide r d) x → Stands b (chosen offSide r d) y → Before b x y
+    fork-before x y s t = record {
+      at = r;
+      in-book = fork-in-book f;
+      in-first = side-on x s;
+      not-in-second = side-off y t;
+      lower-agree = lower-agree x y (side-stands onSide x s) (side-stands offSide y t);
+    }

@@ -19,7 +19,7 @@ use Rattle.book.specs.declared.reader.Shape.{Shape}
 use Rattle.book.specs.Format.{bookIn, ReadAs}
 use Rattle.book.specs.Tables.{tableFrom, atomTable, atomsIn}
 use Rattle.book.proofs.AtomSets.{table-in}
-use Rattle.book.proofs.Places.{in-shape, head-below}
+use Rattle.book.proofs.Places.{shape-atoms, in-shape, head-below}
 
 -- past its last place a table says no
 table-past : (x : Atoms) (a : AtomNo) → 255 ≤ a .0 → atomsIn (atomTable x) a ≡ false
@@ -39,11 +39,11 @@ module _ (s : List ℕ) (h : Shape) (e : ReadAs s h) (small : h .atoms < 256) wh
       (lt-or-le (a .0) 255))
 
   pub test-found : (x : Atoms) (off : List Bool) {marks least : List Bool} {v : Bool} → of off ≡ barred (bookIn s) x
-      → marks ≡ support (bookIn s) (of off) → least ≡ atomTable (heads (bookIn s) (of marks)) → bookIn s .atoms ≡ h .atoms
+      → marks ≡ support (bookIn s) (of off) → least ≡ atomTable (heads (bookIn s) (of marks))
       → v ≡ everyBelow (h .atoms) (λ n. agree (atomsIn least (atomNo n)) (x (atomNo n))) → v ≡ isAnswerSet (bookIn s) x
   unfolding isAnswerSet leastModel
-  test-found x off {marks = marks} p q f n g =
+  test-found x off {marks = marks} p q f g =
       let m : marks ≡ support (bookIn s) (barred (bookIn s) x) = q ∙ ap (support (bookIn s)) p in
       g ∙ ap (λ (y : Atoms). everyBelow (h .atoms) (λ n. agree (y (atomNo n)) (x (atomNo n))))
       (ap atomsIn f ∙ heads-read (of marks) ∙ ap (λ (l : List Bool). heads (bookIn s) (of l)) m)
-      ∙ ap (λ (k : ℕ). everyBelow k (λ n. agree (leastModel (bookIn s) x (atomNo n)) (x (atomNo n)))) (sym n)
+      ∙ ap (λ (k : ℕ). everyBelow k (λ n. agree (leastModel (bookIn s) x (atomNo n)) (x (atomNo n)))) (sym (shape-atoms s h e))

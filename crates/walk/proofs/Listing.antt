@@ -1,5 +1,5 @@
--- A listing page by page (blueprint W7): a page goes on exactly where the page before ended, so that the
--- pages' rows, one after the other, are the readings of one walk, each once, and the tries at the end are those of one walk.
+-- A listing page by page (blueprint W7): a page goes on exactly where the page before ended, so that the pages' rows, one after the other,
+-- are the readings of one walk, each once, and the tries at the end are those of one walk.
 use mathlib.Core.Path.{_≡_, refl, sym, _∙_, ap, subst}
 use mathlib.Core.List.{List, [], _∷_, _++_, append-assoc}
 use Prim.Native.Nat.{ℕ, zero, suc, _+_, _*_, _-_, _≤_, _<_}

@@ -17,6 +17,7 @@ use Rattle.book.specs.Tables.{atomTable, atomsIn}
 use Rattle.book.proofs.Places.{shape-atoms}
 use Rattle.walk.specs.Run.{rowFrom, rowOf, writeAt, Wanted, State, counted, readingMet}
 use Rattle.walk.specs.Room.{Room}
+use Rattle.walk.specs.declared.tally.Halt.{Halt}
 use Rattle.walk.specs.declared.tally.Halt.the-variants.{Going, Full, NotLeast}
 use Rattle.walk.specs.declared.tally.Tally.{Tally}
 use Rattle.walk.proofs.Run.{Fine, row-fits}
@@ -43,26 +44,17 @@ module _ (b : Book) (w : Wanted) (s : State) (x : Atoms) where
   met-passed h e = rw e (sym (lt-yes _ _ _ _ h))
 
   module _ (h : w .pass ≤ s .tally .sets) where
-    pub met-wrong : {t : Tally} → isAnswerSet b x ≡ false → t ≡ counted s (s .tally .sets) NotLeast
+    not-written : {t : Tally} → isAnswerSet b x ≡ false → t ≡ counted s (s .tally .sets) NotLeast
         → record { tally = t; out = s .out } ≡ readingMet b w s x
     unfolding readingMet
-    met-wrong f e = rw e (sym (lt-no _ _ _ _ h ∙ b-no _ _ _ f))
+    not-written f e = rw e (sym (lt-no _ _ _ _ h ∙ b-no _ _ _ f))
 
-    met-written : {t : Tally} {out : List ℕ} → isAnswerSet b x ≡ true
+    written : {t : Tally} {out : List ℕ} → isAnswerSet b x ≡ true
+        → out ≡ writeAt ((s .tally .sets - w .pass) * b .atoms) (rowOf b x) (s .out)
         → t ≡ counted s (s .tally .sets + 1) (ifEq (s .tally .sets + 1) (w .pass + w .room) Full Going)
-        → out ≡ writeAt ((s .tally .sets - w .pass) * b .atoms) (rowOf b x) (s .out) → record { tally = t; out = out } ≡ readingMet b w s x
+        → record { tally = t; out = out } ≡ readingMet b w s x
     unfolding readingMet
-    met-written f e g = rw (e, g) (sym (lt-no _ _ _ _ h ∙ b-yes _ _ _ f))
-
-    pub met-full : {t : Tally} {out : List ℕ} → isAnswerSet b x ≡ true → s .tally .sets - w .pass + 1 ≡ w .room
-        → t ≡ counted s (s .tally .sets + 1) Full
-        → out ≡ writeAt ((s .tally .sets - w .pass) * b .atoms) (rowOf b x) (s .out) → record { tally = t; out = out } ≡ readingMet b w s x
-    met-full f k e g = met-written f (e ∙ ap (counted s (s .tally .sets + 1)) (sym (eq-yes _ _ _ _ (omega arith)))) g
-
-    pub met-going : {t : Tally} {out : List ℕ} → isAnswerSet b x ≡ true → (s .tally .sets - w .pass + 1 ≡ w .room → ⊥)
-        → t ≡ counted s (s .tally .sets + 1) Going
-        → out ≡ writeAt ((s .tally .sets - w .pass) * b .atoms) (rowOf b x) (s .out) → record { tally = t; out = out } ≡ readingMet b w s x
-    met-going f k e g = met-written f (e ∙ ap (counted s (s .tally .sets + 1)) (sym (eq-no _ _ _ _ (λ z. k (omega arith))))) g
+    written f g e = rw (e, g) (sym (lt-no _ _ _ _ h ∙ b-yes _ _ _ f))
 
 -- ---- in a book that was read
 
@@ -72,18 +64,38 @@ module _ (s : List ℕ) (h : Shape) (e : ReadAs s h) where
   row-place pass room t f g k =
       rw (shape-atoms s h e) at (row-fits (bookIn s) (wanted pass room 0) (length (t .out)) (f .some) (f .fits) t (room-fine 0 g f) g k)
 
-  -- the heads of some rules, by their table
-  module _ (small : h .atoms < 256) (r : Rules) {table : List Bool} (f : table ≡ atomTable (heads (bookIn s) r)) where
+  -- the heads of some rules by their table, in a state t that does not pass them over, and what number 10's test says of them
+  module _ (small : h .atoms < 256) (r : Rules) {table : List Bool} (f : table ≡ atomTable (heads (bookIn s) r))
+      (w : Wanted) (t : State) (k : w .pass ≤ t .tally .sets) {v : Bool} (g : v ≡ isAnswerSet (bookIn s) (atomsIn table)) where
     read : atomsIn table ≡ heads (bookIn s) r
     read = ap atomsIn f ∙ heads-read s h e small r
 
-    pub tested : {v : Bool} → v ≡ isAnswerSet (bookIn s) (atomsIn table) → isAnswerSet (bookIn s) (heads (bookIn s) r) ≡ v
-    tested g = sym (g ∙ ap (isAnswerSet (bookIn s)) read)
+    says : {a : Bool} → v ≡ a → isAnswerSet (bookIn s) (heads (bookIn s) r) ≡ a
+    says z = sym (ap (isAnswerSet (bookIn s)) read) ∙ sym g ∙ z
 
-    pub row-put : (i : ℕ) (out : List ℕ) {w : List ℕ} → w ≡ writeAt (i * h .atoms) (rowFrom 0 (h .atoms) (atomsIn table)) out
-        → w ≡ writeAt (i * bookIn s .atoms) (rowOf (bookIn s) (heads (bookIn s) r)) out
-    unfolding rowOf
-    row-put i out g =
-        let n = shape-atoms s h e in
-        g ∙ ap (λ (x : Atoms). writeAt (i * h .atoms) (rowFrom 0 (h .atoms) x) out) read
-        ∙ ap (λ (k : ℕ). writeAt (i * k) (rowFrom 0 k (heads (bookIn s) r)) out) (sym n)
+    pub met-wrong : v ≡ false → {u : Tally} → u ≡ counted t (t .tally .sets) NotLeast
+        → record { tally = u; out = t .out } ≡ readingMet (bookIn s) w t (heads (bookIn s) r)
+    met-wrong z q = not-written (bookIn s) w t _ k (says z) q
+
+    -- the row is written, and is the last that there is room for or not
+    module _ (z : v ≡ true) {out : List ℕ}
+        (p : out ≡ writeAt ((t .tally .sets - w .pass) * h .atoms) (rowFrom 0 (h .atoms) (atomsIn table)) (t .out)) where
+      row-put : out ≡ writeAt ((t .tally .sets - w .pass) * bookIn s .atoms) (rowOf (bookIn s) (heads (bookIn s) r)) (t .out)
+      unfolding rowOf
+      row-put =
+          let i = t .tally .sets - w .pass in
+          p ∙ ap (λ (x : Atoms). writeAt (i * h .atoms) (rowFrom 0 (h .atoms) x) (t .out)) read
+          ∙ ap (λ (n : ℕ). writeAt (i * n) (rowFrom 0 n (heads (bookIn s) r)) (t .out)) (sym (shape-atoms s h e))
+
+      met-row : {u : Tally} {a : Halt} → u ≡ counted t (t .tally .sets + 1) a
+          → ifEq (t .tally .sets + 1) (w .pass + w .room) Full Going ≡ a
+          → record { tally = u; out = out } ≡ readingMet (bookIn s) w t (heads (bookIn s) r)
+      met-row q m = written (bookIn s) w t _ k (says z) row-put (q ∙ ap (counted t (t .tally .sets + 1)) (sym m))
+
+      pub met-full : {u : Tally} → t .tally .sets - w .pass + 1 ≡ w .room → u ≡ counted t (t .tally .sets + 1) Full
+          → record { tally = u; out = out } ≡ readingMet (bookIn s) w t (heads (bookIn s) r)
+      met-full l q = met-row q (eq-yes _ _ _ _ (omega arith))
+
+      pub met-going : {u : Tally} → (t .tally .sets - w .pass + 1 ≡ w .room → ⊥) → u ≡ counted t (t .tally .sets + 1) Going
+          → record { tally = u; out = out } ≡ readingMet (bookIn s) w t (heads (bookIn s) r)
+      met-going l q = met-row q (eq-no _ _ _ _ (λ m. l (omega arith)))

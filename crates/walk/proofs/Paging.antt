@@ -46,7 +46,7 @@ rooms-fit b n = eq-either (λ (m : ℕ). m * b .atoms ≤ n) _ _ _ _ (λ e. rw (
 page-tested : (b : Book) → count b ≤ 255 → (n : ℕ) (x : Atoms) → Tested b (eventsFrom b n x)
 unfolding eventsFrom
 page-tested b fits zero x y m = readings-tested b fits y m
-page-tested b fits (suc n) x y m = answer→test b fits y (rest-sound b fits (walks b fits nothing sized-nothing) x y m .answer)
+page-tested b fits (suc n) x y m = answer→test b fits y (rest-sound (walks b fits nothing sized-nothing) x y m .answer)
 
 -- the buffer with the rows of some sets in front
 abbrev pub filled : Book → List ℕ → List Atoms → List ℕ

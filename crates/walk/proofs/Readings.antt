@@ -30,26 +30,26 @@ readings-append b (clash ∷ es) fs = readings-append b es fs
 readings-append b (fork r ∷ es) fs = readings-append b es fs
 readings-append b (reading d ∷ es) fs = ap (λ (l : List Atoms). readingOf b d ∷ l) (readings-append b es fs)
 
-module _ (b : Book) (fits : count b ≤ 255) where
-  -- ---- the readings of a walk
+-- ---- the readings of a walk
 
+module _ {b : Book} where
   pub walk-sound : {c : Colouring} {es : List Event} → Walk b c es → (x : Atoms) → List·Memᴰ x (readingsIn b es) → Stands b c x
   unfolding readingsIn
   walk-sound (at-clash k t) x m = absurd (List·Memᴰ·not-nil m)
-  walk-sound (at-reading k t p) x m = rw (List·Memᴰ·eq-of-singleton m) (stands-reading b fits k t p)
-  walk-sound (at-fork {r = r} k t p v w) x m = ⊎-elim
-      (λ e. side-stands b fits k r p onSide x (walk-sound v x e)) (λ e. side-stands b fits k r p offSide x (walk-sound w x e))
+  walk-sound (at-reading k t p) x m = rw (List·Memᴰ·eq-of-singleton m) (stands-reading k t p)
+  walk-sound (at-fork f v w) x m = ⊎-elim
+      (λ e. side-stands f onSide x (walk-sound v x e)) (λ e. side-stands f offSide x (walk-sound w x e))
       (List·Memᴰ·append-cases _ (rw readings-append at m))
 
   pub walk-complete : {c : Colouring} {es : List Event} → Walk b c es → (x : Atoms) → Stands b c x
       → (y : Atoms) × List·Memᴰ y (readingsIn b es) × Agree x y
   unfolding readingsIn side
-  walk-complete (at-clash k t) x s = absurd (stands-clash b fits k t x s)
-  walk-complete (at-reading {d = d} k t p) x s = (readingOf b d, List·Memᴰ·head refl, reading-only b fits k t p x s)
-  walk-complete (at-fork {c} {d} {r} k t p v w) x s = rw readings-append (⊎-elim
-      (λ g. let (y, m, e) = walk-complete v x (stands-side b fits k r p onSide x s g) in (y, Memᴰ·append-left _ m, e))
+  walk-complete (at-clash k t) x s = absurd (stands-clash k t x s)
+  walk-complete (at-reading {d = d} k t p) x s = (readingOf b d, List·Memᴰ·head refl, reading-only k t p x s)
+  walk-complete (at-fork {d = d} {r = r} f v w) x s = rw readings-append (⊎-elim
+      (λ g. let (y, m, e) = walk-complete v x (stands-side f onSide x s g) in (y, Memᴰ·append-left _ m, e))
       (λ g.
-      let (y, m, e) = walk-complete w x (stands-side b fits k r p offSide x s (ap not g)) in
+      let (y, m, e) = walk-complete w x (stands-side f offSide x s (ap not g)) in
       (y, Memᴰ·append-right (readingsIn b (events b (colourOn r d))) m, e))
       (decided (generating b x r)))
 
@@ -57,11 +57,12 @@ module _ (b : Book) (fits : count b ≤ 255) where
   unfolding readingsIn
   walk-ordered (at-clash k t) = no-more
   walk-ordered (at-reading k t p) = comes-first (λ y m. absurd (List·Memᴰ·not-nil m)) no-more
-  walk-ordered (at-fork {r = r} k t p v w) = rw readings-append (ordered-append b (walk-ordered v) (walk-ordered w)
-      (λ x m y n. fork-before b fits k r p x y (walk-sound v x m) (walk-sound w y n)))
+  walk-ordered (at-fork f v w) = rw readings-append (ordered-append b (walk-ordered v) (walk-ordered w)
+      (λ x m y n. fork-before f x y (walk-sound v x m) (walk-sound w y n)))
 
-  -- ---- the readings of the book
+-- ---- the readings of the book
 
+module _ (b : Book) (fits : count b ≤ 255) where
   pub readings-all : AllReadings b (readings b)
   unfolding readings
   readings-all = record {

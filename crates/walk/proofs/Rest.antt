@@ -40,25 +40,23 @@ reading-member : (b : Book) (es : List Event) (d : Colouring) (later : List Even
 unfolding readingsIn
 reading-member b es d later = rw readings-append (Memᴰ·append-right (readingsIn b es) (List·Memᴰ·head refl))
 
-module _ (b : Book) (fits : count b ≤ 255) where
+module _ {b : Book} where
   walk-rest : {c : Colouring} {es : List Event} → Walk b c es → (earlier : List Event) (d : Colouring) (later : List Event)
       → es ≡ earlier ++ (reading d ∷ later) → later ≡ rest b c (readingOf b d)
   walk-rest (at-clash k t) [] d later q = apart (cc)
   walk-rest (at-clash k t) (e ∷ es) d later q = absurd (omega (arith, ap length q, length-append es (reading d ∷ later)))
-  walk-rest (at-reading {c = c} {d = f} k t p) [] d later q =
-      let z : later ≡ [] = cc in z ∙ sym (rest-reading b fits c (k .sized) f (k .closed) t (readingOf b d) p)
+  walk-rest (at-reading k t p) [] d later q = let z : later ≡ [] = cc in z ∙ sym (rest-reading k t p (readingOf b d))
   walk-rest (at-reading k t p) (e ∷ es) d later q = absurd (omega (arith, ap length q, length-append es (reading d ∷ later)))
-  walk-rest (at-fork k t p v w) [] d later q = apart (cc)
-  walk-rest (at-fork {c = c} {d = f} {r = r} k t p v w) (e ∷ es) d later q =
-      let z : events b (colourOn r f) ++ events b (colourOff r f) ≡ es ++ (reading d ∷ later) = cc in
+  walk-rest (at-fork f v w) [] d later q = apart (cc)
+  walk-rest (at-fork {d = u} {r = r} f v w) (e ∷ es) d later q =
+      let z : events b (colourOn r u) ++ events b (colourOff r u) ≡ es ++ (reading d ∷ later) = cc in
       ⊎-elim
-      (λ (l, u, h).
-      let m = side-on b fits k r p x (walk-sound b fits v x (rw u (reading-member b es d l))) in
-      h ∙ ap (λ (m : List Event). m ++ events b (colourOff r f)) (walk-rest v es d l u)
-      ∙ sym (rest-fork-on b fits c (k .sized) f (k .closed) t r p x m))
-      (λ (l, u).
-      let m = side-off b fits k r p x (walk-sound b fits w x (rw u (reading-member b l d later))) in
-      walk-rest w l d later u ∙ sym (rest-fork-off b fits c (k .sized) f (k .closed) t r p x m))
+      (λ (l, g, h).
+      let m = side-on f x (walk-sound v x (rw g (reading-member b es d l))) in
+      h ∙ ap (λ (m : List Event). m ++ events b (colourOff r u)) (walk-rest v es d l g) ∙ sym (rest-fork-on f x m))
+      (λ (l, g).
+      let m = side-off f x (walk-sound w x (rw g (reading-member b l d later))) in
+      walk-rest w l d later g ∙ sym (rest-fork-off f x m))
       (parted-at _ _ es (reading d) later z)
     where
       x : Atoms
@@ -67,17 +65,15 @@ module _ (b : Book) (fits : count b ≤ 255) where
   -- what comes after any set is a part of the walk: its readings are answer sets too
   pub rest-sound : {c : Colouring} {es : List Event} → Walk b c es → (x y : Atoms) → List·Memᴰ y (readingsIn b (rest b c x)) → Stands b c y
   unfolding readingsIn
-  rest-sound (at-clash {c = c} {d = d} k t) x y m = absurd (List·Memᴰ·not-nil (rw (rest-clash b fits c (k .sized) d (k .closed) x t) at m))
-  rest-sound (at-reading {c = c} {d = d} k t p) x y m =
-      absurd (List·Memᴰ·not-nil (rw (rest-reading b fits c (k .sized) d (k .closed) t x p) at m))
-  rest-sound (at-fork {c = c} {d = d} {r = r} k t p v w) x y m = ⊎-elim
-      (λ g. ⊎-elim
-      (λ e. side-stands b fits k r p onSide y (rest-sound v x y e)) (λ e. side-stands b fits k r p offSide y (walk-sound b fits w y e))
-      (List·Memᴰ·append-cases (readingsIn b (rest b (colourOn r d) x))
-      (rw (rest-fork-on b fits c (k .sized) d (k .closed) t r p x g, readings-append) at m)))
-      (λ g. side-stands b fits k r p offSide y (rest-sound w x y (rw (rest-fork-off b fits c (k .sized) d (k .closed) t r p x g) at m)))
+  rest-sound (at-clash k t) x y m = absurd (List·Memᴰ·not-nil (rw (rest-clash k x t) at m))
+  rest-sound (at-reading k t p) x y m = absurd (List·Memᴰ·not-nil (rw (rest-reading k t p x) at m))
+  rest-sound (at-fork {d = d} {r = r} f v w) x y m = ⊎-elim
+      (λ g. ⊎-elim (λ e. side-stands f onSide y (rest-sound v x y e)) (λ e. side-stands f offSide y (walk-sound w y e))
+      (List·Memᴰ·append-cases (readingsIn b (rest b (colourOn r d) x)) (rw (rest-fork-on f x g, readings-append) at m)))
+      (λ g. side-stands f offSide y (rest-sound w x y (rw (rest-fork-off f x g) at m)))
       (decided (generating b x r))
 
+module _ (b : Book) (fits : count b ≤ 255) where
   module _ (earlier : List Event) (d : Colouring) (later : List Event) (q : events b nothing ≡ earlier ++ (reading d ∷ later)) where
     walk : Walk b nothing (events b nothing)
     walk = walks b fits nothing sized-nothing
@@ -88,5 +84,5 @@ module _ (b : Book) (fits : count b ≤ 255) where
     -- also for the set that the reading's row stands for
     pub rest-row : Proper b → later ≡ rest b nothing (setIn (rowOf b (readingOf b d)))
     rest-row proper =
-        let answer = walk-sound b fits walk (readingOf b d) (rw q (reading-member b earlier d later)) .answer in
+        let answer = walk-sound walk (readingOf b d) (rw q (reading-member b earlier d later)) .answer in
         rest-follows ∙ ap (rest b nothing) (sym (set-in-row b _ (answer-inside b fits _ proper answer)))

@@ -1,6 +1,7 @@
 -- The searches of src/colours.rt, turn by turn: a rule in both sets, and the lowest rule in neither. What is kept is that no rule before
 -- is of that kind. A book of so many rules clashes, and has its lowest uncoloured rule, where the search says.
 use mathlib.Core.Path.{_≡_, refl, sym, ap}
+use mathlib.Core.Logic.{_⊎_, ⊎-elim}
 use mathlib.Core.Bool.{Bool, true, false, not, _&&_, _||_}
 use mathlib.Core.List.{List}
 use Prim.Native.Nat.{ℕ, _+_, _≤_, _<_}
@@ -23,26 +24,30 @@ inBoth on off n = getD on n false && getD off n false
 unfoldable pub inNeither : List Bool → List Bool → Set ℕ
 inNeither on off n = not (getD on n false || getD off n false)
 
-pub none-zero : (s : Set ℕ) → someBelow 0 s ≡ false
-unfolding someBelow
-none-zero s = refl
+-- ---- any search
+
+-- a search among the first n has come to i and found nothing of the kind s
+abbrev pub NoneYet : ℕ → Set ℕ → ℕ → Type 0
+NoneYet n s i = (i ≤ n) × (someBelow i s ≡ false)
+
+module _ (n : ℕ) (s : Set ℕ) where
+  pub none-start : NoneYet n s 0
+  unfolding someBelow
+  none-start = (omega arith, refl)
+
+  pub none-turn : (i : ℕ) → i < n → i ∉ s → NoneYet n s i → NoneYet n s (i + 1)
+  none-turn i h m k = (omega arith, none-next i s m (k .1))
+
+-- ---- what the two find
 
 module _ (on off : List Bool) (i : ℕ) where
-  pub clash-next-on : getD on i false ≡ false → someBelow i (inBoth on off) ≡ false → someBelow (i + 1) (inBoth on off) ≡ false
+  pub not-both : (getD off i false ≡ false) ⊎ (getD on i false ≡ false) → i ∉ inBoth on off
   unfolding inBoth
-  clash-next-on e k = none-next i (inBoth on off) (not-first _ e) k
+  not-both = ⊎-elim (not-second (getD on i false)) (not-first _)
 
-  pub clash-next-off : getD off i false ≡ false → someBelow i (inBoth on off) ≡ false → someBelow (i + 1) (inBoth on off) ≡ false
-  unfolding inBoth
-  clash-next-off e k = none-next i (inBoth on off) (not-second (getD on i false) e) k
-
-  pub pick-next-on : getD on i false ≡ true → someBelow i (inNeither on off) ≡ false → someBelow (i + 1) (inNeither on off) ≡ false
+  pub not-neither : (getD off i false ≡ true) ⊎ (getD on i false ≡ true) → i ∉ inNeither on off
   unfolding inNeither
-  pick-next-on e k = none-next i (inNeither on off) (ap not (first _ e)) k
-
-  pub pick-next-off : getD off i false ≡ true → someBelow i (inNeither on off) ≡ false → someBelow (i + 1) (inNeither on off) ≡ false
-  unfolding inNeither
-  pick-next-off e k = none-next i (inNeither on off) (ap not (other (getD on i false) e)) k
+  not-neither h = ap not (⊎-elim (other (getD on i false)) (first _) h)
 
   bare : getD on i false ≡ false → getD off i false ≡ false → uncoloured (lent on off) (ruleNo i) ≡ true
   unfolding uncoloured of
@@ -59,10 +64,9 @@ module _ (on off : List Bool) (i : ℕ) where
     unfolding of
     clash-found h e f = sym (below-one n _ i h (both e f))
 
-    pub clash-none : i ≤ n → n ≤ i → someBelow i (inBoth on off) ≡ false
-        → false ≡ someBelow n (λ m. of on (ruleNo m) && of off (ruleNo m))
+    pub clash-none : n ≤ i → NoneYet n (inBoth on off) i → false ≡ someBelow n (λ m. of on (ruleNo m) && of off (ruleNo m))
     unfolding of inBoth
-    clash-none h g e = sym (none-end i n (inBoth on off) h g e)
+    clash-none h k = sym (none-end i n (inBoth on off) (k .0) h (k .1))
 
     pub pick-found : i < n → getD on i false ≡ false → getD off i false ≡ false → someBelow i (inNeither on off) ≡ false
         → one (ruleNo i) ≡ lowestFrom 0 n (uncoloured (lent on off))

@@ -17,6 +17,9 @@ use Rattle.walk.specs.Page.{Told as PageTold, whole, last, endsBy, refus
 use Rattle.walk.specs.Page.{told as pageTold}
 use Rattle.walk.specs.Picked.{picked}
 
+one-again : {A B : Type 0} (tell : A → B) (find : B → A) → ((a : A) → find (tell a) ≡ a) → (x y : A) → tell x ≡ tell y → x ≡ y
+one-again tell find again x y e = sym (again x) ∙ ap find e ∙ again y
+
 abbrev foundAt : Told → Found
 foundAt (set tries) = Set tries
 foundAt (refusedWith number []) = NoNumber
@@ -36,7 +39,7 @@ found-again NotLeast = refl
 found-again NoNumber = refl
 
 pub found-one : (f g : Found) → told f ≡ told g → f ≡ g
-found-one f g e = sym (found-again f) ∙ ap foundAt e ∙ found-again g
+found-one = one-again told foundAt found-again
 
 abbrev pageAt : PageTold → Page
 pageAt (whole tries) = Whole tries
@@ -55,7 +58,7 @@ page-again (BadBook f) = ap BadBook (refusal-again f)
 page-again TooSmall = refl
 
 pub page-one : (p q : Page) → pageTold p ≡ pageTold q → p ≡ q
-page-one p q e = sym (page-again p) ∙ ap pageAt e ∙ page-again q
+page-one = one-again pageTold pageAt page-again
 
 abbrev pickedAt : Pick → Picked
 pickedAt none = Nothing
@@ -66,4 +69,4 @@ picked-again Nothing = refl
 picked-again (Rule r) = refl
 
 pub pick-one : (p q : Picked) → picked p ≡ picked q → p ≡ q
-pick-one p q e = sym (picked-again p) ∙ ap pickedAt e ∙ picked-again q
+pick-one = one-again picked pickedAt picked-again

@@ -19,10 +19,13 @@ module _ (b : Book) (fits : count b ≤ 255) where
   walk-tries : {c : Colouring} {es : List Event} → Walk b c es → length es + 1 ≤ 2 ^ suc (left b (close b c))
   walk-tries {c = c} (at-clash k t) = omega (arith, pow-pos (left b (close b c)))
   walk-tries {c = c} (at-reading k t p) = omega (arith, pow-pos (left b (close b c)))
-  walk-tries {c = c} (at-fork {d = d} {r = r} k t p v w) =
-      let g = fork-fewer b fits c (k .sized) d (k .closed) onSide r p in
-      let h = fork-fewer b fits c (k .sized) d (k .closed) offSide r p in
-      simp length-append (omega (arith, walk-tries v, walk-tries w, pow-mono g, pow-mono h))
+  walk-tries (at-fork f v w) = simp length-append (omega (
+    arith,
+    walk-tries v,
+    walk-tries w,
+    pow-mono (fork-fewer f onSide),
+    pow-mono (fork-fewer f offSide),
+  ))
 
   pub most-tries : length (events b nothing) + 1 ≤ 2 ^ suc (left b (close b nothing))
   most-tries = walk-tries (walks b fits nothing sized-nothing)

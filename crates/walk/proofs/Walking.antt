@@ -2,7 +2,7 @@
 -- events from its colouring; and what it keeps to is kept for the next call. The events and the run go by their own laws.
 use mathlib.Core.Path.{_≡_, refl, sym, _∙_, ap}
 use mathlib.Core.Logic.{_⊎_, inl, inr, ⊎-elim}
-use mathlib.Core.Bool.{Bool, true, false}
+use mathlib.Core.Bool.{Bool, true, false, _&&_}
 use mathlib.Core.List.{List, [], _∷_}
 use Prim.Native.Nat.{ℕ, _≤_, _<_}
 use native.Mathlib.Omega.{arith}
@@ -11,22 +11,29 @@ use types.Run.{OneOf}
 use denote.Enum.Declared.{tagOf}
 use Rattle.meaning.specs.declared.RuleNo.{RuleNo}
 use Rattle.meaning.specs.declared.colouring.Colouring.{Colouring}
-use Rattle.meaning.specs.Books.{Atoms, Book, count}
+use Rattle.meaning.specs.Sets.{someBelow}
+use Rattle.meaning.specs.Books.{Atoms, ruleNo, Book, count}
 use Rattle.meaning.specs.AnswerSet.{generating}
-use Rattle.meaning.specs.Colours.{heads, clashing, uncoloured}
-use Rattle.meaning.specs.Written.{of, colourOn, colourOff, pair}
-use Rattle.meaning.specs.Computed.{close}
-use Rattle.meaning.specs.Lowest.{Pick, none, one, lowest}
-use Rattle.meaning.proofs.Written.{Sized}
+use Rattle.meaning.specs.Colours.{Side, heads, clashing, uncoloured}
+use Rattle.meaning.specs.Written.{of, colourOn, colourOff, lent, pair}
+use Rattle.meaning.specs.Lowest.{Pick, none, one, lowestFrom, lowest}
+use Rattle.book.specs.declared.reader.Shape.{Shape}
+use Rattle.book.specs.Format.{bookIn, ReadAs}
+use Rattle.book.proofs.Places.{shape-count}
+use Rattle.closing.specs.Left.{left, chosen}
 use Rattle.walk.specs.Events.{Event, clash, fork, reading, after, eventsIn, events, rest}
 use Rattle.walk.specs.Run.{Wanted, State, counted, readingMet, tried, run}
 use Rattle.walk.specs.Room.{Room}
+use Rattle.walk.specs.Picked.{picked}
+use Rattle.walk.specs.declared.colours.Picked.{Picked}
+use Rattle.walk.specs.declared.colours.Picked.the-variants.{Rule}
 use Rattle.walk.specs.declared.tally.Halt.{Halt}
 use Rattle.walk.specs.declared.tally.Halt.the-variants.{Going, Full, Limit, NotLeast}
 use Rattle.walk.specs.declared.tally.Tally.{Tally}
 use Rattle.walk.proofs.tally.Halt.{the-type}
-use Rattle.walk.proofs.Events.{events-clash, events-reading, events-fork}
-use Rattle.walk.proofs.Events.{rest-clash, rest-reading, rest-fork-on, rest-fork-off}
+use Rattle.walk.proofs.Events.{Closes, events-clash, events-reading, rest-clash, rest-reading}
+use Rattle.walk.proofs.Events.{Forks, fork-falls, events-fork, rest-fork-on, rest-fork-off}
+use Rattle.walk.proofs.Searches.{clash-in, lowest-in}
 use Rattle.walk.proofs.Run.{apart, run-append, run-ended, run-try, run-stops, run-fine}
 use Rattle.walk.proofs.Meeting.{wanted, room-fine, fine-room}
 
@@ -54,6 +61,31 @@ module _ {b : Book} {pass room : ℕ} {s : State} (f : Room b pass room s) where
       (λ n. rw (run-ended b (wanted pass room limit) s es n) f)
       (halted (s .tally .halt)))
 
+-- ---- what the two searches say of a closing
+
+module _ (s : List ℕ) (h : Shape) (e : ReadAs s h) where
+  pub few : h .rules < 256 → count (bookIn s) ≤ 255
+  few n = omega (arith, shape-count s h e)
+
+  module _ (on off : List Bool) where
+    pub clash-told : {v w : Bool} → v ≡ someBelow (h .rules) (λ m. of on (ruleNo m) && of off (ruleNo m)) → v ≡ w
+        → clashing (bookIn s) (lent on off) ≡ w
+    clash-told f g = sym (clash-in (bookIn s) (shape-count s h e) _ _ f) ∙ g
+
+    pub lowest-told : {v w : Picked} → picked v ≡ lowestFrom 0 (h .rules) (uncoloured (lent on off)) → v ≡ w
+        → lowest (bookIn s) (uncoloured (lent on off)) ≡ picked w
+    lowest-told f g = sym (lowest-in (bookIn s) (shape-count s h e) _ f) ∙ ap picked g
+
+  pub forks-told : {c d : Colouring} {v : Bool} {p : Picked} {r : RuleNo} → Closes (bookIn s) c d
+      → v ≡ someBelow (h .rules) (λ m. of (d .on) (ruleNo m) && of (d .off) (ruleNo m)) → v ≡ false
+      → picked p ≡ lowestFrom 0 (h .rules) (uncoloured (pair d)) → p ≡ Rule r → Forks (bookIn s) c d r
+  forks-told k f g q m = record { closes = k; calm = clash-told _ _ f g; choice = lowest-told _ _ q m }
+
+-- each side of a fork is less far from its end, where a colouring is as far as it has rules without a colour
+pub side-falls : {b : Book} {c d : Colouring} {r : RuleNo} {n : ℕ} → Forks b c d r → left b c ≡ n → (x : Side) {y : Colouring}
+    → y ≡ chosen x r d → left b y < n
+side-falls f e x g = rw (g, ← e) (fork-falls f x)
+
 -- ---- the ways of a call
 
 after-some : (d : Colouring) (t : Bool) (p : Pick) (f : Colouring → List Event) → (e : Event) × (es : List Event) × (after d t p f ≡ e ∷ es)
@@ -75,46 +107,42 @@ module _ (b : Book) (w : Wanted) (s : State) (c : Colouring) where
         → record { tally = record { tries = s .tally .tries; sets = s .tally .sets; halt = Limit }; out = s .out } ≡ run b w s (events b c)
     walk-stops h = let (e, es, q) = events-some b c in sym (ap (run b w s) q ∙ run-stops b w s going e es h)
 
-    module _ (h : s .tally .tries < w .limit) (fits : count b ≤ 255) (sized : Sized c) (d : Colouring) (closed : d ≡ close b c) where
-      pub walk-clash : {t : Tally} → clashing b (pair d) ≡ true → t ≡ counted s (s .tally .sets) Going
+    module _ (h : s .tally .tries < w .limit) {d : Colouring} where
+      pub walk-clash : {t : Tally} → Closes b c d → clashing b (pair d) ≡ true → t ≡ counted s (s .tally .sets) Going
           → record { tally = t; out = s .out } ≡ run b w s (events b c)
       unfolding run tried
-      walk-clash k e = rw e (sym (ap (run b w s) (events-clash b fits c sized d closed k) ∙ run-try b w s going clash [] h))
+      walk-clash k z e = rw e (sym (ap (run b w s) (events-clash k z) ∙ run-try b w s going clash [] h))
 
-      module _ (k : clashing b (pair d) ≡ false) where
-        pub walk-reading : {u : State} → lowest b (uncoloured (pair d)) ≡ none → u ≡ readingMet b w s (heads b (of (d .on)))
-            → u ≡ run b w s (events b c)
-        unfolding run tried
-        walk-reading p e = e ∙ sym (ap (run b w s) (events-reading b fits c sized d closed k p) ∙ run-try b w s going (reading d) [] h)
+      pub walk-reading : {u : State} → Closes b c d → clashing b (pair d) ≡ false → lowest b (uncoloured (pair d)) ≡ none
+          → u ≡ readingMet b w s (heads b (of (d .on))) → u ≡ run b w s (events b c)
+      unfolding run tried
+      walk-reading k z p e = e ∙ sym (ap (run b w s) (events-reading k z p) ∙ run-try b w s going (reading d) [] h)
 
-        -- x and y are the two sides of the fork, f the state after the first and g after the second
-        pub walk-fork : (r : RuleNo) → lowest b (uncoloured (pair d)) ≡ one r → {t : Tally} {x y : Colouring} {f g : State}
-            → t ≡ counted s (s .tally .sets) Going → x ≡ colourOn r d → f ≡ run b w (record { tally = t; out = s .out }) (events b x)
-            → y ≡ colourOff r d → g ≡ run b w f (events b y) → g ≡ run b w s (events b c)
-        unfolding tried
-        walk-fork r p et ex ef ey eg =
-            eg ∙ rw (ey, ef, ex, et) (sym (ap (run b w s) (events-fork b fits c sized d closed k r p)
-            ∙ run-try b w s going (fork r) _ h ∙ run-append b w _ _ _))
+      -- x and y are the two sides of the fork, u the state after the first and v after the second
+      pub walk-fork : {r : RuleNo} {t : Tally} {x y : Colouring} {u v : State} → Forks b c d r → t ≡ counted s (s .tally .sets) Going
+          → x ≡ colourOn r d → u ≡ run b w (record { tally = t; out = s .out }) (events b x)
+          → y ≡ colourOff r d → v ≡ run b w u (events b y) → v ≡ run b w s (events b c)
+      unfolding tried
+      walk-fork {r} f et ex eu ey ev =
+          ev ∙ rw (ey, eu, ex, et)
+          (sym (ap (run b w s) (events-fork f) ∙ run-try b w s going (fork r) _ h ∙ run-append b w _ _ _))
 
 -- ---- the ways of a call that goes on behind a set x
 
-module _ (b : Book) (w : Wanted) (s : State) (c : Colouring) (x : Atoms) (fits : count b ≤ 255) (sized : Sized c) (d : Colouring)
-    (closed : d ≡ close b c) where
-  pub resume-clash : clashing b (pair d) ≡ true → s ≡ run b w s (rest b c x)
+module _ (b : Book) (w : Wanted) (s : State) (c : Colouring) (x : Atoms) {d : Colouring} where
+  pub resume-clash : Closes b c d → clashing b (pair d) ≡ true → s ≡ run b w s (rest b c x)
   unfolding run
-  resume-clash k = sym (ap (run b w s) (rest-clash b fits c sized d closed x k))
+  resume-clash k z = sym (ap (run b w s) (rest-clash k x z))
 
-  module _ (k : clashing b (pair d) ≡ false) where
-    pub resume-reading : lowest b (uncoloured (pair d)) ≡ none → s ≡ run b w s (rest b c x)
-    unfolding run
-    resume-reading p = sym (ap (run b w s) (rest-reading b fits c sized d closed k x p))
+  pub resume-reading : Closes b c d → clashing b (pair d) ≡ false → lowest b (uncoloured (pair d)) ≡ none → s ≡ run b w s (rest b c x)
+  unfolding run
+  resume-reading k z p = sym (ap (run b w s) (rest-reading k z p x))
 
-    module _ (r : RuleNo) (p : lowest b (uncoloured (pair d)) ≡ one r) where
-      pub resume-off : generating b x r ≡ false → {y : Colouring} {g : State} → y ≡ colourOff r d → g ≡ run b w s (rest b y x)
-          → g ≡ run b w s (rest b c x)
-      resume-off n ey eg = eg ∙ rw ey (sym (ap (run b w s) (rest-fork-off b fits c sized d closed k r p x n)))
+  -- a says whether the rule that is chosen generates x
+  module _ {r : RuleNo} (f : Forks b c d r) {a : Bool} (g : a ≡ generating b x r) where
+    pub resume-off : a ≡ false → {y : Colouring} {u : State} → y ≡ colourOff r d → u ≡ run b w s (rest b y x) → u ≡ run b w s (rest b c x)
+    resume-off n ey eu = eu ∙ rw ey (sym (ap (run b w s) (rest-fork-off f x (sym g ∙ n))))
 
-      pub resume-on : generating b x r ≡ true → {y z : Colouring} {f g : State} → y ≡ colourOn r d → f ≡ run b w s (rest b y x)
-          → z ≡ colourOff r d → g ≡ run b w f (events b z) → g ≡ run b w s (rest b c x)
-      resume-on m ey ef ez eg =
-          eg ∙ rw (ez, ef, ey) (sym (ap (run b w s) (rest-fork-on b fits c sized d closed k r p x m) ∙ run-append b w s _ _))
+    pub resume-on : a ≡ true → {y z : Colouring} {u v : State} → y ≡ colourOn r d → u ≡ run b w s (rest b y x)
+        → z ≡ colourOff r d → v ≡ run b w u (events b z) → v ≡ run b w s (rest b c x)
+    resume-on m ey eu ez ev = ev ∙ rw (ez, eu, ey) (sym (ap (run b w s) (rest-fork-on f x (sym g ∙ m)) ∙ run-append b w s _ _))

@@ -17,23 +17,15 @@ Inv-loop book shape set out₀ r₀ out r = (r ≤ shape .rules) × (length out 
 abbrev μ-loop : tie.MeasureT-loop
 μ-loop book shape set out₀ r₀ out r = shape .rules - r
 
-loop-holds : tie.Need-loop-holds Inv-loop μ-loop
-loop-holds c = search (needs, barred-start)
-
 loop-again : tie.Need-loop-again Inv-loop μ-loop
 loop-again c =
-    let l = c .before .before .before in
-    let a = l .before .before .before .args in
-    let k = barred-turn (bookIn (a .book .now)) (atomsIn (a .set .now)) (omega arith) (c .is-blocked .ensures) (l .loop .inv .2) in
+    let k = barred-turn (c .before .before .before .loop .inv .2) (omega arith) (c .is-blocked .ensures) in
     search (needs, length-set)
 
 returns : tie.Need-returns Inv-loop μ-loop
-returns c =
-    let l = c .before .before in
-    let s = l .before .before .before in
-    barred-end (bookIn (s .args .book .now)) (atomsIn (s .args .set .now)) (omega (arith, shape-count _ _ (s .pre))) (l .loop .inv .2)
+returns c = let l = c .before .before in barred-end (l .loop .inv .2) (omega (arith, shape-count _ _ (l .before .before .before .pre)))
 
 pub bar-spec : {M : Type 1} → statement M
 bar-spec =
-    tie.close (tie.spec Inv-loop μ-loop loop-holds (λ c. search needs) (λ c κs. search needs) (λ c. search needs)
-    (λ c. search needs) (λ c. search needs) loop-again returns)
+    tie.close (tie.spec Inv-loop μ-loop (λ c. search (needs, barred-start)) (λ c. search needs) (λ c κs. search needs)
+    (λ c. search needs) (λ c. search needs) (λ c. search needs) loop-again returns)

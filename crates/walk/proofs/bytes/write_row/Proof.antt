@@ -14,17 +14,8 @@ Inv-loop atoms set at out₀ a₀ out a = (a ≤ atoms) × (length out ≡ lengt
 abbrev μ-loop : tie.MeasureT-loop
 μ-loop atoms set at out₀ a₀ out a = atoms - a
 
-loop-holds : tie.Need-loop-holds Inv-loop μ-loop
-loop-holds c = search (needs, paste-zero)
-
-loop-again : tie.Need-loop-again Inv-loop μ-loop
-loop-again c = search (needs, row-turn)
-
-returns : tie.Need-returns Inv-loop μ-loop
-returns c = search (needs, row-written)
-
 pub write-row-spec : {M : Type 1} → statement M
 write-row-spec =
-    tie.close (tie.spec Inv-loop μ-loop loop-holds (λ c. search needs) (λ c. search needs) (λ c κs. search needs)
-    (λ c. search needs) (λ c. search needs) (λ c. search needs) (λ c. search needs) loop-again (λ c. search needs)
-    returns)
+    tie.close (tie.spec Inv-loop μ-loop (λ c. search (needs, paste-zero)) (λ c. search needs) (λ c. search needs)
+    (λ c κs. search needs) (λ c. search needs) (λ c. search needs) (λ c. search needs) (λ c. search needs)
+    (λ c. search (needs, row-turn)) (λ c. search needs) (λ c. search (needs, row-written)))

@@ -1,4 +1,4 @@
--- The walk to the k-th reading, from its start.
+-- The walk to the k-th reading, from its start: there is room for one row, and the colouring is empty.
 use Prim.Native.Nat.{_-_}
 use native.Mathlib.Omega.{arith}
 use borrow.Author.Needs.{needs}
@@ -13,7 +13,9 @@ walk-requires c κs =
     (s .pre .0, room-start _ (a .k - 1) 1 0 _ (omega arith) (one-row _ _ (s .pre .0) (a .answer .now) (s .pre .2)))
 
 returns : tie.Need-returns
-returns c = walk-from _ _ _ (c .before .before .before .before .empty .ensures) (c .before .before .walk .ensures)
+returns c =
+    let w = c .before .before in
+    walk-from _ _ _ (w .before .before .empty .ensures) (w .walk .ensures)
 
 pub kth-spec : {M : Type 1} → statement M
 kth-spec =

@@ -1,11 +1,10 @@
 -- A try that meets a reading, by its cases: passed over, no least model, the last row, or one more.
-use mathlib.Core.Path.{_∙_}
 use Prim.Native.Nat.{_+_, _*_, _-_, _≤_, _<_}
 use native.Mathlib.Omega.{arith}
 use lib.ListN.{length}
 use borrow.Author.Tests.{not-true, not-false}
 use borrow.Author.Needs.{needs}
-use Rattle.walk.proofs.Meeting.{met-passed, met-wrong, met-full, met-going, row-place, tested, row-put}
+use Rattle.walk.proofs.Meeting.{met-passed, met-wrong, met-full, met-going, row-place}
 use Rattle.walk.proofs.meet.meet.Statement.{statement}
 use Rattle.walk.proofs.meet.meet.Tie as tie
 
@@ -20,43 +19,55 @@ module _ (c : tie.Else1) where
   place : let a = start .args in (a .t .sets - a .pass) * a .shape .atoms + a .shape .atoms ≤ length (a .out .now)
   place = row-place _ _ (start .pre .0) (start .args .pass) (start .args .room) _ (start .pre .3) (start .pre .2) (c .if1 .left)
 
+-- after the test of number 10, which is of the heads' table
+module _ (c : tie.After-is-answer-set) where
+  abbrev headed : tie.After-heads-of
+  headed = c .before .before
+
+  abbrev wanted : tie.Else1
+  wanted = headed .before .before
+
+-- where it said yes, and the row's place is reckoned
+abbrev passed : tie.After-struct-known4 → tie.Else2
+passed c = c .before .before .before
+
 returns : tie.Need-returns
 returns c = met-passed _ _ _ _ (c .before .before .if1 .taken) (c .tried .ensures)
 
 returns-2 : tie.Need-returns-2
 returns-2 c =
     let v = c .before .before in
-    let i = v .before .before .before .before in
-    let g = tested _ _ (start i .pre .0) (small i) _ (v .before .before .heads-of .ensures) (v .is-answer-set .ensures) in
-    met-wrong _ _ _ _ (i .if1 .left) (g ∙ not-true _ (c .before .if2 .taken)) (c .tried2 .ensures)
+    let i = wanted v in
+    met-wrong _ _ (start i .pre .0) (small i) _ (headed v .heads-of .ensures) _ _ (i .if1 .left) (v .is-answer-set .ensures)
+    (not-true _ (c .before .if2 .taken)) (c .tried2 .ensures)
 
 mul-write-row : tie.Need-mul-write-row
-mul-write-row c = omega (arith, place (c .before .before .before .before .before .before .before .before))
+mul-write-row c = omega (arith, place (wanted (passed c .before)))
 
 write-row-requires : tie.Need-write-row-requires
-write-row-requires c κs = place (c .before .before .before .before .before .before .before .before .before)
+write-row-requires c κs = place (wanted (passed (c .before) .before))
+
+-- after the row was written
+module _ (c : tie.After-write-row) where
+  abbrev yes : tie.Else2
+  yes = passed (c .before .before)
+
+  abbrev unpassed : tie.Else1
+  unpassed = wanted (yes .before)
 
 returns-3 : tie.Need-returns-3
 returns-3 c =
     let p = c .before .before .before .before .before in
-    let d = p .before .before .before .before .before in
-    let i = d .before .before .before .before .before in
-    let a = start i .args in
-    let e = d .before .before .before .heads-of .ensures in
-    let g = tested _ _ (start i .pre .0) (small i) _ e (d .before .is-answer-set .ensures) in
-    let w = row-put _ _ (start i .pre .0) (small i) _ e (a .t .sets - a .pass) (a .out .now) (p .write-row .ensures) in
-    met-full _ _ _ _ (i .if1 .left) (g ∙ not-false _ (d .if2 .left)) (c .before .before .if3 .taken) (c .tried3 .ensures) w
+    met-full _ _ (start (unpassed p) .pre .0) (small (unpassed p)) _ (headed (yes p .before) .heads-of .ensures) _ _
+    (unpassed p .if1 .left) (yes p .before .is-answer-set .ensures) (not-false _ (yes p .if2 .left)) (p .write-row .ensures)
+    (c .before .before .if3 .taken) (c .tried3 .ensures)
 
 returns-4 : tie.Need-returns-4
 returns-4 c =
     let p = c .before .before .before .before .before in
-    let d = p .before .before .before .before .before in
-    let i = d .before .before .before .before .before in
-    let a = start i .args in
-    let e = d .before .before .before .heads-of .ensures in
-    let g = tested _ _ (start i .pre .0) (small i) _ e (d .before .is-answer-set .ensures) in
-    let w = row-put _ _ (start i .pre .0) (small i) _ e (a .t .sets - a .pass) (a .out .now) (p .write-row .ensures) in
-    met-going _ _ _ _ (i .if1 .left) (g ∙ not-false _ (d .if2 .left)) (c .before .before .if3 .left) (c .tried4 .ensures) w
+    met-going _ _ (start (unpassed p) .pre .0) (small (unpassed p)) _ (headed (yes p .before) .heads-of .ensures) _ _
+    (unpassed p .if1 .left) (yes p .before .is-answer-set .ensures) (not-false _ (yes p .if2 .left)) (p .write-row .ensures)
+    (c .before .before .if3 .left) (c .tried4 .ensures)
 
 pub meet-spec : {M : Type 1} → statement M
 meet-spec =

@@ -1,37 +1,35 @@
--- The next page of a good book: no room, the first page, or a later one.
+-- The next page of a good book: no room, the first page by the walk, or a later one by resuming it. Both start with room for their rows.
 use borrow.Author.Needs.{needs}
 use Rattle.walk.proofs.Answering.{page-no-room, page-room, page-first, page-later}
 use Rattle.walk.proofs.pages.page_in.Statement.{statement}
 use Rattle.walk.proofs.pages.page_in.Tie as tie
 
+-- behind the count of the rows that there is room for, the start
+abbrev start : tie.After-rows-in → tie.Start
+start c = c .before .before .before .before .before .before
+
 returns : tie.Need-returns
 returns c = page-no-room _ _ (c .before .before .before .before .before .pre) _ _ _ _ (c .if1 .taken)
 
 walk-requires : tie.Need-walk-requires
-walk-requires c κs =
-    let r = c .before .before .before in
-    let s = r .before .before .before .before .before .before in
-    (s .pre, page-room _ _ (s .pre) (s .args .limit) (s .args .tries) (s .args .last .now) _ (r .before .if1 .left) (r .rows-in .ensures))
+walk-requires c κs = let r = c .before .before .before in page-room _ _ (start r .pre) _ _ (r .before .if1 .left) (r .rows-in .ensures)
 
 returns-2 : tie.Need-returns-2
 returns-2 c =
     let e = c .before .before .before .before .before in
     let r = e .before .before in
-    page-first _ _ (r .before .before .before .before .before .before .pre) _ _ _ _ (r .before .if1 .left) (r .rows-in .ensures)
-    (e .empty .ensures) (c .tell .ensures) (e .before .if2 .taken) (c .before .before .before .walk .ensures)
+    page-first _ _ (start r .pre) _ _ (r .before .if1 .left) (r .rows-in .ensures) _ _ (c .tell .ensures) (e .empty .ensures)
+    (e .before .if2 .taken) (c .before .before .before .walk .ensures)
 
 resume-requires : tie.Need-resume-requires
-resume-requires c κs =
-    let r = c .before .before .before in
-    let s = r .before .before .before .before .before .before in
-    (s .pre, page-room _ _ (s .pre) (s .args .limit) (s .args .tries) (s .args .last .now) _ (r .before .if1 .left) (r .rows-in .ensures))
+resume-requires c κs = let r = c .before .before .before in page-room _ _ (start r .pre) _ _ (r .before .if1 .left) (r .rows-in .ensures)
 
 returns-3 : tie.Need-returns-3
 returns-3 c =
     let e = c .before .before .before .before .before in
     let r = e .before .before in
-    page-later _ _ (r .before .before .before .before .before .before .pre) _ _ _ _ (r .before .if1 .left) (r .rows-in .ensures)
-    (e .empty2 .ensures) (c .tell2 .ensures) (e .before .if2 .left) (c .before .before .before .resume .ensures)
+    page-later _ _ (start r .pre) _ _ (r .before .if1 .left) (r .rows-in .ensures) _ _ (c .tell2 .ensures) (e .empty2 .ensures)
+    (e .before .if2 .left) (c .before .before .before .resume .ensures)
 
 pub page-in-spec : {M : Type 1} → statement M
 page-in-spec =

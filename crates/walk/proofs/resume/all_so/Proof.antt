@@ -1,4 +1,4 @@
--- A part of a body gone through: its first i atoms are as is asked.
+-- A part of a body gone through: its first i atoms are as is asked, so that the first that isn't says no, and the end yes.
 use mathlib.Core.Path.{_≡_}
 use mathlib.Core.Bool.{true}
 use mathlib.Core.List.{map}
@@ -19,25 +19,21 @@ Inv-loop part row inside i₀ i = (i ≤ length part) × (every (so inside row) 
 abbrev μ-loop : tie.MeasureT-loop
 μ-loop part row inside i₀ i = length part - i
 
-loop-holds : tie.Need-loop-holds Inv-loop μ-loop
-loop-holds c = search (needs, so-none)
-
 returns : tie.Need-returns Inv-loop μ-loop
 returns c =
-    let l = c .before .before .before .before .before in
+    let g = c .before in
+    let l = g .before .before .before .before in
     let s = l .before .before .before .args in
-    so-fails (s .inside) (s .row .now) (s .part .now) (l .loop .i) (omega arith) (c .before .before .in-row .ensures)
-    (c .before .agrees .ensures) (not-true _ (c .if1 .taken))
-
-loop-again : tie.Need-loop-again Inv-loop μ-loop
-loop-again c = search (needs, so-next, not-false)
+    so-fails (s .inside) (s .row .now) (s .part .now) (l .loop .i) (omega arith) (g .before .in-row .ensures) (g .agrees .ensures)
+    (not-true _ (c .if1 .taken))
 
 returns-2 : tie.Need-returns-2 Inv-loop μ-loop
 returns-2 c =
-    let s = c .before .before .before .before .args in
-    so-all (s .inside) (s .row .now) (s .part .now) (c .before .loop .i) (omega arith) (c .before .loop .inv .1)
+    let l = c .before in
+    let s = l .before .before .before .args in
+    so-all (s .inside) (s .row .now) (s .part .now) (l .loop .i) (omega arith) (l .loop .inv .1)
 
 pub all-so-spec : {M : Type 1} → statement M
 all-so-spec =
-    tie.close (tie.spec Inv-loop μ-loop loop-holds (λ c. search needs) (λ c κs. search needs) (λ c κs. search needs)
-    returns (λ c. search needs) (λ c. search needs) loop-again returns-2)
+    tie.close (tie.spec Inv-loop μ-loop (λ c. search (needs, so-none)) (λ c. search needs) (λ c κs. search needs)
+    (λ c κs. search needs) returns (λ c. search needs) (λ c. search needs) (λ c. search (needs, so-next, not-false)) returns-2)

@@ -1,31 +1,21 @@
 -- The walk meets its contract: each return is one way of the laws in Walking, with what the calls on that way said. The measure is the
--- number of rules without a colour.
-use mathlib.Core.Path.{_≡_, sym, _∙_, ap}
-use mathlib.Core.Bool.{false}
-use Prim.Native.Nat.{ℕ, _≤_, _<_}
-use native.Mathlib.Omega.{arith}
+-- number of rules without a colour: each side of a fork has fewer.
+use mathlib.Core.Path.{_≡_}
+use Prim.Native.Nat.{ℕ, _<_}
 use borrow.Author.Needs.{needs}
 use borrow.Fn.Kinds.{In}
 use borrow.Fn.PlainCycle.{Measures, is, falls, and}
-use Rattle.meaning.specs.declared.RuleNo.{RuleNo}
-use Rattle.meaning.specs.declared.colouring.Colouring.{Colouring}
-use Rattle.meaning.specs.Books.{Book, count}
-use Rattle.meaning.specs.Colours.{Side, onSide, offSide, clashing, uncoloured}
-use Rattle.meaning.specs.Written.{pair}
-use Rattle.meaning.specs.Lowest.{one, lowest}
+use Rattle.meaning.specs.Colours.{onSide, offSide}
 use Rattle.meaning.proofs.Written.{Sized}
-use Rattle.meaning.proofs.Lowest.{lowest-one}
 use Rattle.book.specs.Format.{bookIn}
-use Rattle.book.proofs.Places.{shape-count}
-use Rattle.closing.specs.Left.{left, chosen}
-use Rattle.walk.specs.Picked.{picked}
+use Rattle.closing.specs.Left.{left}
 use Rattle.walk.specs.declared.tally.Halt.the-variants.{Going}
-use Rattle.walk.proofs.Events.{fork-falls}
-use Rattle.walk.proofs.Searches.{clash-in, lowest-in}
-use Rattle.walk.proofs.Walking.{walk-ended, walk-stops, walk-clash, walk-reading, walk-fork, room-tried, room-run, halted-told}
+use Rattle.walk.proofs.Events.{Closes, Forks, fork-low}
+use Rattle.walk.proofs.Walking.{few, clash-told, lowest-told, forks-told, side-falls, room-tried, room-run, halted-told}
+use Rattle.walk.proofs.Walking.{walk-ended, walk-stops, walk-clash, walk-reading, walk-fork}
 use Rattle.walk.proofs.walk.walk.Reads as walk
-use Rattle.walk.proofs.walk.walk.Kinds as walk-kinds
-use Rattle.walk.proofs.walk.+walk.Lts-walk as walk-lts
+use Rattle.walk.proofs.walk.walk.Kinds as kinds
+use Rattle.walk.proofs.walk.+walk.Lts-walk as lts
 use Rattle.closing.proofs.close.Reads as close-reads
 use Rattle.meaning.proofs.colouring.Colouring.with_off.Reads as with-off-reads
 use Rattle.meaning.proofs.colouring.Colouring.with_on.Reads as with-on-reads
@@ -36,144 +26,152 @@ use Rattle.walk.proofs.tally.Tally.tried.Reads as tried-reads
 use Rattle.walk.proofs.walk.+walk.{statement}
 use Rattle.walk.proofs.walk.+walk.Tie.{close}
 
-abbrev μ-walk : Measures 2 walk-kinds.ps ℕ
+abbrev μ-walk : Measures 2 kinds.ps ℕ
 μ-walk κs a = left (bookIn (a .0 .now)) (a .1 .1 .0)
 
-abbrev walk-at : ℕ → In 2 walk-kinds.ps
-walk-at t = and 2 walk-kinds.ps (is 2 walk-kinds.ps μ-walk t) walk.Pre
+module _ (t : ℕ) where
+  -- this call's measure is t, that of the calls below is less
+  abbrev here : In 2 kinds.ps
+  here = and 2 kinds.ps (is 2 kinds.ps μ-walk t) walk.Pre
 
-abbrev walk-below : ℕ → In 2 walk-kinds.ps
-walk-below t = and 2 walk-kinds.ps (falls 2 walk-kinds.ps _<_ μ-walk t) walk.Pre
+  abbrev below : In 2 kinds.ps
+  below = and 2 kinds.ps (falls 2 kinds.ps _<_ μ-walk t) walk.Pre
 
-abbrev calls : ℕ → walk-lts.Claims
-calls t = (
-  close-reads.Asked,
-  close-reads.Learnt,
-  clashes-reads.Asked,
-  clashes-reads.Learnt,
-  tried-reads.Asked,
-  tried-reads.Learnt,
-  lowest-uncoloured-reads.Asked,
-  lowest-uncoloured-reads.Learnt,
-  meet-reads.Asked,
-  meet-reads.Learnt,
-  with-on-reads.Asked,
-  with-on-reads.Learnt,
-  walk-below t,
-  walk.Post,
-  with-off-reads.Asked,
-  with-off-reads.Learnt,
-)
+  abbrev calls : lts.Claims
+  calls = (
+    close-reads.Asked,
+    close-reads.Learnt,
+    clashes-reads.Asked,
+    clashes-reads.Learnt,
+    tried-reads.Asked,
+    tried-reads.Learnt,
+    lowest-uncoloured-reads.Asked,
+    lowest-uncoloured-reads.Learnt,
+    meet-reads.Asked,
+    meet-reads.Learnt,
+    with-on-reads.Asked,
+    with-on-reads.Learnt,
+    below,
+    walk.Post,
+    with-off-reads.Asked,
+    with-off-reads.Learnt,
+  )
 
-sized-at : (t : ℕ) (c : walk-lts.Start (calls t) (walk-at t) walk.Post) → Sized (c .args .c)
-sized-at t c = search needs
+  -- ---- the places on the way, with what is known there
 
--- after the closing
-module _ (t : ℕ) (c : walk-lts.After-close (calls t) (walk-at t) walk.Post) where
-  abbrev start : walk-lts.Start (calls t) (walk-at t) walk.Post
-  start = c .before .before .before .before .before .before .before
+  sized : (c : lts.Start calls here walk.Post) → Sized (c .args .c)
+  sized c = search needs
 
-  abbrev b : Book
-  b = bookIn (start .args .book .now)
+  -- behind the closing
+  module _ (c : lts.After-close calls here walk.Post) where
+    abbrev start : lts.Start calls here walk.Post
+    start = c .before .before .before .before .before .before .before
 
-  rules : count b ≡ start .args .shape .rules
-  rules = shape-count _ _ (start .pre .1 .0)
+    closes : Closes (bookIn (start .args .book .now)) (start .args .c) (c .close .result)
+    closes = record { few = few _ _ (start .pre .1 .0) (search needs); sized = sized start; closed = c .close .ensures }
 
-  few : count b ≤ 255
-  few = omega (arith, rules)
+    going : start .args .t .halt ≡ Going
+    going = c .before .before .before .enum-told .given .1
 
-  sized : Sized (start .args .c)
-  sized = sized-at t start
+  -- behind the search for a contradiction
+  abbrev closing : lts.After-clashes calls here walk.Post → lts.After-close calls here walk.Post
+  closing c = c .before .before .before .before
 
-  going : start .args .t .halt ≡ Going
-  going = c .before .before .before .enum-told .given .1
+  -- behind the search for a rule to choose: there was no contradiction
+  abbrev calm : lts.After-lowest-uncoloured calls here walk.Post → lts.Else2 calls here walk.Post
+  calm c = c .before .before .before .before
 
--- after it gave no contradiction
-calm : (t : ℕ) (c : walk-lts.Else2 (calls t) (walk-at t) walk.Post)
-    → let k = c .before .before .before .before .before in clashing (b t k) (pair (k .close .result)) ≡ false
-calm t c = sym (clash-in _ (rules t (c .before .before .before .before .before)) _ _ (c .before .clashes .ensures)) ∙ c .if2 .left
+  -- where there is such a rule
+  module _ (c : lts.After-known-told calls here walk.Post) where
+    abbrev searched : lts.After-lowest-uncoloured calls here walk.Post
+    searched = c .before .before .before
 
--- where the walk forks
-module _ (t : ℕ) (c : walk-lts.After-known-told (calls t) (walk-at t) walk.Post) where
-  abbrev closed : walk-lts.After-close (calls t) (walk-at t) walk.Post
-  closed = c .before .before .before .before .before .before .before .before .before .before .before .before
+    abbrev closed : lts.After-close calls here walk.Post
+    closed = closing (calm searched .before)
 
-  abbrev r : RuleNo
-  r = c .before .r .given .0 .0
+    abbrev first : lts.Start calls here walk.Post
+    first = start closed
 
-  chosen-rule : lowest (b t closed) (uncoloured (pair (closed .close .result))) ≡ one r
-  chosen-rule =
-      sym (lowest-in _ (rules t closed) _ (c .before .before .before .lowest-uncoloured .ensures)) ∙ ap picked (c .before .r .given .1)
+    forks : Forks (bookIn (first .args .book .now)) (first .args .c) (closed .close .result) (c .before .r .given .0 .0)
+    forks =
+        forks-told _ _ (first .pre .1 .0) (closes closed) (calm searched .before .clashes .ensures) (calm searched .if2 .left)
+        (searched .lowest-uncoloured .ensures) (c .before .r .given .1)
 
-  clear : clashing (b t closed) (pair (closed .close .result)) ≡ false
-  clear = calm t (c .before .before .before .before .before .before .before)
+  -- after the walk with that rule on
+  module _ (c : lts.After-walk calls here walk.Post) where
+    abbrev tried : lts.After-tried2 calls here walk.Post
+    tried = c .before .before .before
 
-  low : r .0 < 255
-  low = omega (arith, lowest-one _ _ r chosen-rule .0, few t closed)
+    abbrev forked : lts.After-known-told calls here walk.Post
+    forked = tried .before
 
-  falling : (x : Side) {y : Colouring} → y ≡ chosen x r (closed .close .result) → left (b t closed) y < t
-  falling x e =
-      let g = fork-falls _ (few t closed) _ (sized t closed) _ (closed .close .ensures) x r chosen-rule in
-      rw e (omega (arith, start t closed .pre .0))
+  -- and with it put off
+  abbrev walked : lts.After-with-off calls here walk.Post → lts.After-walk calls here walk.Post
+  walked c = c .before .before .before
 
-walk-returns : (t : ℕ) → walk-lts.Need-returns (calls t) (walk-at t) walk.Post
-walk-returns t c = walk-ended _ _ _ _ (halted-told _ (c .match .keys2))
+  -- ---- the needs
 
-walk-returns-2 : (t : ℕ) → walk-lts.Need-returns-2 (calls t) (walk-at t) walk.Post
-walk-returns-2 t c = walk-stops _ _ _ _ (c .before .before .enum-told .given .1) (c .if1 .taken)
+  returns : lts.Need-returns calls here walk.Post
+  returns c = walk-ended _ _ _ _ (halted-told _ (c .match .keys2))
 
-walk-returns-3 : (t : ℕ) → walk-lts.Need-returns-3 (calls t) (walk-at t) walk.Post
-walk-returns-3 t c =
-    let h = c .before .before in
-    let k = h .before .before .before .before in
-    walk-clash _ _ _ _ (going t k) (k .before .if1 .left) (few t k) (sized t k) _ (k .close .ensures)
-    (sym (clash-in _ (rules t k) _ _ (h .clashes .ensures)) ∙ c .before .if2 .taken) (c .tried .ensures)
+  returns-2 : lts.Need-returns-2 calls here walk.Post
+  returns-2 c = walk-stops _ _ _ _ (c .before .before .enum-told .given .1) (c .if1 .taken)
 
-walk-returns-4 : (t : ℕ) → walk-lts.Need-returns-4 (calls t) (walk-at t) walk.Post
-walk-returns-4 t c =
-    let m = c .before .before in
-    let p = m .before .before .before .before .before .before in
-    let h = p .before .before .before .before in
-    let k = h .before .before .before .before .before in
-    let picks = lowest-in _ (rules t k) _ (p .lowest-uncoloured .ensures) in
-    let none = sym picks ∙ ap picked (m .before .before .before .before .enum-told2 .given .1) in
-    walk-reading _ _ _ _ (going t k) (k .before .if1 .left) (few t k) (sized t k) _ (k .close .ensures) (calm t h) none (m .meet .ensures)
+  returns-3 : lts.Need-returns-3 calls here walk.Post
+  returns-3 c =
+      let h = c .before .before in
+      let k = closing h in
+      walk-clash _ _ _ _ (going k) (k .before .if1 .left) (closes k)
+      (clash-told _ _ (start k .pre .1 .0) _ _ (h .clashes .ensures) (c .before .if2 .taken)) (c .tried .ensures)
 
-walk-with-on-requires : (t : ℕ) → walk-lts.Need-with-on-requires (calls t) (walk-at t) walk.Post
-walk-with-on-requires t c κs = low t (c .before)
+  returns-4 : lts.Need-returns-4 calls here walk.Post
+  returns-4 c =
+      let m = c .before .before in
+      let n = m .before .before .before .before in
+      let p = n .before .before in
+      let q = calm p in
+      let k = closing (q .before) in
+      walk-reading _ _ _ _ (going k) (k .before .if1 .left) (closes k)
+      (clash-told _ _ (start k .pre .1 .0) _ _ (q .before .clashes .ensures) (q .if2 .left))
+      (lowest-told _ _ (start k .pre .1 .0) _ _ (p .lowest-uncoloured .ensures) (n .enum-told2 .given .1)) (m .meet .ensures)
 
-walk-walk-requires : (t : ℕ) → walk-lts.Need-walk-requires (calls t) (walk-at t) walk.Post
-walk-walk-requires t c κs =
-    let f = c .before .before .before in
-    let k = closed t f in
-    let s = start t k .pre .1 in
-    (falling t f onSide (c .before .with-on .ensures), (s .0, room-tried (s .1) (going t k) (c .before .before .tried2 .ensures)))
+  with-on-requires : lts.Need-with-on-requires calls here walk.Post
+  with-on-requires c κs = fork-low (forks (c .before))
 
-walk-with-off-requires : (t : ℕ) → walk-lts.Need-with-off-requires (calls t) (walk-at t) walk.Post
-walk-with-off-requires t c κs = low t (c .before .before .before .before .before .before)
+  walk-requires : lts.Need-walk-requires calls here walk.Post
+  walk-requires c κs =
+      let u = c .before .before in
+      let f = u .before in
+      let s = first f .pre .1 in (
+        side-falls (forks f) (first f .pre .0) onSide (c .before .with-on .ensures),
+        (s .0, room-tried (s .1) (going (closed f)) (u .tried2 .ensures)),
+      )
 
-walk-walk-requires-2 : (t : ℕ) → walk-lts.Need-walk-requires-2 (calls t) (walk-at t) walk.Post
-walk-walk-requires-2 t c κs =
-    let w = c .before .before .before .before in
-    let u = w .before .before .before in
-    let k = closed t (u .before) in
-    let s = start t k .pre .1 in
-    let forked = room-tried (s .1) (going t k) (u .tried2 .ensures) in
-    (falling t (u .before) offSide (c .before .with-off .ensures), (s .0, room-run forked _ _ (w .walk .ensures)))
+  with-off-requires : lts.Need-with-off-requires calls here walk.Post
+  with-off-requires c κs = fork-low (forks (forked (c .before .before)))
 
-walk-returns-5 : (t : ℕ) → walk-lts.Need-returns-5 (calls t) (walk-at t) walk.Post
-walk-returns-5 t c =
-    let v = c .before .before .before .before in
-    let w = v .before .before .before in
-    let x = w .before .before in
-    let f = x .before .before in
-    let k = closed t f in
-    walk-fork _ _ _ _ (going t k) (k .before .if1 .left) (few t k) (sized t k) _ (k .close .ensures) (clear t f) _ (chosen-rule t f)
-    (x .before .tried2 .ensures) (x .with-on .ensures) (w .walk .ensures) (v .with-off .ensures) (c .before .before .walk2 .ensures)
+  walk-requires-2 : lts.Need-walk-requires-2 calls here walk.Post
+  walk-requires-2 c κs =
+      let v = c .before in
+      let w = walked v in
+      let f = forked w in
+      let s = first f .pre .1 in (
+        side-falls (forks f) (first f .pre .0) offSide (v .with-off .ensures),
+        (s .0, room-run (room-tried (s .1) (going (closed f)) (tried w .tried2 .ensures)) _ _ (w .walk .ensures)),
+      )
+
+  returns-5 : lts.Need-returns-5 calls here walk.Post
+  returns-5 c =
+      let v = c .before .before .before .before in
+      let w = walked v in
+      let f = forked w in
+      let k = closed f in
+      walk-fork _ _ _ _ (going k) (k .before .if1 .left) (forks f) (tried w .tried2 .ensures) (w .before .before .with-on .ensures)
+      (w .walk .ensures) (v .with-off .ensures) (c .before .before .walk2 .ensures)
 
 pub +walk-spec : {M : Type 1} → statement M
-+walk-spec = close μ-walk λ t. walk-lts.spec (calls t) (walk-at t) walk.Post
-    (λ c. search needs) (walk-returns t) (walk-returns-2 t) (λ c κs. search needs) (λ c κs. search needs)
-    (λ c κs. search needs) (walk-returns-3 t) (λ c κs. search needs) (λ c. search needs) (λ c. search needs)
-    (λ c κs. search needs) (λ c. search needs) (walk-returns-4 t) (λ c κs. search needs) (walk-with-on-requires t)
-    (walk-walk-requires t) (walk-with-off-requires t) (walk-walk-requires-2 t) (λ c. search needs) (walk-returns-5 t)
++walk-spec = close μ-walk λ t. lts.spec (calls t) (here t) walk.Post
+    (λ c. search needs) (returns t) (returns-2 t) (λ c κs. search needs) (λ c κs. search needs) (λ c κs. search needs)
+    (returns-3 t) (λ c κs. search needs) (λ c. search needs) (λ c. search needs) (λ c κs. search needs) (λ c. search needs)
+    (returns-4 t) (λ c κs. search needs) (with-on-requires t) (walk-requires t) (with-off-requires t) (walk-requires-2 t)
+    (λ c. search needs) (returns-5 t)
