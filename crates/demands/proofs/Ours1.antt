@@ -1,23 +1,22 @@
 -- Our engine meets demand 1. What a call tells is followed down the tests in their order: the book, then the numbers and the room, then
 -- the walks, which tell none of these refusals; and the buffer stays, since only the reading or the paper that is told is written.
-use mathlib.Core.Path.{_≡_, refl, sym, _∙_, ap, subst}
-use mathlib.Core.Logic.{_⊎_, inl, inr, ⊎-elim, _↔_}
+use mathlib.Core.Path.{_≡_, sym, _∙_, ap, subst}
+use mathlib.Core.Logic.{⊎-elim, _↔_}
 use mathlib.Core.List.{List}
-use Prim.Native.Nat.{ℕ, _-_, _≤_, _<_}
+use Prim.Native.Nat.{ℕ, _≤_, _<_}
 use native.Mathlib.Omega.{arith}
 use lib.ListN.{length}
 use Rattle.meaning.specs.declared.AtomNo.{AtomNo}
 use Rattle.meaning.specs.Books.{Book}
 use Rattle.meaning.specs.Claim.{named, claimed}
-use Rattle.meaning.specs.Written.{nothing}
-use Rattle.meaning.proofs.Choice.{lt-yes, lt-no, lt-either, b-either, eq-yes, eq-no, eq-either}
-use Rattle.walk.specs.Events.{Event, clash, fork, reading, events}
-use Rattle.walk.specs.Run.{Wanted, State, readingMet, tried, met, run}
-use Rattle.walk.specs.Find.{Told, set, fewer, stopped, refusedAt, refused, Answered, startOf, toldBy, findIn, findOf}
+use Rattle.meaning.proofs.Choice.{lt-yes, lt-no, lt-either, eq-yes, eq-no, eq-either}
+use Rattle.walk.specs.Run.{State}
+use Rattle.walk.specs.Find.{Told, set, fewer, stopped, refusedAt, refused, Answered, toldBy, findIn, findOf}
 use Rattle.walk.specs.declared.tally.Halt.{Halt}
 use Rattle.walk.specs.declared.tally.Halt.the-variants.{Going, Full, Limit, NotLeast}
-use Rattle.walk.proofs.Run.{apart, run-keeps}
+use Rattle.walk.proofs.Run.{apart}
 use Rattle.walk.proofs.Demand.{find-bad-book}
+use Rattle.walk.proofs.Kept.{find-keeps}
 use Rattle.writer.specs.Scan.{Course, writing, limited, refuted, Progress}
 use Rattle.writer.specs.Name.{Told as NameTold, paper, fewer as nameFewer, stopped as nameStopped, refusedAt as nameRefusedAt}
 use Rattle.writer.specs.Name.{refused as nameRefused, Answered as Named, handOver, afterPaperWalk, afterFirstWalk, nameIn, nameOf}
@@ -55,40 +54,6 @@ module _ (b : Book) (k limit : ℕ) (answer : List ℕ) where
   find-tells =
       let P : Answered → Type 0 = λ a. FindTells (a .told) in
       eq-either P _ _ _ _ no-number λ n. lt-either P _ _ _ _ (no-room (omega arith)) λ h. walk-tells _ _
-
-  -- the buffer is as it was as long as readings are passed over; the one that is written ends the way
-  Kept : State → Type 0
-  Kept s = (s .tally .halt ≡ Full) ⊎ ((s .tally .sets ≤ k - 1) × (s .out ≡ answer))
-
-  abbrev one : Wanted
-  one = record { pass = k - 1; room = 1; limit = limit }
-
-  try-kept : (s : State) (e : Event) → s .tally .sets ≤ k - 1 → s .out ≡ answer → Kept (tried b one s e)
-  unfolding Kept tried readingMet
-  try-kept s clash h o = inr (h, o)
-  try-kept s (fork r) h o = inr (h, o)
-  try-kept s (reading d) h o = lt-either Kept _ _ _ _ (λ l. inr (omega arith, o))
-      (λ l. b-either Kept _ _ _ (λ t. inl (eq-yes _ _ _ _ (omega arith))) (λ t. inr (h, o)))
-
-  event-kept : (s : State) (e : Event) → s .tally .halt ≡ Going → Kept s → Kept (met b one Going s e)
-  unfolding Kept met
-  event-kept s e g (inl f) = apart (cc)
-  event-kept s e g (inr (h, o)) = lt-either Kept _ _ _ _ (λ l. try-kept s e h o) (λ l. inr (h, o))
-
-  walk-kept : Kept (run b one (startOf answer) (events b nothing))
-  unfolding Kept
-  walk-kept = run-keeps b one Kept event-kept _ _ (inr (omega arith, refl))
-
-  kept-out : (s : State) → Kept s → ((t : ℕ) → toldBy (s .tally .halt) s limit ≡ set t → ⊥) → s .out ≡ answer
-  unfolding Kept toldBy
-  kept-out s (inl e) f = absurd (f (s .tally .tries) (rw e))
-  kept-out s (inr (h, o)) f = o
-
-  find-in-keeps : ((t : ℕ) → findIn b k limit answer .told ≡ set t → ⊥) → findIn b k limit answer .buffer ≡ answer
-  unfolding findIn
-  find-in-keeps =
-      let P : Answered → Type 0 = λ a. ((t : ℕ) → a .told ≡ set t → ⊥) → a .buffer ≡ answer in
-      eq-either P _ _ _ _ (λ e f. refl) λ n. lt-either P _ _ _ _ (λ h f. refl) λ h. kept-out _ walk-kept
 
 module _ (book : List ℕ) (k limit : ℕ) (answer : List ℕ) where
   bad-told : {i at : ℕ} → DamagedBook book i at → findOf book k limit answer .told ≡ refusedAt i at
@@ -139,7 +104,7 @@ module _ (book : List ℕ) (k limit : ℕ) (answer : List ℕ) where
   find-buffer f = ⊎-elim
       (λ (b, g).
       let e = found-as g k limit answer in
-      ap (λ (a : Answered). a .buffer) e ∙ find-in-keeps b k limit answer (λ t p. f t (ap (λ (a : Answered). a .told) e ∙ p)))
+      ap (λ (a : Answered). a .buffer) e ∙ find-keeps b k limit answer (λ t p. f t (ap (λ (a : Answered). a .told) e ∙ p)))
       (λ (i, at, d). ap (λ (a : Answered). a .buffer) (find-bad-book book k limit answer _ _ (damaged-bad book d))) (every-book book)
 
 -- ---- naming

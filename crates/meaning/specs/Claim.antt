@@ -1,5 +1,6 @@
--- What a paper claims. Document 01, "The paper": "an on rule has the claimed atom as head". This is the only file where the kind of
--- claim enters; papers, derivations and the engine's steps speak of any claim.
+-- What a paper claims. Document 01, "The paper": "an on rule has the claimed atom as head". What a kind of claim means is said here alone;
+-- papers, derivations and the engine's steps speak of any claim. Which kind it is, is said where a trailer is read (checker/specs/Check,
+-- Rows) and where a paper is asked for (writer/specs/Name).
 --
 --   named a          the claim that atom a is certain
 --   claimed k        the atom that the claim is about

@@ -100,17 +100,6 @@ module _ (b : Book) (fits : count b ≤ 255) (k limit : ℕ) (answer : List ℕ)
   find-row t x e c =
       let (y, d, h, l) = set-says outcome t e in l ∙ ap (λ (z : Atoms). rowOf b z ++ drop (b .atoms) answer) (kth-one b d c .1)
 
-  -- nothing is written on any other answer
-  pub find-keeps : ((t : ℕ) → findIn b k limit answer .told ≡ set t → ⊥) → findIn b k limit answer .buffer ≡ answer
-  find-keeps = keeps outcome
-    where
-      keeps : {A : Answered} → Outcome b k limit answer A → ((t : ℕ) → A .told ≡ set t → ⊥) → A .buffer ≡ answer
-      keeps (found {t = t} c h) f = absurd (f t refl)
-      keeps (too-few h l) f = refl
-      keeps (too-long n h) f = refl
-      keeps (no-number h) f = refl
-      keeps (no-room h l) f = refl
-
   -- number 10 never comes
   pub find-never-10 : findIn b k limit answer .told ≡ refused 10 → ⊥
   find-never-10 = never outcome

@@ -10,6 +10,7 @@ pub mod Way
 pub mod Needs
 pub mod Finding
 pub mod Demand
+pub mod Kept
 pub mod Rest
 pub mod Paging
 pub mod Listing
