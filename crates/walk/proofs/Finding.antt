@@ -9,6 +9,7 @@ use native.Mathlib.Omega.{arith}
 use lib.ListN.{length, drop, length-append}
 use Rattle.meaning.specs.declared.colouring.Colouring.{Colouring}
 use Rattle.meaning.specs.Books.{Atoms, Book, count}
+use Rattle.meaning.specs.Told.{fewer, stopped, refused, Answered}
 use Rattle.meaning.specs.Written.{nothing}
 use Rattle.meaning.proofs.Tests.{lt-or-le}
 use Rattle.meaning.proofs.Choice.{lt-no, lt-either, eq-either}
@@ -17,7 +18,7 @@ use Rattle.walk.specs.Events.{Event, reading, events}
 use Rattle.walk.specs.Readings.{readingOf, readings}
 use Rattle.walk.specs.Tries.{Kth, Needs, to-reading, to-end}
 use Rattle.walk.specs.Run.{rowOf, Wanted, State}
-use Rattle.walk.specs.Find.{set, fewer, stopped, refused, Answered, startOf, toldBy, answeredBy, findIn}
+use Rattle.walk.specs.Find.{set, startOf, toldBy, answeredBy, findIn}
 use Rattle.walk.proofs.Rows.{row-length, write-front}
 use Rattle.walk.proofs.Readings.{readings-all}
 use Rattle.walk.proofs.Way.{Tested, step, gone, gone-tries, gone-sets, gone-passes, Way, to-full, to-limit, way}
@@ -31,7 +32,7 @@ readings-tested b fits x m = answer→test b fits x (readings-all b fits .sound 
 
 module _ (b : Book) (k limit : ℕ) (answer : List ℕ) where
   -- how a call may end, with what it answers
-  pub data Outcome : Answered → Type 0 where
+  pub data Outcome : Answered ℕ → Type 0 where
     found : {t : ℕ} {x : Atoms} → Kth b k t x → t ≤ limit
         → Outcome (record { told = set t; buffer = rowOf b x ++ drop (b .atoms) answer })
     too-few : length (readings b) < k → length (events b nothing) ≤ limit

@@ -6,9 +6,8 @@ pub enum Page {
     Whole(u32),
     // The walk has come to its end: all tries, and the rows of this last page.
     Last(u32, u32),
-    // Where finding would tell 9: one more try would pass the limit; so many rows stand in
-    // the buffer.
-    Stopped(u32),
+    // One more try would pass the limit: so many rows stand in the buffer.
+    Cut(u32),
     // Where finding would tell 10: a reading isn't the least model of its reduct; so many rows
     // stand in the buffer.
     NotLeast(u32),
