@@ -17,6 +17,8 @@ use meaning::Colouring;
 
 // Walks on from the colouring c: one try, and after a choice first with the rule on, then with it
 // off, each from the colouring before the choice.
+// It ends because each choice leaves fewer rules without a colour: closing takes no colour away, and
+// the chosen rule, which had none, gets one. So it goes at most 255 levels deep.
 pub fn walk(
     book: &[u8],
     shape: Shape,

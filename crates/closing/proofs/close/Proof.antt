@@ -1,23 +1,21 @@
 -- The invariant: the sets, the marks and the tables go on from the start within every closed pair above it (Closes), and the rules that
 -- are on neither side become fewer. Where neither pass adds a rule the pair is closed. Blueprint C2.
-use Prim.Native.Nat.{_+_}
+use mathlib.Core.Path.{_≡_}
+use mathlib.Core.Bool.{Bool}
+use mathlib.Core.List.{List}
+use Prim.Native.Nat.{ℕ, _+_}
 use native.Mathlib.Omega.{arith}
 use borrow.Author.Tests.{not-true, not-false}
 use borrow.Author.Needs.{needs}
+use Rattle.meaning.specs.Books.{Book}
 use Rattle.meaning.proofs.Written.{Sized}
 use Rattle.book.specs.Format.{bookIn}
-use Rattle.book.proofs.heads_of.Reads as heads-of-reads
-use Rattle.book.proofs.lost_in.Reads as lost-in-reads
-use Rattle.closing.proofs.Good.{Good, good-asks}
+use Rattle.closing.specs.Growing.{Condition, Pass}
+use Rattle.closing.proofs.Good.{Good, Asks, good-asks}
 use Rattle.closing.proofs.Growing.{room, pass-less, pass-no-more}
 use Rattle.closing.proofs.Closed.{Closes, closes-start, closes-on, closes-off, closes-end}
 use Rattle.closing.proofs.close.Statement.{statement}
 use Rattle.closing.proofs.close.Tie as tie
-use Rattle.closing.proofs.close.Reads as reads
-use Rattle.closing.proofs.close.Lts as lts
-use Rattle.closing.proofs.marking.support.Reads as support-reads
-use Rattle.closing.proofs.passes.grow_off.Reads as grow-off-reads
-use Rattle.closing.proofs.passes.pass_on.Reads as pass-on-reads
 
 abbrev Inv-loop : tie.InvT-loop
 Inv-loop book shape on₀ off₀ marks₀ headed₀ lost₀ on off marks headed lost = Closes (bookIn book) on₀ off₀ on off marks headed lost
@@ -25,88 +23,100 @@ Inv-loop book shape on₀ off₀ marks₀ headed₀ lost₀ on off marks headed 
 abbrev μ-loop : tie.MeasureT-loop
 μ-loop book shape on₀ off₀ marks₀ headed₀ lost₀ on off marks headed lost = room (bookIn book) on + room (bookIn book) off
 
-abbrev calls : lts.Claims
-calls = (
-  support-reads.Asked,
-  support-reads.Learnt,
-  heads-of-reads.Asked,
-  heads-of-reads.Learnt,
-  lost-in-reads.Asked,
-  lost-in-reads.Learnt,
-  pass-on-reads.Asked,
-  pass-on-reads.Learnt,
-  grow-off-reads.Asked,
-  grow-off-reads.Learnt,
-)
+-- ---- the places on the way, with what is known there
 
 -- the book is good, and each array of the colouring has 255 elements
-start-good : (s : lts.Start calls reads.Pre reads.Post Inv-loop μ-loop) → Good (s .args .book .now) (s .args .shape) × Sized (s .args .c)
+start-good : (s : tie.Start Inv-loop μ-loop) → Good (s .args .book .now) (s .args .shape) × Sized (s .args .c)
 start-good s = (search needs, search needs)
+
+-- where the loop begins: behind lost_in, before it heads_of, before that support
+module _ (c : tie.After-lost-in Inv-loop μ-loop) where
+  abbrev headed : tie.After-heads-of Inv-loop μ-loop
+  headed = c .before .before .before
+
+  abbrev supported : tie.After-support Inv-loop μ-loop
+  supported = headed .before .before .before
+
+  abbrev start : tie.Start Inv-loop μ-loop
+  start = supported .before .before .before .before .before .before
+
+-- where a turn begins, from before its first pass
+abbrev turn : tie.After-headed2 Inv-loop μ-loop → tie.At-loop Inv-loop μ-loop
+turn c = c .before .before .before
+
+-- behind the first pass, from before the second
+abbrev passed : tie.After-marks2 Inv-loop μ-loop → tie.After-pass-on Inv-loop μ-loop
+passed c = c .before .before .before .before
+
+-- behind both passes
+module _ (d : tie.After-grow-off Inv-loop μ-loop) where
+  abbrev first : tie.After-pass-on Inv-loop μ-loop
+  first = passed (d .before)
+
+  abbrev begun : tie.At-loop Inv-loop μ-loop
+  begun = turn (first .before)
+
+  abbrev entry : tie.Start Inv-loop μ-loop
+  entry = start (begun .before)
+
+  asks : Asks (bookIn (entry .args .book .now))
+  asks = good-asks (start-good entry .0)
+
+-- ---- the needs
+
+-- what a pass tells, by the test that was made on it
+tested : {b : Book} {k : Condition} {n : ℕ} {l m : List Bool} {x y : Bool} → x ≡ y → Pass b k n l m x → Pass b k n l m y
+tested e p = rw e at p
 
 loop-holds : tie.Need-loop-holds Inv-loop μ-loop
 loop-holds c =
-    let h = c .before .before .before in
-    let v = h .before .before .before in
-    let (g, s) = start-good (v .before .before .before .before .before .before) in
-    closes-start _ (good-asks g) (s .on) (s .off) (h .heads-of .ensures) (c .lost-in .ensures) (v .support .ensures)
+    let (g, s) = start-good (start c) in
+    closes-start _ (good-asks g) (s .on) (s .off) (headed c .heads-of .ensures) (c .lost-in .ensures) (supported c .support .ensures)
 
 pass-on-requires : tie.Need-pass-on-requires Inv-loop μ-loop
-pass-on-requires c κs =
-    let k = c .before .before .before in
-    let s = k .before .before .before .before .before .before .before .before .before .before .before .before .before in
-    (s .pre, k .loop .inv .on-long, k .loop .inv .heads-table)
+pass-on-requires c κs = let l = turn c in (start (l .before) .pre, l .loop .inv .on-long, l .loop .inv .heads-table)
 
 grow-off-requires : tie.Need-grow-off-requires Inv-loop μ-loop
 grow-off-requires c κs =
-    let k = c .before .before .before .before .before .before .before .before in
-    let s = k .before .before .before .before .before .before .before .before .before .before .before .before .before in
-    (s .pre, k .loop .inv .off-long, k .loop .inv .lost-table, k .loop .inv .supported)
+    let l = turn (passed c .before) in
+    (start (l .before) .pre, l .loop .inv .off-long, l .loop .inv .lost-table, l .loop .inv .supported)
 
 returns : tie.Need-returns Inv-loop μ-loop
 returns c =
     let d = c .before .before in
-    let k = d .before .before .before .before .before .before .before .before .before in
-    let s = k .before .before .before .before .before .before .before .before .before .before .before .before .before in
-    let p = d .before .before .before .before .before .pass-on .ensures in
+    let p = first d .pass-on .ensures in
     let q = d .grow-off .ensures in
-    let x = not-true (d .before .before .before .before .before .pass-on .result) (c .before .if1 .taken) in
+    let x = not-true (first d .pass-on .result) (c .before .if1 .taken) in
     let y = not-true (d .grow-off .result) (c .if2 .taken) in
-    let (g, z) = start-good s in
-    closes-end _ (good-asks g) (s .args .c) z (k .loop .inv) (rw x at (p .0)) (p .1) (rw y at (q .0)) (q .1) (q .2)
+    closes-end _ (asks d) (entry d .args .c) (start-good (entry d) .1) (begun d .loop .inv) (tested x (p .0)) (p .1) (tested y (q .0))
+    (q .1) (q .2)
 
+-- a pass that adds a rule leaves fewer, and the other pass no more
 loop-less : tie.Need-loop-less Inv-loop μ-loop
 loop-less c =
     let d = c .before .before in
-    let e = d .before .before .before .before .before in
     let y = not-false (d .grow-off .result) (c .if2 .left) in
-    omega (arith, pass-no-more (e .pass-on .ensures .0), pass-less (rw y at (d .grow-off .ensures .0)))
+    omega (arith, pass-no-more (first d .pass-on .ensures .0), pass-less (tested y (d .grow-off .ensures .0)))
 
 loop-again : tie.Need-loop-again Inv-loop μ-loop
 loop-again c =
     let d = c .before .before in
-    let k = d .before .before .before .before .before .before .before .before .before in
-    let s = k .before .before .before .before .before .before .before .before .before .before .before .before .before in
-    let p = d .before .before .before .before .before .pass-on .ensures in
+    let p = first d .pass-on .ensures in
     let q = d .grow-off .ensures in
-    let f = good-asks (start-good s .0) in
-    closes-off _ f (closes-on _ f (k .loop .inv) (p .0) (p .1)) (q .0) (q .1) (q .2)
+    closes-off _ (asks d) (closes-on _ (asks d) (begun d .loop .inv) (p .0) (p .1)) (q .0) (q .1) (q .2)
 
 loop-less-2 : tie.Need-loop-less-2 Inv-loop μ-loop
 loop-less-2 c =
     let d = c .before in
-    let e = d .before .before .before .before .before in
-    let x = not-false (e .pass-on .result) (c .if1 .left) in
-    omega (arith, pass-no-more (d .grow-off .ensures .0), pass-less (rw x at (e .pass-on .ensures .0)))
+    let x = not-false (first d .pass-on .result) (c .if1 .left) in
+    omega (arith, pass-no-more (d .grow-off .ensures .0), pass-less (tested x (first d .pass-on .ensures .0)))
 
 loop-again-2 : tie.Need-loop-again-2 Inv-loop μ-loop
 loop-again-2 c =
     let d = c .before in
-    let k = d .before .before .before .before .before .before .before .before .before in
-    let s = k .before .before .before .before .before .before .before .before .before .before .before .before .before in
-    let p = d .before .before .before .before .before .pass-on .ensures in
+    let p = first d .pass-on .ensures in
     let q = d .grow-off .ensures in
-    let f = good-asks (start-good s .0) in
-    closes-off _ f (closes-on _ f (k .loop .inv) (p .0) (p .1)) (q .0) (q .1) (q .2)
+    closes-off _ (asks d) (closes-on _ (asks d) (begun d .loop .inv) (p .0) (p .1)) (q .0) (q .1) (q .2)
 
 pub close-spec : {M : Type 1} → statement M
 close-spec =

@@ -10,7 +10,7 @@ use Rattle.meaning.specs.Books.{count}
 use Rattle.meaning.specs.Claim.{named}
 use Rattle.book.specs.Format.{bookIn}
 use Rattle.book.proofs.Places.{shape-count}
-use Rattle.checker.specs.Parts.{walked}
+use Rattle.checker.specs.Parts.{Ready, RuleWithin, walked}
 use Rattle.checker.proofs.BranchWalked.{ends-done, run-from, run-leads, run-room, run-ends, run-refused, run-splits}
 use Rattle.checker.proofs.BranchWalked.{Parted, split-refused, split-done}
 use Rattle.checker.proofs.branch.branch.Reads as branch
@@ -26,11 +26,14 @@ use Rattle.checker.proofs.branch.+branch+split.{statement}
 use Rattle.checker.proofs.branch.+branch+split.Tie.{close}
 
 -- the bytes left, twice, and one more for a branch: they fall from a branch to its split, and from a split to each of its branches
+abbrev left : ℕ → ℕ → ℕ
+left from at = from - at + (from - at)
+
 abbrev μ-branch : Measures 2 branch-kinds.ps ℕ
-μ-branch κs a = a .1 .1 .1 .0 .from - a .1 .1 .1 .1 .0 + (a .1 .1 .1 .0 .from - a .1 .1 .1 .1 .0) + 1
+μ-branch κs a = let (book, (shape, (paper, (trailer, (at, more))))) = a in left (trailer .from) at + 1
 
 abbrev μ-split : Measures 2 split-kinds.ps ℕ
-μ-split κs a = a .1 .1 .1 .0 .from - a .1 .1 .1 .1 .0 + (a .1 .1 .1 .0 .from - a .1 .1 .1 .1 .0)
+μ-split κs a = let (book, (shape, (paper, (trailer, (at, more))))) = a in left (trailer .from) at
 
 abbrev branch-at : ℕ → In 2 branch-kinds.ps
 branch-at t = and 2 branch-kinds.ps (is 2 branch-kinds.ps μ-branch t) branch.Pre
@@ -52,77 +55,106 @@ split-calls t = (with-on-reads.Asked, with-on-reads.Learnt, branch-below t, bran
 
 -- ---- branch
 
-branch-add-t13 : (t : ℕ) → branch-lts.Need-add-t13 (branch-calls t) (branch-at t) branch.Post
-branch-add-t13 t c = let h = run-room (c .before .before .run-steps .ensures) (c .enum-told .given .1) in search needs
+module _ (t : ℕ) where
+  -- where its steps have ended: the start
+  abbrev branch-start : branch-lts.After-run-steps (branch-calls t) (branch-at t) branch.Post
+      → branch-lts.Start (branch-calls t) (branch-at t) branch.Post
+  branch-start c = c .before .before .before
 
-branch-split-requires : (t : ℕ) → branch-lts.Need-split-requires (branch-calls t) (branch-at t) branch.Post
-branch-split-requires t c κs =
-    let k = c .before .before .before .before in
-    let (f, e) = run-splits (k .run-steps .ensures) (c .before .before .stop .given .1) in
-    let h = run-from (k .run-steps .ensures) in
-    (omega arith, (k .before .before .before .pre .1, f, e))
+  -- where a split follows: behind the steps
+  abbrev ran : branch-lts.After-colours (branch-calls t) (branch-at t) branch.Post
+      → branch-lts.After-run-steps (branch-calls t) (branch-at t) branch.Post
+  ran c = c .before .before .before .before
 
-branch-returns : (t : ℕ) → branch-lts.Need-returns (branch-calls t) (branch-at t) branch.Post
-branch-returns t c = run-ends (c .before .before .run-steps .ensures) (c .enum-told .given .1)
+  branch-add-t13 : branch-lts.Need-add-t13 (branch-calls t) (branch-at t) branch.Post
+  branch-add-t13 c = let h = run-room (c .before .before .run-steps .ensures) (c .enum-told .given .1) in search needs
 
-branch-returns-2 : (t : ℕ) → branch-lts.Need-returns-2 (branch-calls t) (branch-at t) branch.Post
-branch-returns-2 t c = run-leads (c .before .before .before .before .before .run-steps .ensures) (c .split .ensures)
+  branch-split-requires : branch-lts.Need-split-requires (branch-calls t) (branch-at t) branch.Post
+  branch-split-requires c κs =
+      let k = ran c in
+      let (f, e) = run-splits (k .run-steps .ensures) (c .before .before .stop .given .1) in
+      let h = run-from (k .run-steps .ensures) in
+      (omega arith, (branch-start k .pre .1, f, e))
 
-branch-returns-3 : (t : ℕ) → branch-lts.Need-returns-3 (branch-calls t) (branch-at t) branch.Post
-branch-returns-3 t c = run-refused (c .before .before .run-steps .ensures) 24 (c .enum-told2 .given .1) refl
+  branch-returns : branch-lts.Need-returns (branch-calls t) (branch-at t) branch.Post
+  branch-returns c = run-ends (c .before .before .run-steps .ensures) (c .enum-told .given .1)
 
-branch-returns-4 : (t : ℕ) → branch-lts.Need-returns-4 (branch-calls t) (branch-at t) branch.Post
-branch-returns-4 t c = run-refused (c .before .before .run-steps .ensures) 25 (c .enum-told3 .given .1) refl
+  branch-returns-2 : branch-lts.Need-returns-2 (branch-calls t) (branch-at t) branch.Post
+  branch-returns-2 c = run-leads (ran (c .before) .run-steps .ensures) (c .split .ensures)
+
+  branch-returns-3 : branch-lts.Need-returns-3 (branch-calls t) (branch-at t) branch.Post
+  branch-returns-3 c = run-refused (c .before .before .run-steps .ensures) 24 (c .enum-told2 .given .1) refl
+
+  branch-returns-4 : branch-lts.Need-returns-4 (branch-calls t) (branch-at t) branch.Post
+  branch-returns-4 c = run-refused (c .before .before .run-steps .ensures) 25 (c .enum-told3 .given .1) refl
 
 -- ---- split
 
--- behind the first branch
-module _ (t : ℕ) (c : split-lts.After-branch (split-calls t) (split-at t) split.Post) where
-  abbrev start : split-lts.Start (split-calls t) (split-at t) split.Post
-  start = c .before .before .before .before
+-- at its start: the book and the paper are as promised, the rule is one of the book, and the step's two bytes are before the witness
+module _ (t : ℕ) (s : split-lts.Start (split-calls t) (split-at t) split.Post) where
+  abbrev ready : Ready (s .args .book .now) (s .args .shape) (s .args .paper .now) (s .args .trailer .from)
+  ready = s .pre .1 .0
 
-  few : count (bookIn (start .args .book .now)) ≤ 255
-  few = omega (arith, shape-count _ _ (start .pre .1 .0 .read))
+  abbrev within : RuleWithin (bookIn (s .args .book .now)) (s .args .trailer .from) (s .args .at) (s .args .r)
+  within = s .pre .1 .1
 
-  parted : let s = start .args in
-      Parted (bookIn (s .book .now)) (named (s .trailer .atom)) (s .paper .now) (s .trailer .from) (s .at) (s .r) (s .c)
-      (c .before .with-on .result) (c .branch .result)
-  parted = record {
-    within = start .pre .1 .1;
-    splits = start .pre .1 .2;
-    few = few;
-    on-long = search needs;
-    off-long = search needs;
-    on = c .before .with-on .ensures;
-    comes = c .branch .ensures;
-  }
+  few : count (bookIn (s .args .book .now)) ≤ 255
+  few = omega (arith, shape-count _ _ (ready .read))
 
-split-with-on-requires : (t : ℕ) → split-lts.Need-with-on-requires (split-calls t) (split-at t) split.Post
-split-with-on-requires t c κs =
-    let s = c .before .before in omega (arith, shape-count _ _ (s .pre .1 .0 .read), s .pre .1 .1 .0)
+module _ (t : ℕ) where
+  -- behind the rule's going on: the start
+  abbrev split-start : split-lts.After-with-on (split-calls t) (split-at t) split.Post
+      → split-lts.Start (split-calls t) (split-at t) split.Post
+  split-start c = c .before .before .before
 
-split-branch-requires : (t : ℕ) → split-lts.Need-branch-requires (split-calls t) (split-at t) split.Post
-split-branch-requires t c κs = let s = c .before .before .before in (omega (arith, s .pre .1 .1 .1), s .pre .1 .0)
+  -- where the first branch was right: behind it
+  abbrev first : split-lts.After-known-told (split-calls t) (split-at t) split.Post
+      → split-lts.After-branch (split-calls t) (split-at t) split.Post
+  first c = c .before .before .before
 
-split-with-off-requires : (t : ℕ) → split-lts.Need-with-off-requires (split-calls t) (split-at t) split.Post
-split-with-off-requires t c κs = let p = c .before .before .before in omega (arith, few t p, start t p .pre .1 .1 .0)
+  -- behind the first branch
+  module _ (c : split-lts.After-branch (split-calls t) (split-at t) split.Post) where
+    abbrev start : split-lts.Start (split-calls t) (split-at t) split.Post
+    start = split-start (c .before)
 
-split-branch-requires-2 : (t : ℕ) → split-lts.Need-branch-requires-2 (split-calls t) (split-at t) split.Post
-split-branch-requires-2 t c κs =
-    let p = c .before .before .before .before in
-    let (h, g) = ends-done (p .branch .ensures .1) (c .before .before .next .given .1) in
-    (omega arith, start t p .pre .1 .0)
+    parted : let s = start .args in
+        Parted (bookIn (s .book .now)) (named (s .trailer .atom)) (s .paper .now) (s .trailer .from) (s .at) (s .r) (s .c)
+        (c .before .with-on .result) (c .branch .result)
+    parted = record {
+      within = within t start;
+      splits = start .pre .1 .2;
+      few = few t start;
+      on-long = search needs;
+      off-long = search needs;
+      on = c .before .with-on .ensures;
+      comes = c .branch .ensures;
+    }
 
-split-returns : (t : ℕ) → split-lts.Need-returns (split-calls t) (split-at t) split.Post
-split-returns t c =
-    let n = c .before .before .before in
-    split-done (parted t (n .before .before)) _ (n .next .given .1) _ (c .before .with-off .ensures) _ (c .branch2 .ensures)
+  split-with-on-requires : split-lts.Need-with-on-requires (split-calls t) (split-at t) split.Post
+  split-with-on-requires c κs = let s = c .before .before in omega (arith, few t s, within t s .0)
 
-split-returns-2 : (t : ℕ) → split-lts.Need-returns-2 (split-calls t) (split-at t) split.Post
-split-returns-2 t c = split-refused (parted t (c .before .before .before)) _ _ (ap walked (c .before .place .given .1))
+  split-branch-requires : split-lts.Need-branch-requires (split-calls t) (split-at t) split.Post
+  split-branch-requires c κs = let s = split-start c in (omega (arith, within t s .1), ready t s)
 
-split-returns-3 : (t : ℕ) → split-lts.Need-returns-3 (split-calls t) (split-at t) split.Post
-split-returns-3 t c = split-refused (parted t (c .before .before .before)) _ _ (ap walked (c .before .place2 .given .1))
+  split-with-off-requires : split-lts.Need-with-off-requires (split-calls t) (split-at t) split.Post
+  split-with-off-requires c κs = let s = start (first c) in omega (arith, few t s, within t s .0)
+
+  split-branch-requires-2 : split-lts.Need-branch-requires-2 (split-calls t) (split-at t) split.Post
+  split-branch-requires-2 c κs =
+      let p = first (c .before) in
+      let (h, g) = ends-done (p .branch .ensures .1) (c .before .before .next .given .1) in
+      (omega arith, ready t (start p))
+
+  split-returns : split-lts.Need-returns (split-calls t) (split-at t) split.Post
+  split-returns c =
+      let k = c .before .before in
+      split-done (parted (first k)) _ (k .before .next .given .1) _ (c .before .with-off .ensures) _ (c .branch2 .ensures)
+
+  split-returns-2 : split-lts.Need-returns-2 (split-calls t) (split-at t) split.Post
+  split-returns-2 c = let p = c .before in split-refused (parted (p .before .before)) _ _ (ap walked (p .place .given .1))
+
+  split-returns-3 : split-lts.Need-returns-3 (split-calls t) (split-at t) split.Post
+  split-returns-3 c = let p = c .before in split-refused (parted (p .before .before)) _ _ (ap walked (p .place2 .given .1))
 
 pub +branch+split-spec : {M : Type 1} → statement M
 +branch+split-spec = close μ-branch μ-split

@@ -20,31 +20,36 @@ module _ (c : tie.After-branch) where
       ≡ stepsTold (bookIn (s .book .now)) (named (t .atom)) (s .paper .now) (t .atom) (t .count) (t .from)
   came x e = steps-are _ _ _ _ _ _ (c .before .empty .ensures) (c .branch .ensures .0) e
 
+-- the branch was right: where it ends
+abbrev ended : tie.After-struct-known → tie.After-end
+ended c = c .before .before
+
 returns : tie.Need-returns
 returns c =
-    let p = c .before .before .before in told-gap _ _ _ _ _ _ (c .if1 .taken) ∙ came (p .before .before) _ (ap walked (p .end .given .1))
+    let p = ended (c .before) in told-gap _ _ _ _ _ _ (c .if1 .taken) ∙ came (p .before .before) _ (ap walked (p .end .given .1))
 
 returns-2 : tie.Need-returns-2
 unfolding branchTold
-returns-2 c = came (c .before .before .before) _ (ap walked (c .before .at .given .1))
+returns-2 c = let p = c .before in came (p .before .before) _ (ap walked (p .at .given .1))
 
 returns-3 : tie.Need-returns-3
 unfolding branchTold
-returns-3 c = came (c .before .before .before) _ (ap walked (c .before .at2 .given .1))
+returns-3 c = let p = c .before in came (p .before .before) _ (ap walked (p .at2 .given .1))
 
 -- ---- behind the witness, which starts where the branch ends
 
 returns-4 : tie.Need-returns-4
 returns-4 c =
-    let q = c .before .before .before in
-    let p = q .before .before .before .before in
-    told-wrong _ _ _ _ _ _ (q .before .if1 .left) _ (q .check-witness .ensures) _ (c .before .at3 .given .1)
+    let w = c .before in
+    let q = w .before .before in
+    let p = ended (q .before .before) in
+    told-wrong _ _ _ _ _ _ (q .before .if1 .left) _ (q .check-witness .ensures) _ (w .at3 .given .1)
     ∙ came (p .before .before) _ (ap walked (p .end .given .1))
 
 returns-5 : tie.Need-returns-5
 returns-5 c =
     let q = c .before .before in
-    let p = q .before .before .before .before in
+    let p = ended (q .before .before) in
     told-fine _ _ _ _ _ _ (q .before .if1 .left) _ (q .check-witness .ensures) (c .enum-told .given .1)
     ∙ came (p .before .before) _ (ap walked (p .end .given .1))
 

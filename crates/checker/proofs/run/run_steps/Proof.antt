@@ -36,49 +36,55 @@ loop-holds c = record { leads = here; on-long = search needs; off-long = search 
 
 -- ---- 41
 
+abbrev on-found : tie.After-r Inv-loop μ-loop → tie.After-check-step Inv-loop μ-loop
+on-found c = c .before .before
+
 with-on-requires : tie.Need-with-on-requires Inv-loop μ-loop
 with-on-requires c κs =
-    let p = c .before .before .before in
-    omega (arith, few p, found-by (p .check-step .ensures) (c .before .r .given .1) .0)
+    let k = c .before in
+    let p = on-found k in
+    omega (arith, few p, found-by (p .check-step .ensures) (k .r .given .1) .0)
 
 add-i : tie.Need-add-i Inv-loop μ-loop
 add-i c =
-    let p = c .before .before .before .before in
-    let (h, room) = found-by (p .check-step .ensures) (c .before .before .r .given .1) in
+    let k = c .before .before in
+    let (h, room) = found-by (on-found k .check-step .ensures) (k .r .given .1) in
     search needs
 
 loop-less : tie.Need-loop-less Inv-loop μ-loop
-loop-less c =
-    let p = c .before .before .before .before in
-    omega (arith, found-by (p .check-step .ensures) (c .before .before .r .given .1) .1)
+loop-less c = let k = c .before .before in omega (arith, found-by (on-found k .check-step .ensures) (k .r .given .1) .1)
 
 loop-again : tie.Need-loop-again Inv-loop μ-loop
 loop-again c =
-    let p = c .before .before .before .before in
-    rw (c .with-on .ensures) (led-on (turn p .loop .inv) (few p) _ (p .check-step .ensures) _ (c .before .before .r .given .1))
+    let k = c .before .before in
+    let p = on-found k in
+    rw (c .with-on .ensures) (led-on (turn p .loop .inv) (few p) _ (p .check-step .ensures) _ (k .r .given .1))
 
 -- ---- 42
 
+abbrev off-found : tie.After-r2 Inv-loop μ-loop → tie.After-check-step Inv-loop μ-loop
+off-found c = c .before .before
+
 with-off-requires : tie.Need-with-off-requires Inv-loop μ-loop
 with-off-requires c κs =
-    let p = c .before .before .before in
-    omega (arith, few p, found-by (p .check-step .ensures) (c .before .r2 .given .1) .0)
+    let k = c .before in
+    let p = off-found k in
+    omega (arith, few p, found-by (p .check-step .ensures) (k .r2 .given .1) .0)
 
 add-i-2 : tie.Need-add-i-2 Inv-loop μ-loop
 add-i-2 c =
-    let p = c .before .before .before .before in
-    let (h, room) = found-by (p .check-step .ensures) (c .before .before .r2 .given .1) in
+    let k = c .before .before in
+    let (h, room) = found-by (off-found k .check-step .ensures) (k .r2 .given .1) in
     search needs
 
 loop-less-2 : tie.Need-loop-less-2 Inv-loop μ-loop
-loop-less-2 c =
-    let p = c .before .before .before .before in
-    omega (arith, found-by (p .check-step .ensures) (c .before .before .r2 .given .1) .1)
+loop-less-2 c = let k = c .before .before in omega (arith, found-by (off-found k .check-step .ensures) (k .r2 .given .1) .1)
 
 loop-again-2 : tie.Need-loop-again-2 Inv-loop μ-loop
 loop-again-2 c =
-    let p = c .before .before .before .before in
-    rw (c .with-off .ensures) (led-off (turn p .loop .inv) (few p) _ (p .check-step .ensures) _ (c .before .before .r2 .given .1))
+    let k = c .before .before in
+    let p = off-found k in
+    rw (c .with-off .ensures) (led-off (turn p .loop .inv) (few p) _ (p .check-step .ensures) _ (k .r2 .given .1))
 
 -- ---- 55: its list ends before the witness
 
@@ -88,6 +94,9 @@ module _ (c : tie.After-m Inv-loop μ-loop) where
 
   room : turn found .loop .i + 2 + c .m .given .0 .0 ≤ start found .args .trailer .from
   room = found-by (found .check-step .ensures) (c .m .given .1) .0
+
+abbrev listed : tie.After-with-rules-arg Inv-loop μ-loop → tie.After-m Inv-loop μ-loop
+listed c = c .before .before .before
 
 add-first : tie.Need-add-first Inv-loop μ-loop
 add-first c = let h = room (c .before) in search needs
@@ -100,14 +109,14 @@ part-with-rules-end c = let h = room (c .before .before) in search needs
 
 with-rules-requires : tie.Need-with-rules-requires Inv-loop μ-loop
 with-rules-requires c κs =
-    let m = c .before .before .before in list-small (found m .check-step .ensures) (m .m .given .1) (few (found m))
+    let m = listed c in list-small (found m .check-step .ensures) (m .m .given .1) (few (found m))
 
 loop-less-3 : tie.Need-loop-less-3 Inv-loop μ-loop
-loop-less-3 c = omega (arith, room (c .before .before .before .before))
+loop-less-3 c = omega (arith, room (listed (c .before)))
 
 loop-again-3 : tie.Need-loop-again-3 Inv-loop μ-loop
 loop-again-3 c =
-    let m = c .before .before .before .before in
+    let m = listed (c .before) in
     led-list (turn (found m) .loop .inv) (few (found m)) _ (found m .check-step .ensures) _ _ (m .m .given .1) (search needs)
     (c .with-rules .ensures)
 
@@ -115,11 +124,12 @@ loop-again-3 c =
 
 returns : tie.Need-returns Inv-loop μ-loop
 returns c =
-    let p = c .before .before .before in
+    let k = c .before in
+    let p = k .before .before in
     record {
       leads = turn p .loop .inv .leads;
-      stops = step-is (p .check-step .ensures) (c .before .stop .given .1);
-      within = found-by (p .check-step .ensures) (c .before .stop .given .1);
+      stops = step-is (p .check-step .ensures) (k .stop .given .1);
+      within = found-by (p .check-step .ensures) (k .stop .given .1);
     }
 
 pub run-steps-spec : {M : Type 1} → statement M

@@ -14,9 +14,12 @@ use Rattle.checker.proofs.StepChecked.{Listed, list-late, list-empty, l
 use Rattle.checker.proofs.step.check_list_step.Statement.{statement}
 use Rattle.checker.proofs.step.check_list_step.Tie as tie
 
--- the length of the list is read, behind the start
+-- where the room for the step is measured, behind the start; where the length of the list is read
+abbrev begun : tie.After-struct-known → tie.Start
+begun c = c .before .before .before
+
 abbrev start : tie.After-wide → tie.Start
-start c = c .before .before .before .before .before .before
+start c = begun (c .before .before .before)
 
 -- the list is read and tested
 module _ (c : tie.After-is-proper) where
@@ -43,7 +46,7 @@ module _ (c : tie.After-is-proper) where
   proper = sym (proper-is _ _ _ (shape-count _ _ (start read .pre .0 .read))) ∙ sym (c .is-proper .ensures)
 
 returns : tie.Need-returns
-returns c = let s = c .before .before .before .before in λ on. list-late _ _ _ _ _ _ (s .pre .1) (s .pre .2) (omega arith)
+returns c = let s = begun (c .before) in λ on. list-late _ _ _ _ _ _ (s .pre .1) (s .pre .2) (omega arith)
 
 returns-2 : tie.Need-returns-2
 returns-2 c =
@@ -52,7 +55,8 @@ returns-2 c =
 
 returns-3 : tie.Need-returns-3
 returns-3 c =
-    let p = c .before .before .before in
+    let q = c .before in
+    let p = q .before .before in
     λ on. list-long _ _ _ _ _ _ (start p .pre .1) (start p .pre .2) (omega arith) _ (p .wide .ensures .0) (omega arith) (omega arith)
 
 returns-4 : tie.Need-returns-4
@@ -63,16 +67,22 @@ is-unfounded-requires c κs =
     let p = c .before .before in
     (start (read p) .pre .0 .read, proper-below _ _ (sym (p .is-proper .ensures) ∙ not-false _ (c .before .if4 .left)))
 
+-- the condition was asked of a proper list
+abbrev tested : tie.After-is-unfounded → tie.Else4
+tested c = c .before .before
+
 returns-5 : tie.Need-returns-5
 returns-5 c =
-    let p = c .before .before .before .before in
-    let e = proper p ∙ not-false _ (c .before .before .before .if4 .left) in
+    let q = tested (c .before) in
+    let p = q .before in
+    let e = proper p ∙ not-false _ (q .if4 .left) in
     λ on. list-fails _ _ _ _ _ _ _ _ (listed p) e _ (c .before .is-unfounded .ensures) (not-true _ (c .if5 .taken))
 
 returns-6 : tie.Need-returns-6
 returns-6 c =
-    let p = c .before .before .before .before in
-    let e = proper p ∙ not-false _ (c .before .before .before .if4 .left) in
+    let q = tested (c .before) in
+    let p = q .before in
+    let e = proper p ∙ not-false _ (q .if4 .left) in
     λ on. list-holds _ _ _ _ _ _ _ _ (listed p) e _ (c .before .is-unfounded .ensures) (not-false _ (c .if5 .left))
 
 pub check-list-step-spec : {M : Type 1} → statement M

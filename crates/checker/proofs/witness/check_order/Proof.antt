@@ -28,13 +28,20 @@ abbrev μ-loop : tie.MeasureT-loop
 loop-holds : tie.Need-loop-holds Inv-loop μ-loop
 loop-holds c = ordered-start _ _ _
 
+-- where the turn's number is read: the turn of the loop; and before the loop the start
+abbrev begun : tie.After-struct-known Inv-loop μ-loop → tie.At-loop Inv-loop μ-loop
+begun c = c .before .before .before
+
+abbrev entry : tie.At-loop Inv-loop μ-loop → tie.Start Inv-loop μ-loop
+entry l = l .before .before .before
+
 -- the turn's number is one of the book: the turn of the loop, the start, and that its positive atoms have places in the table
 module _ (c : tie.After-wide Inv-loop μ-loop) where
   abbrev turn : tie.At-loop Inv-loop μ-loop
-  turn = c .before .before .before .before .before
+  turn = begun (c .before .before)
 
   abbrev start : tie.Start Inv-loop μ-loop
-  start = turn .before .before .before
+  start = entry turn
 
   abbrev ruleAt : Rule
   ruleAt = rule (bookIn (start .args .book .now)) (ruleNo (getD (start .args .list .now) (turn .loop .i) 0))
@@ -42,10 +49,13 @@ module _ (c : tie.After-wide Inv-loop μ-loop) where
   small : (a : AtomNo) → List·Memᴰ a (ruleAt .pos) → a .0 < 255
   small = pos-small _ _ (start .pre .0) (omega arith) _ (omega arith)
 
--- its positive atoms are looked up
+-- its positive atoms are looked up, as it wasn't listed before
 module _ (c : tie.After-every-in Inv-loop μ-loop) where
+  abbrev unlisted : tie.Else2 Inv-loop μ-loop
+  unlisted = c .before .before .before
+
   abbrev known : tie.After-wide Inv-loop μ-loop
-  known = c .before .before .before .before
+  known = unlisted .before
 
   looked-up : every (atomsIn (turn known .loop .headed)) (ruleAt known .pos) ≡ c .every-in .result
   looked-up = sym (every-part _ _ _ (c .before .before .positives .ensures)) ∙ sym (c .every-in .ensures)
@@ -60,15 +70,16 @@ module _ (c : tie.After-head Inv-loop μ-loop) where
 
 returns : tie.Need-returns Inv-loop μ-loop
 returns c =
-    let t = c .before .before .before .before in
-    sym (stops-number (t .loop .inv) (omega arith) (omega (arith, shape-count _ _ (t .before .before .before .pre .0))))
+    let t = begun (c .before) in
+    sym (stops-number (t .loop .inv) (omega arith) (omega (arith, shape-count _ _ (entry t .pre .0))))
 
 returns-2 : tie.Need-returns-2 Inv-loop μ-loop
 returns-2 c = let p = c .before in sym (stops-again (turn p .loop .inv) (omega arith) _ (p .wide .ensures .0) (c .if2 .taken))
 
 every-in-requires : tie.Need-every-in-requires Inv-loop μ-loop
 every-in-requires c κs =
-    pos-below _ _ (start (c .before .before .before) .pre .0) _ (omega arith) (omega arith) _ (c .before .positives .ensures)
+    let p = c .before in
+    pos-below _ _ (start (p .before .before) .pre .0) _ (omega arith) (omega arith) _ (p .positives .ensures)
 
 returns-3 : tie.Need-returns-3 Inv-loop μ-loop
 returns-3 c =
@@ -86,7 +97,7 @@ loop-again c =
     let p = known q in
     let e = shape-count _ _ (start p .pre .0) in
     ordered-next (turn p .loop .inv) (omega arith) _ (p .wide .ensures .0) (small p) (omega arith) (omega arith)
-    (q .before .before .before .if2 .left) (looked-up q ∙ not-false _ (h .before .before .if3 .left)) _ _ _
+    (unlisted q .if2 .left) (looked-up q ∙ not-false _ (h .before .before .if3 .left)) _ _ _
     (h .before .wide2 .ensures .0) (c .wide3 .ensures .0) (h .head .ensures) (place h)
 
 returns-4 : tie.Need-returns-4 Inv-loop μ-loop

@@ -2,6 +2,7 @@
 use borrow.Author.Needs.{needs}
 use native.Mathlib.Omega.{arith}
 use mathlib.Core.Path.{_≡_, refl, sym, _∙_, ap}
+use mathlib.Core.Bool.{Bool}
 use mathlib.Core.List.{List, []}
 use Prim.Native.Nat.{ℕ, _+_, _-_, _≤_}
 use lib.ListN.{take, drop}
@@ -40,24 +41,31 @@ module _ (c : tie.After-enum-told) where
 
 -- the tables are made
 module _ (c : tie.After-heads-of) where
+  abbrev made : tie.After-with-rules
+  made = c .before .before .before
+
   abbrev right : tie.After-enum-told
-  right = c .before .before .before .before .before
+  right = made .before .before
+
+  -- the last argument of heads_of, as it left it
+  abbrev headed : List Bool
+  headed = c .heads-of .last .1 .1 .1 .0
 
   tabled : let s = start (first right) .args in
       Tabled (s .book .now) (s .shape) (s .paper .now) (s .trailer .from) (s .trailer .count) (list (first right))
-      (c .before .before .before .with-rules .result) (c .heads-of .last .1 .1 .1 .0)
+      (made .with-rules .result) headed
   tabled = record {
     read = start (first right) .pre .0;
     small = omega arith;
     part = refl;
     order = ordered right;
-    rules = c .before .before .before .with-rules .ensures;
+    rules = made .with-rules .ensures;
     table = c .heads-of .ensures;
   }
 
 returns : tie.Need-returns
 returns c =
-    let p = c .before .before .before in finds-order _ _ _ _ _ refl _ (p .check-order .ensures) _ (c .before .at .given .1)
+    let k = c .before in finds-order _ _ _ _ _ refl _ (k .before .before .check-order .ensures) _ (k .at .given .1)
 
 with-rules-requires : tie.Need-with-rules-requires
 with-rules-requires c κs = below (c .before) _ (omega arith)
@@ -66,25 +74,33 @@ check-unblocked-requires : tie.Need-check-unblocked-requires
 check-unblocked-requires c κs =
     let p = right (c .before .before) in (start (first p) .pre .0, below p _ (omega arith), search needs)
 
+-- ---- behind the second pass
+
+abbrev tables : tie.After-check-unblocked → tie.After-heads-of
+tables c = c .before .before .before
+
 returns-2 : tie.Need-returns-2
 returns-2 c =
-    let p = c .before .before .before in
-    finds-blocked (tabled (p .before .before .before)) _ (p .check-unblocked .ensures) _ (c .before .at2 .given .1)
+    let k = c .before in
+    let p = k .before .before in
+    finds-blocked (tabled (tables p)) _ (p .check-unblocked .ensures) _ (k .at2 .given .1)
 
--- ---- behind the second pass, which finds nothing
+-- where it finds nothing, from behind the third
+abbrev unblocked : tie.After-rest-fails → tie.After-enum-told2
+unblocked c = c .before .before .before
 
 returns-3 : tie.Need-returns-3
 returns-3 c =
-    let q = c .before .before .before .before in
+    let q = unblocked (c .before) in
     let p = q .before .before in
-    finds-rest (tabled (p .before .before .before)) _ (p .check-unblocked .ensures) (q .enum-told2 .given .1) _
+    finds-rest (tabled (tables p)) _ (p .check-unblocked .ensures) (q .enum-told2 .given .1) _
     (c .before .rest-fails .ensures) (not-true _ (c .if1 .taken))
 
 returns-4 : tie.Need-returns-4
 returns-4 c =
-    let q = c .before .before .before .before in
+    let q = unblocked (c .before) in
     let p = q .before .before in
-    finds-right (tabled (p .before .before .before)) _ (p .check-unblocked .ensures) (q .enum-told2 .given .1) _
+    finds-right (tabled (tables p)) _ (p .check-unblocked .ensures) (q .enum-told2 .given .1) _
     (c .before .rest-fails .ensures) (not-false _ (c .if1 .left))
 
 pub check-witness-spec : {M : Type 1} → statement M

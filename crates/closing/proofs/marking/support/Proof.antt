@@ -22,18 +22,25 @@ Inv-loop book shape off marks₀ missing₀ supported₀ marks missing supported
 abbrev μ-loop : tie.MeasureT-loop
 μ-loop book shape off marks₀ missing₀ supported₀ marks missing supported = room (bookIn book) marks
 
+-- where a sweep begins: the turn of the loop, and the start
+abbrev turn : tie.After-supported Inv-loop μ-loop → tie.At-loop Inv-loop μ-loop
+turn c = c .before .before .before
+
+abbrev start : tie.At-loop Inv-loop μ-loop → tie.Start Inv-loop μ-loop
+start l = l .before .before .before .before .before
+
 loop-holds : tie.Need-loop-holds Inv-loop μ-loop
 loop-holds c = (grown-start _, c .all-missing .ensures)
 
 sweep-requires : tie.Need-sweep-requires Inv-loop μ-loop
 sweep-requires c κs =
-    let k = c .before .before .before in
+    let k = turn c in
     (search needs, k .loop .inv .0 .long ∙ length-replicate 255 false, k .loop .inv .1)
 
 returns : tie.Need-returns Inv-loop μ-loop
 returns c =
-    let k = c .before .before .before .before .before in
-    let s = k .before .before .before .before .before in
+    let k = turn (c .before .before) in
+    let s = start k in
     let g : Good (s .args .book .now) (s .args .shape) = search needs in
     marks-support _ _ (good-few g) (k .loop .inv .0)
     (rw (not-true (c .before .sweep .result) (c .if1 .taken)) at (c .before .sweep .ensures .0))
@@ -43,7 +50,7 @@ loop-less c = pass-less (rw (not-false (c .before .sweep .result) (c .if1 .left)
 
 loop-again : tie.Need-loop-again Inv-loop μ-loop
 loop-again c =
-    let k = c .before .before .before .before .before in
+    let k = turn (c .before .before) in
     (grown-more (k .loop .inv .0) (c .before .sweep .ensures .0 .grown), c .before .sweep .ensures .1)
 
 pub support-spec : {M : Type 1} → statement M

@@ -1,33 +1,64 @@
 -- Each way out leaves the turn that the condition says, and counters and a table that go with the marks.
 use native.Mathlib.Omega.{arith}
 use borrow.Author.Needs.{needs}
+use Rattle.meaning.specs.Books.{InBook}
+use Rattle.book.specs.Format.{bookIn}
 use Rattle.closing.proofs.Good.{Good, good-in, head-low, pos-low}
 use Rattle.closing.proofs.Turns.{turn-in, mark-off, mark-waits, mark-added}
 use Rattle.closing.proofs.Counters.{counted-room, counted-done, counted-waits, counted-lower, counted-mark}
 use Rattle.closing.proofs.marking.try_rule.Statement.{statement}
 use Rattle.closing.proofs.marking.try_rule.Tie as tie
 
+-- ---- the places on the way
+
+-- at the start the book is good, and the rule is in it
+good : (s : tie.Start) → Good (s .args .book .now) (s .args .shape)
+good s = search needs
+
+inside : (s : tie.Start) → InBook (bookIn (s .args .book .now)) (s .args .r)
+inside s = good-in (good s) (s .args .r) (s .pre .1)
+
+-- where its mark is asked; where it is asked whether it is off
+abbrev marked : tie.After-if12 → tie.Start
+marked c = c .before .before .before
+
+abbrev unmarked : tie.After-if22 → tie.Start
+unmarked c = marked (c .before .before)
+
+-- behind its positive atoms
+abbrev start : tie.After-positives → tie.Start
+start c = unmarked (c .before .before)
+
+-- behind what is still missing
+abbrev body : tie.After-still-missing → tie.After-positives
+body c = c .before .before .before
+
+-- behind its head
+abbrev counted : tie.After-struct-known2 → tie.After-still-missing
+counted c = c .before .before .before
+
+-- ---- the needs
+
 returns : tie.Need-returns
-returns c = (turn-in _ _ _ _ (c .if1 .taken), c .before .before .before .before .pre .3)
+returns c = (turn-in _ _ _ _ (c .if1 .taken), marked (c .before) .pre .3)
 
 returns-2 : tie.Need-returns-2
-returns-2 c = (mark-off _ _ _ _ _ (c .if2 .taken), c .before .before .before .before .before .before .pre .3)
+returns-2 c = (mark-off _ _ _ _ _ (c .if2 .taken), unmarked (c .before) .pre .3)
 
 still-missing-requires : tie.Need-still-missing-requires
 still-missing-requires c κs =
-    let k = c .before .before .before .before .before .before .before .before .before in
-    let g : Good (k .args .book .now) (k .args .shape) = search needs in
-    let i = good-in g (k .args .r) (k .pre .1) in
-    let z = c .before .before .positives .ensures in
-    (counted-room _ (k .pre .3) (k .args .r) i _ z, pos-low g (k .args .r) i _ z)
+    let p = c .before .before in
+    let k = start p in
+    let z = p .positives .ensures in
+    (counted-room _ (k .pre .3) (k .args .r) (inside k) _ z, pos-low (good k) (k .args .r) (inside k) _ z)
 
 returns-3 : tie.Need-returns-3
 returns-3 c =
-    let k = c .before .before .before .before .before .before .before .before .before .before .before in
-    let g : Good (k .args .book .now) (k .args .shape) = search needs in
-    let i = good-in g (k .args .r) (k .pre .1) in
-    let z = c .before .before .before .before .positives .ensures in
-    let w = pos-low g (k .args .r) i _ z in
+    let p = body (c .before) in
+    let k = start p in
+    let i = inside k in
+    let z = p .positives .ensures in
+    let w = pos-low (good k) (k .args .r) i _ z in
     let m = c .before .still-missing .ensures in (
       mark-waits _ _ _ _ _ (counted-waits _ (k .pre .3) (k .args .r) i z w m (c .if3 .taken)),
       counted-lower _ (k .pre .3) (k .args .r) i z w m (omega arith),
@@ -35,25 +66,22 @@ returns-3 c =
 
 element-write-supported : tie.Need-element-write-supported
 element-write-supported c =
-    let k = c .before .before .before .before .before .before .before .before .before .before .before .before .before in
-    let g : Good (k .args .book .now) (k .args .shape) = search needs in
-    let i = good-in g (k .args .r) (k .pre .1) in
-    head-low g (k .args .r) i _ (c .before .head .ensures)
+    let k = start (body (counted c)) in head-low (good k) (k .args .r) (inside k) _ (c .before .head .ensures)
 
 returns-4 : tie.Need-returns-4
 returns-4 c =
-    let k = c .before .before .before .before .before .before .before .before .before .before .before .before .before in
-    let g : Good (k .args .book .now) (k .args .shape) = search needs in
-    let i = good-in g (k .args .r) (k .pre .1) in
-    let z = c .before .before .before .before .before .before .positives .ensures in
-    let w = pos-low g (k .args .r) i _ z in
-    let m = c .before .before .before .still-missing .ensures in
+    let p = body (counted c) in
+    let k = start p in
+    let i = inside k in
+    let z = p .positives .ensures in
+    let w = pos-low (good k) (k .args .r) i _ z in
+    let m = counted c .still-missing .ensures in
     let d = counted-done _ (k .pre .3) (k .args .r) i z w m (c .before .before .if3 .left) in
     let o = counted-lower _ (k .pre .3) (k .args .r) i z w m (omega arith) in
     let h = c .before .head .ensures in
-    let f = c .before .before .before .before .before .before .before in (
+    let f = p .before in (
       mark-added _ _ _ _ _ (f .before .before .if1 .left) (f .if2 .left) d,
-      counted-mark _ _ o (k .args .r) i (omega arith) _ h (head-low g (k .args .r) i _ h),
+      counted-mark _ _ o (k .args .r) i (omega arith) _ h (head-low (good k) (k .args .r) i _ h),
     )
 
 pub try-rule-spec : {M : Type 1} → statement M

@@ -3,39 +3,62 @@ use mathlib.Core.Path.{sym, _∙_}
 use native.Mathlib.Omega.{arith}
 use borrow.Author.Tests.{not-true, not-false}
 use borrow.Author.Needs.{needs}
+use Rattle.meaning.specs.Books.{InBook}
+use Rattle.book.specs.Format.{bookIn}
 use Rattle.closing.proofs.Good.{Good, good-in, good-asks, head-low}
 use Rattle.closing.proofs.Headed.{headed-set}
 use Rattle.closing.proofs.Turns.{turn-in, on-asked, on-stays, on-added}
 use Rattle.closing.proofs.passes.try_on.Statement.{statement}
 use Rattle.closing.proofs.passes.try_on.Tie as tie
 
+-- ---- the places on the way
+
+-- at the start the book is good, and the rule is in it
+good : (s : tie.Start) → Good (s .args .book .now) (s .args .shape)
+good s = search needs
+
+inside : (s : tie.Start) → InBook (bookIn (s .args .book .now)) (s .args .r)
+inside s = good-in (good s) (s .args .r) (s .pre .1)
+
+-- where it is asked whether the rule is on
+abbrev entered : tie.After-if12 → tie.Start
+entered c = c .before .before .before
+
+-- behind the condition, which was asked of a rule that isn't on
+abbrev other : tie.After-goes-on → tie.Else1
+other c = c .before .before
+
+abbrev start : tie.After-goes-on → tie.Start
+start c = entered (other c .before)
+
+-- behind the rule's head
+abbrev asked : tie.After-struct-known2 → tie.After-goes-on
+asked c = c .before .before .before
+
+-- ---- the needs
+
 returns : tie.Need-returns
-returns c = (turn-in _ _ _ _ (c .if1 .taken), c .before .before .before .before .pre .3)
+returns c = (turn-in _ _ _ _ (c .if1 .taken), entered (c .before) .pre .3)
 
 returns-2 : tie.Need-returns-2
 returns-2 c =
-    let k = c .before .before .before .before .before .before .before in
-    let g : Good (k .args .book .now) (k .args .shape) = search needs in
-    let i = good-in g (k .args .r) (k .pre .1) in
-    let e = on-asked _ (good-asks g) _ (k .args .r) i _ (k .pre .3) _ (c .before .goes-on .ensures) in
+    let k = start (c .before) in
+    let e = on-asked _ (good-asks (good k)) _ (k .args .r) (inside k) _ (k .pre .3) _ (c .before .goes-on .ensures) in
     (on-stays _ _ _ _ _ (sym e ∙ not-true _ (c .if2 .taken)), k .pre .3)
 
 element-write-headed : tie.Need-element-write-headed
 element-write-headed c =
-    let k = c .before .before .before .before .before .before .before .before .before in
-    let g : Good (k .args .book .now) (k .args .shape) = search needs in
-    let i = good-in g (k .args .r) (k .pre .1) in
-    head-low g (k .args .r) i _ (c .before .head .ensures)
+    let k = start (asked c) in head-low (good k) (k .args .r) (inside k) _ (c .before .head .ensures)
 
 returns-3 : tie.Need-returns-3
 returns-3 c =
-    let k = c .before .before .before .before .before .before .before .before .before in
-    let g : Good (k .args .book .now) (k .args .shape) = search needs in
-    let i = good-in g (k .args .r) (k .pre .1) in
-    let e = on-asked _ (good-asks g) _ (k .args .r) i _ (k .pre .3) _ (c .before .before .before .goes-on .ensures) in
+    let p = asked c in
+    let k = start p in
+    let i = inside k in
+    let e = on-asked _ (good-asks (good k)) _ (k .args .r) i _ (k .pre .3) _ (p .goes-on .ensures) in
     let h = c .before .head .ensures in (
-      on-added _ _ _ _ _ (c .before .before .before .before .before .if1 .left) (sym e ∙ not-false _ (c .before .before .if2 .left)),
-      headed-set _ _ (k .pre .3) (k .args .r) i (omega arith) _ h (head-low g (k .args .r) i _ h),
+      on-added _ _ _ _ _ (other p .if1 .left) (sym e ∙ not-false _ (c .before .before .if2 .left)),
+      headed-set _ _ (k .pre .3) (k .args .r) i (omega arith) _ h (head-low (good k) (k .args .r) i _ h),
     )
 
 pub try-on-spec : {M : Type 1} → statement M

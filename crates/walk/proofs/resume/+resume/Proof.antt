@@ -27,7 +27,7 @@ use Rattle.walk.proofs.resume.+resume.{statement}
 use Rattle.walk.proofs.resume.+resume.Tie.{close}
 
 abbrev μ-resume : Measures 3 kinds.ps ℕ
-μ-resume κs a = left (bookIn (a .0 .now)) (a .1 .1 .0)
+μ-resume κs a = let (book, (shape, (c, more))) = a in left (bookIn (book .now)) c
 
 module _ (t : ℕ) where
   -- this call's measure is t, that of the calls below is less

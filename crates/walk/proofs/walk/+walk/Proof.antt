@@ -27,7 +27,7 @@ use Rattle.walk.proofs.walk.+walk.{statement}
 use Rattle.walk.proofs.walk.+walk.Tie.{close}
 
 abbrev μ-walk : Measures 2 kinds.ps ℕ
-μ-walk κs a = left (bookIn (a .0 .now)) (a .1 .1 .0)
+μ-walk κs a = let (book, (shape, (c, more))) = a in left (bookIn (book .now)) c
 
 module _ (t : ℕ) where
   -- this call's measure is t, that of the calls below is less
