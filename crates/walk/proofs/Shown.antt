@@ -1,25 +1,29 @@
 -- What a listing shows (specs/Listing), whoever lists: by induction over its pages. Each page goes on where the page before ended
 -- (proofs/Listing), so the rows shown are the readings of the one walk, each once and in order, up to where the listing stands.
-use mathlib.Core.Path.{_≡_, refl, sym, _∙_, ap, fun-ext}
+use mathlib.Core.Path.{_≡_, refl, sym, _∙_, ap, subst, fun-ext}
+use mathlib.Core.Logic.{_⊎_, inl, inr}
 use mathlib.Core.List.{List, [], _∷_, _++_, map, append-nil, append-assoc}
 use Prim.Native.Nat.{ℕ, _≤_, _<_}
 use native.Mathlib.Omega.{arith}
 use lib.Dec.{eqb}
 use lib.ListN.{length, take, length-append}
 use lib.Seq.{take-at, drop-at, take-all, take-append-seam}
-use Rattle.meaning.specs.Books.{Atoms, Book, count}
+use Rattle.meaning.specs.Books.{Atoms, Rule, Book, count}
 use Rattle.meaning.specs.Written.{nothing}
 use Rattle.meaning.proofs.LeastModel.{Proper}
+use Rattle.book.specs.Format.{good, readOf, bookOf, bookIn}
+use Rattle.book.specs.Rows.{Bytes}
 use Rattle.walk.specs.Events.{Event, events}
 use Rattle.walk.specs.Readings.{readingsIn, readings}
 use Rattle.walk.specs.Run.{rowOf}
-use Rattle.walk.specs.Page.{setIn, eventsFrom, pageIn}
+use Rattle.walk.specs.Page.{whole, last, stopped, Paged, setIn, eventsFrom, pageIn, pageRead, pageOf}
 use Rattle.walk.specs.Listing.{rowsIn, SameRow, Ending, so-far, at-end, at-limit, rowsUpTo, Shows}
 use Rattle.walk.specs.Listing.{Listing, no-call, last-page, cut-page, full-page}
 use Rattle.walk.proofs.Rows.{rowsOf, row-length}
 use Rattle.walk.proofs.Readings.{readings-append}
 use Rattle.walk.proofs.Needs.{amount}
-use Rattle.walk.proofs.Paging.{filled}
+use Rattle.walk.proofs.Demand.{read-fits}
+use Rattle.walk.proofs.Paging.{filled, Outcome, all-rows, full-page as full, limit-met, no-room, page-outcome}
 use Rattle.walk.proofs.Listing.{Listed, listed-start, Joined, Cut, pages-join, pages-end, pages-stop}
 
 -- ---- rows
@@ -30,8 +34,11 @@ unfolding rowsIn rowsOf
 rows-in-front b [] bytes = refl
 rows-in-front b (x ∷ l) bytes =
     let row = rowOf b x in
-    rw (append-assoc row (rowsOf b l) bytes, take-at row (rowsOf b l ++ bytes) _ (row-length b x),
-    drop-at row (rowsOf b l ++ bytes) _ (row-length b x))
+    rw (
+      append-assoc row (rowsOf b l) bytes,
+      take-at row (rowsOf b l ++ bytes) _ (row-length b x),
+      drop-at row (rowsOf b l ++ bytes) _ (row-length b x),
+    )
     (ap (λ (rows : List (List ℕ)). row ∷ rows) (rows-in-front b l bytes))
 
 -- a page that holds the readings of some events
@@ -130,3 +137,33 @@ module _ (b : Book) (fits : count b ≤ 255) (proper : Proper b) (limit : ℕ) w
   pub listing-shows : (row : List ℕ) {shown : List (List ℕ)} {ending : Ending} → Listing (pageIn b limit) b 0 row shown ending
       → Shows b limit shown ending
   listing-shows row l = let f = further l (omega arith) (listed-start b row) in shows (f .more) (f .later) (f .walk) (f .rows) (f .stands)
+
+-- a call with room for a row always goes on, by one try at least, or ends, or is cut: at most as many pages are full as the limit has tries
+pub page-goes : (b : Book) → count b ≤ 255 → (limit n : ℕ) (row out : List ℕ) → n ≤ limit → b .atoms ≤ length out
+    → ((t : ℕ) × (pageIn b limit n row out .told ≡ whole t) × (n < t) × (t ≤ limit))
+    ⊎ (((t : ℕ) × (m : ℕ) × (pageIn b limit n row out .told ≡ last t m)) ⊎ ((m : ℕ) × (pageIn b limit n row out .told ≡ stopped m)))
+page-goes b fits limit n row out h room = goes (page-outcome b limit n row out fits h)
+  where
+    goes : {todo : List Event} {A : Paged} → Outcome b limit n row out todo A
+        → ((t : ℕ) × (A .told ≡ whole t) × (n < t) × (t ≤ limit))
+        ⊎ (((t : ℕ) × (m : ℕ) × (A .told ≡ last t m)) ⊎ ((m : ℕ) × (A .told ≡ stopped m)))
+    goes (all-rows k l) = inr (inl (_, _, refl))
+    goes (full more d later q k l) = inl (_, refl, omega arith, omega arith)
+    goes (limit-met more e later q k l) = inr (inr (_, refl))
+    goes (no-room k) = absurd (omega arith)
+
+-- ---- of the bytes of a book
+
+module _ (s : List ℕ) (n r index : ℕ) (l : List Rule) (e : readOf s ≡ good n r index l) (limit : ℕ) where
+  page-good-book : (k : ℕ) (row out : List ℕ) → pageOf s limit k row out ≡ pageIn (bookIn s) limit k row out
+  unfolding pageOf pageRead bookIn bookOf
+  page-good-book k row out = rw e
+
+  -- the same of any good bytes, whatever row the first call hands over
+  pub book-shows : Bytes s → (row : List ℕ) {shown : List (List ℕ)} {ending : Ending}
+      → Listing (pageOf s limit) (bookIn s) 0 row shown ending → Shows (bookIn s) limit shown ending
+  book-shows bytes row {shown = shown} {ending = ending} p =
+      let (fits, proper) = read-fits s n r index l bytes e in
+      listing-shows (bookIn s) fits proper limit row
+      (subst (λ (page : ℕ → List ℕ → List ℕ → Paged). Listing page (bookIn s) 0 row shown ending)
+      (fun-ext (λ k. fun-ext (λ before. fun-ext (λ out. page-good-book k before out)))) p)
