@@ -14,6 +14,7 @@ pub mod Kept
 pub mod Rest
 pub mod Paging
 pub mod Listing
+pub mod Shown
 pub mod Told
 pub mod Cases
 pub mod Searches

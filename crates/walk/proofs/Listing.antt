@@ -2,9 +2,9 @@
 -- are the readings of one walk, each once, and the tries at the end are those of one walk.
 use mathlib.Core.Path.{_≡_, refl, sym, _∙_, ap, subst}
 use mathlib.Core.List.{List, [], _∷_, _++_, append-assoc}
-use Prim.Native.Nat.{ℕ, zero, suc, _+_, _*_, _-_, _≤_, _<_}
+use Prim.Native.Nat.{ℕ, zero, suc, _+_, _-_, _≤_, _<_}
 use native.Mathlib.Omega.{arith}
-use lib.ListN.{length, take, drop, length-append}
+use lib.ListN.{length, length-append}
 use lib.Seq.{append-snoc}
 use Rattle.meaning.specs.declared.colouring.Colouring.{Colouring}
 use Rattle.meaning.specs.Books.{Atoms, Book, count}
@@ -15,6 +15,7 @@ use Rattle.walk.specs.Events.{Event, reading, events, rest}
 use Rattle.walk.specs.Readings.{readingOf, readingsIn, readings}
 use Rattle.walk.specs.Run.{rowOf}
 use Rattle.walk.specs.Page.{PageEnd, whole, last, cut, setIn, eventsFrom, roomIn, pageIn}
+use Rattle.walk.specs.Listing.{lastRow}
 use Rattle.walk.proofs.Rows.{last-row}
 use Rattle.walk.proofs.Readings.{readings-append}
 use Rattle.walk.proofs.Run.{apart}
@@ -42,10 +43,6 @@ pub later-events : (b : Book) (n : ℕ) (x : Atoms) → 1 ≤ n → eventsFrom b
 unfolding eventsFrom
 later-events b zero x h = absurd (omega arith)
 later-events b (suc n) x h = refl
-
--- the last row of a full page
-abbrev pub lastRow : Book → ℕ → List ℕ → List ℕ
-lastRow b room buffer = take (b .atoms) (drop ((room - 1) * b .atoms) buffer)
 
 full-last-row : (b : Book) (out : List ℕ) (more : List Event) (d : Colouring) (room : ℕ) → amount b more + 1 ≡ room
     → lastRow b room (filled b out (readingsIn b (more ++ (reading d ∷ [])))) ≡ rowOf b (readingOf b d)

@@ -5,5 +5,6 @@ pub mod Tries
 pub mod Run
 pub mod Find
 pub mod Page
+pub mod Listing
 pub mod Picked
 pub mod Room
