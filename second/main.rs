@@ -1,5 +1,6 @@
-// The second program: rule books, readings and papers, written from documents 00 and 01 alone so
-// that a misreading of them in the proved engine shows. README.md in this folder has the commands.
+// The second program: rule books, readings and papers, written from documents 00 and 01 and their
+// settled readings, so that a misreading of them in the proved engine shows. README.md in this folder
+// says from what else, and has the commands.
 
 mod altered;
 mod book;
