@@ -6,9 +6,9 @@ use Rattle.meaning.specs.Lowest.{Pick, none, one}
 use Rattle.meaning.specs.Choice.{ifb, ifEq}
 use Rattle.book.proofs.Told.{refusalAt, refusal-again}
 use Rattle.walk.specs.declared.kth.Found.{Found}
-use Rattle.walk.specs.declared.kth.Found.the-variants.{Set, Fewer, Stopped, Book, NoRoom, NoNumber, NotLeast}
+use Rattle.walk.specs.declared.kth.Found.the-variants.{Set, Fewer, Stopped, Book, NoRoom, NoNumber}
 use Rattle.walk.specs.declared.page_answer.Page.{Page}
-use Rattle.walk.specs.declared.page_answer.Page.the-variants.{Whole, Last, Stopped as Cut, NotLeast as Wrong}
+use Rattle.walk.specs.declared.page_answer.Page.the-variants.{Whole, Last, Stopped as Cut}
 use Rattle.walk.specs.declared.page_answer.Page.the-variants.{Book as BadBook, NoRoom as TooSmall}
 use Rattle.walk.specs.declared.colours.Picked.{Picked}
 use Rattle.walk.specs.declared.colours.Picked.the-variants.{Nothing, Rule}
@@ -26,7 +26,7 @@ foundAt (refusedWith number []) = NoNumber
 foundAt (refusedWith number (limit ∷ [])) = Stopped limit
 foundAt (refusedWith number (tries ∷ (sets ∷ l))) = Fewer tries sets
 foundAt (refusedAt number at) = Book (refusalAt number at)
-foundAt (refused number) = ifEq number 8 NoRoom (ifEq number 10 NotLeast NoNumber)
+foundAt (refused number) = ifEq number 8 NoRoom NoNumber
 
 found-again : (f : Found) → foundAt (told f) ≡ f
 unfolding ifEq ifb
@@ -35,7 +35,6 @@ found-again (Fewer tries sets) = refl
 found-again (Stopped limit) = refl
 found-again (Book f) = ap Book (refusal-again f)
 found-again NoRoom = refl
-found-again NotLeast = refl
 found-again NoNumber = refl
 
 pub found-one : (f g : Found) → told f ≡ told g → f ≡ g
@@ -44,7 +43,7 @@ found-one = one-again told foundAt found-again
 abbrev pageAt : PageTold → Page
 pageAt (whole tries) = Whole tries
 pageAt (last tries rows) = Last tries rows
-pageAt (endsBy number rows) = ifEq number 9 (Cut rows) (Wrong rows)
+pageAt (endsBy number rows) = Cut rows
 pageAt (badAt number at) = BadBook (refusalAt number at)
 pageAt (small number) = TooSmall
 
@@ -53,7 +52,6 @@ unfolding ifEq ifb
 page-again (Whole tries) = refl
 page-again (Last tries rows) = refl
 page-again (Cut rows) = refl
-page-again (Wrong rows) = refl
 page-again (BadBook f) = ap BadBook (refusal-again f)
 page-again TooSmall = refl
 

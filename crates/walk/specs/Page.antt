@@ -19,9 +19,9 @@ use Rattle.book.specs.Format.{BookRead, good, bad, readOf}
 use Rattle.walk.specs.Events.{Event, events, rest}
 use Rattle.walk.specs.Run.{State, run}
 use Rattle.walk.specs.declared.tally.Halt.{Halt}
-use Rattle.walk.specs.declared.tally.Halt.the-variants.{Going, Full, Limit, NotLeast}
+use Rattle.walk.specs.declared.tally.Halt.the-variants.{Going, Full, Limit}
 use Rattle.walk.specs.declared.page_answer.Page.{Page}
-use Rattle.walk.specs.declared.page_answer.Page.the-variants.{Whole, Last, Stopped, NotLeast as Wrong, Book as BadBook, NoRoom}
+use Rattle.walk.specs.declared.page_answer.Page.the-variants.{Whole, Last, Stopped, Book as BadBook, NoRoom}
 
 -- a full page: all tries so far; the last page: all tries, its rows; a page that ends early: the number that finding tells of it, its rows;
 -- a refusal
@@ -36,15 +36,10 @@ pub data Told : Type 0 where
 abbrev pub stopped : ℕ → Told
 stopped rows = endsBy 9 rows
 
--- 10: a reading is no least model
-abbrev pub wrong : ℕ → Told
-wrong rows = endsBy 10 rows
-
 abbrev pub told : Page → Told
 told (Whole tries) = whole tries
 told (Last tries rows) = last tries rows
 told (Stopped rows) = stopped rows
-told (Wrong rows) = wrong rows
 told (BadBook f) = refusedAt (numberOf f) (placeOf f)
 told NoRoom = refused 8
 
@@ -67,7 +62,6 @@ unfoldable pub toldBy : Halt → State → Told
 toldBy Going s = last (s .tally .tries) (s .tally .sets)
 toldBy Full s = whole (s .tally .tries)
 toldBy Limit s = stopped (s .tally .sets)
-toldBy NotLeast s = wrong (s .tally .sets)
 
 abbrev pub pagedBy : State → Paged
 pagedBy s = record { told = toldBy (s .tally .halt) s; buffer = s .out }

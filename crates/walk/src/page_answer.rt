@@ -9,9 +9,6 @@ pub enum Page {
     // Where finding would tell 9: one more try would pass the limit; so many rows stand in
     // the buffer.
     Stopped(u32),
-    // Where finding would tell 10: a reading isn't the least model of its reduct; so many rows
-    // stand in the buffer.
-    NotLeast(u32),
     // 1 to 7: the book is refused.
     Book(Refusal),
     // 8: the buffer has fewer bytes than the book has atoms.

@@ -6,7 +6,7 @@ use Prim.Native.Nat.{ℕ}
 use lib.ListN.{getD, replicate}
 use Rattle.book.specs.declared.refusal.Refusal.the-variants.{Length, Mark, Trailer, Entry, Record, Atom, Order}
 use Rattle.writer.specs.declared.answer.Named.{Named}
-use Rattle.writer.specs.declared.answer.Named.the-variants.{Paper, Fewer, Stopped, Book, NotLeast, NotCertain, NoAtom, TooLong}
+use Rattle.writer.specs.declared.answer.Named.the-variants.{Paper, Fewer, Stopped, Book, NotCertain, NoAtom, TooLong}
 use Rattle.writer.specs.Name.{Told, paper, refusedWith, refusedAt, refused, told}
 
 -- 1 to 7
@@ -14,9 +14,9 @@ abbrev bookRefusals : ℕ → List Named
 bookRefusals at =
     NoAtom ∷ Book Length ∷ Book (Mark at) ∷ Book (Trailer at) ∷ Book (Entry at) ∷ Book (Record at) ∷ Book (Atom at) ∷ Book (Order at) ∷ []
 
--- 10, and 12 to 14; no answer is told as another number
+-- 12 to 14; no answer is told as another number
 abbrev refusals : List Named
-refusals = replicate 10 NoAtom ++ (NotLeast ∷ NoAtom ∷ NotCertain ∷ NoAtom ∷ TooLong ∷ [])
+refusals = replicate 12 NoAtom ++ (NotCertain ∷ NoAtom ∷ TooLong ∷ [])
 
 abbrev namedAt : Told → Named
 namedAt (paper tries length) = Paper tries length
@@ -37,7 +37,6 @@ named-again (Book (Entry at)) = refl
 named-again (Book (Record at)) = refl
 named-again (Book (Atom at)) = refl
 named-again (Book (Order at)) = refl
-named-again NotLeast = refl
 named-again NotCertain = refl
 named-again NoAtom = refl
 named-again TooLong = refl
