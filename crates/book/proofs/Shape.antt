@@ -9,6 +9,7 @@ use native.Mathlib.Omega.{arith}
 use lib.ListN.{length, getD, length-map, length-take}
 use Rattle.meaning.specs.Books.{atomNo, Rule, count}
 use Rattle.meaning.proofs.Choice.{eq-either}
+use Rattle.meaning.proofs.Told.{success-one}
 use Rattle.book.specs.Format.{u16At, fine, recordOf, lengthOf, ruleOf, partFrom, recordsOf, rulesOf}
 use Rattle.book.specs.Format.{BookRead, good, bad, readOf, toldOf, bookOf, bookIn}
 use Rattle.book.specs.Numbers.{shape}
@@ -102,7 +103,8 @@ record-at (more {r = k} g e f) r h =
 -- what is told of a good book leaves out the rules only
 pub told-good : (x : BookRead) (n k index : ℕ) → toldOf x ≡ shape n k index → x ≡ good n k index (bookOf x .rules)
 unfolding toldOf bookOf
-told-good (good m r i l) n k index e = cc
+told-good (good m r i l) n k index e =
+    let h = success-one e in λ j. good (h j .atoms) (h j .rules) (h j .index) l
 told-good (bad i at) n k index e = let z : _≡_ {A = ℕ} 0 1 = cc in absurd (omega arith)
 
 pub good-book : (s : List ℕ) (n k index : ℕ) → toldOf (readOf s) ≡ shape n k index → GoodAs s n k index (bookIn s .rules)

@@ -8,8 +8,9 @@ use native.Mathlib.Omega.{arith}
 use lib.ListN.{length, getD, drop, drop-of-length-le}
 use lib.Seq.{drop-cons}
 use Rattle.meaning.specs.Choice.{ifLt, ifEq}
+use Rattle.meaning.specs.Told.{refusedAt}
 use Rattle.meaning.proofs.Choice.{lt-yes, lt-no, eq-yes}
-use Rattle.book.specs.Numbers.{shape, refused}
+use Rattle.book.specs.Numbers.{shape}
 use Rattle.book.specs.Format.{u16At, Check, fine, wrong, partOf, andThen, positiveBytes, negativeBytes, bytesOf, recordOf, lengthOf}
 use Rattle.book.specs.Format.{partFrom, recordsOf, rulesOf, BookRead, good, bad, ifFine, bodyOf, readOf, toldOf}
 
@@ -65,7 +66,7 @@ module _ (c d x : Check) (e : x ≡ c) where
 
 -- ---- the whole book, at the trailer's rule count k and index start as the reader has them
 
-pub told-bad : (x : BookRead) (i at : ℕ) → x ≡ bad i at → refused i at ≡ toldOf x
+pub told-bad : (x : BookRead) (i at : ℕ) → x ≡ bad i at → refusedAt i at ≡ toldOf x
 unfolding toldOf
 told-bad x i at e = rw e
 
@@ -89,7 +90,7 @@ module _ {s : List ℕ} {k index : ℕ} (f : Framed s k index) (x : Check)
       (lt-no _ _ _ _ (f .least) ∙ lt-no _ _ _ _ (f .most) ∙ eq-yes _ _ _ _ (f .first) ∙ eq-yes _ _ _ _ (f .second)
       ∙ eq-yes _ _ _ _ (rw (← f .count, ← f .start) (f .fills)))
 
-  pub read-wrong : (i at : ℕ) → x ≡ wrong i at → refused i at ≡ toldOf (readOf s)
+  pub read-wrong : (i at : ℕ) → x ≡ wrong i at → refusedAt i at ≡ toldOf (readOf s)
   unfolding ifFine
   read-wrong i at q = told-bad _ i at (found ∙ rw q)
 

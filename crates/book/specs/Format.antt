@@ -14,7 +14,8 @@ use Prim.Native.Nat.{ℕ, zero, suc, _+_, _*_, _-_}
 use lib.ListN.{length, getD, take, drop}
 use Rattle.meaning.specs.Books.{atomNo, Rule, Book}
 use Rattle.meaning.specs.Choice.{ifLt, ifEq}
-use Rattle.book.specs.Numbers.{Told, shape, refused}
+use Rattle.meaning.specs.Told.{Told, success, refusedAt}
+use Rattle.book.specs.Numbers.{shape}
 use Rattle.book.specs.declared.reader.Shape.{Shape}
 
 unfoldable pub u16At : List ℕ → ℕ → ℕ
@@ -106,9 +107,9 @@ readOf s =
     (bad 2 (length s - 2)))
     (bad 2 (length s - 2))))
 
-unfoldable pub toldOf : BookRead → Told
+unfoldable pub toldOf : BookRead → Told Shape
 toldOf (good n k index l) = shape n k index
-toldOf (bad i at) = refused i at
+toldOf (bad i at) = refusedAt i at
 
 unfoldable pub bookOf : BookRead → Book
 bookOf (good n k index l) = record { atoms = n; rules = l }
@@ -119,4 +120,4 @@ bookIn s = bookOf (readOf s)
 
 -- the bytes were read as a good book of this shape: what a reader of rules asks of its caller
 abbrev pub ReadAs : List ℕ → Shape → Type 0
-ReadAs s h = toldOf (readOf s) ≡ shape (h .atoms) (h .rules) (h .index)
+ReadAs s h = toldOf (readOf s) ≡ success h

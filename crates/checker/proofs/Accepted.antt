@@ -1,16 +1,16 @@
 -- A paper is accepted exactly if it keeps the printed rules and has at most 60,000 bytes; and what is accepted is certain, whoever wrote
 -- it. The accepted paper is cut at the trailer's places into steps, witness and trailer; a paper that keeps the rules is read back piece
 -- by piece. Document 00, demand 3; blueprint, K4 and K5.
-use mathlib.Core.Path.{_≡_, refl, sym, _∙_, ap}
+use mathlib.Core.Path.{_≡_, refl, sym, _∙_, ap, subst}
 use mathlib.Core.Logic.{_↔_}
 use mathlib.Core.List.{List, [], _∷_, _++_, map}
-use Prim.Native.Nat.{ℕ, suc, _+_, _-_, _≤_, _%_, _/_}
+use Prim.Native.Nat.{ℕ, suc, _+_, _-_, _≤_, _<_, _%_, _/_}
 use native.Mathlib.Nat.{sub-zero, zero-add}
 use native.Mathlib.Omega.{arith}
 use lib.ListN.{length, getD, take, drop, length-append, length-map, length-take, length-drop}
 use lib.Seq.{take-length, take-at}
 use Rattle.meaning.specs.declared.AtomNo.{AtomNo}
-use Rattle.meaning.specs.Books.{atomNo, ruleNo, Book}
+use Rattle.meaning.specs.Books.{ruleNo, Book}
 use Rattle.meaning.specs.AnswerSet.{Certain}
 use Rattle.meaning.specs.Colours.{start}
 use Rattle.meaning.specs.Claim.{named, claimed, mark}
@@ -37,10 +37,10 @@ record Accepted (b : Book) (s : List ℕ) : Type 0 where
   witness : Witness b (map ruleNo (witnessBytes s))
 
 module _ (b : Book) (s : List ℕ) where
-  accepted-pieces : {a : ℕ} → paperOf b s ≡ certain a → (atomOf s ≡ a) × Accepted b s
+  accepted-pieces : {a : AtomNo} → paperOf b s ≡ certain a → (atomOf s ≡ a) × Accepted b s
   accepted-pieces e = pieces (row-of b s e)
     where
-      pieces : {a : ℕ} → PaperRow b s (certain a) → (atomOf s ≡ a) × Accepted b s
+      pieces : {a : AtomNo} → PaperRow b s (certain a) → (atomOf s ≡ a) × Accepted b s
       pieces (nowhere f p w) = (
         refl,
         record {
@@ -110,7 +110,7 @@ module _ (b : Book) (s : List ℕ) where
         grounds = q .witness;
       }
 
-  pub accepted-keeps : Bytes s → {a : ℕ} → paperOf b s ≡ certain a → Keeps b (named (atomNo a)) s × (length s ≤ 60000)
+  pub accepted-keeps : Bytes s → {a : AtomNo} → paperOf b s ≡ certain a → Keeps b (named a) s × (length s ≤ 60000)
   accepted-keeps bytes e = let (p, q) = accepted-pieces e in (rw p at (keeps-pieces bytes q), q .framed .size .at-most)
 
   -- ---- a paper that keeps the printed rules
@@ -126,7 +126,7 @@ module _ (b : Book) (s : List ℕ) where
     record Reads : Type 0 where
       size : from + w + 6 ≡ length s
       after-steps : drop from s ≡ numbers (g .witness) ++ trailer (named a) w from
-      atom : atomOf s ≡ a .0
+      atom : atomOf s ≡ a
       count : countOf s ≡ w
       begins : startOf s ≡ from
       first : getD s (length s - 2) 0 ≡ 0x50
@@ -153,18 +153,18 @@ module _ (b : Book) (s : List ℕ) where
         record {
           size = size;
           after-steps = d₀;
-          atom = rw p₀ x₀;
+          atom = let e : getD s (length s - 6) 0 ≡ a .0 = rw p₀ x₀ in λ i. record { 0 = e i };
           count = rw p₁ x₁;
           begins = rw (p₂, x₂, x₃) (omega arith);
           first = rw p₄ x₄;
           second = rw p₅ x₅;
         }
 
-    pub keeps-accepted : length s ≤ 60000 → paperOf b s ≡ certain (a .0)
+    pub keeps-accepted : length s ≤ 60000 → paperOf b s ≡ certain a
     unfolding claimed
     keeps-accepted h =
         let r = reads in
-        let k : claimOf s ≡ named a = let p = r .atom in λ i. named (record { 0 = p i }) in
+        let k : claimOf s ≡ named a = ap named (r .atom) in
         let z : 0 + from ≡ from = omega arith in
         let n : length (numbers (g .witness)) ≡ w = length-map (g .witness) (λ r. r .0) in
         let l : take w (drop from s) ≡ numbers (g .witness) = rw (r .after-steps) (take-at (numbers (g .witness)) _ w n) in
@@ -172,20 +172,20 @@ module _ (b : Book) (s : List ℕ) where
           size = record { at-least = omega (arith, r .size); at-most = h };
           mark = record { first = r .first; second = r .second };
           trailer = rw (r .begins, r .count) (r .size);
-          atom = rw (r .atom) (g .atom-in-book);
+          atom = subst (λ (c : AtomNo). c .0 < b .atoms) (sym (r .atom)) (g .atom-in-book);
         } in
         let walked : branchOf (suc from) b (named a) s from 0 start ≡ done from =
         branch-done b (named a) s from (g .branch) 0 _ (g .bytes) (omega arith) (suc from) (omega arith) ∙ ap done z in
         let grounds : witnessVerdict b s from w ≡ fine = witness-fine b s from w (rw (l, rules-back (g .witness)) (g .grounds)) in
         row-told b s (nowhere f (rw (r .begins, k) walked) (rw (r .begins, r .count) grounds)) ∙ ap certain (r .atom)
 
-  pub check-keeps : Bytes s → (a : ℕ) → (paperOf b s ≡ certain a) ↔ (Keeps b (named (atomNo a)) s × (length s ≤ 60000))
-  check-keeps bytes a = (accepted-keeps bytes, λ (g, h). keeps-accepted (atomNo a) g h)
+  pub check-keeps : Bytes s → (a : AtomNo) → (paperOf b s ≡ certain a) ↔ (Keeps b (named a) s × (length s ≤ 60000))
+  check-keeps bytes a = (accepted-keeps bytes, λ (g, h). keeps-accepted a g h)
 
   -- ---- what is accepted is certain
 
   -- the pieces keep the printed rules, written with the bytes that the trailer should have
-  pub accepted-certain : {a : ℕ} → paperOf b s ≡ certain a → Certain b (atomNo a)
+  pub accepted-certain : {a : AtomNo} → paperOf b s ≡ certain a → Certain b a
   unfolding claimed
   accepted-certain e =
       let (p, q) = accepted-pieces e in
@@ -197,29 +197,29 @@ module _ (b : Book) (s : List ℕ) where
         branch = q .branch;
         grounds = q .witness;
       } in
-      rw p at (keeps-certain b (atomNo (atomOf s)) kept)
+      rw p at (keeps-certain b (atomOf s) kept)
 
 -- ---- over the bytes of the book
 
 module _ (book paper : List ℕ) where
   -- accepted means that the book has an answer set and the atom is in all of them, whoever wrote the paper
-  pub check-sound : {a : ℕ} → checkOf book paper ≡ certain a → Certain (bookIn book) (atomNo a)
+  pub check-sound : {a : AtomNo} → checkOf book paper ≡ certain a → Certain (bookIn book) a
   check-sound e = by-row (checked-row book paper e)
     where
-      by-row : {a : ℕ} → CheckRow book paper (certain a) → Certain (bookIn book) (atomNo a)
+      by-row : {a : AtomNo} → CheckRow book paper (certain a) → Certain (bookIn book) a
       by-row (at-paper g r) = accepted-certain (bookIn book) paper (row-told (bookIn book) paper r)
 
   -- a paper that keeps the printed rules of a good book is accepted, and tells the claimed atom
   pub check-complete : GoodBook book (bookIn book) → (a : AtomNo) → Keeps (bookIn book) (named a) paper → length paper ≤ 60000
-      → checkOf book paper ≡ certain (a .0)
+      → checkOf book paper ≡ certain a
   check-complete read a g h = row-checked book paper (at-paper read (row-of (bookIn book) paper (keeps-accepted (bookIn book) paper a g h)))
 
-  pub check-exact : Bytes paper → (a : ℕ)
+  pub check-exact : Bytes paper → (a : AtomNo)
       → (checkOf book paper ≡ certain a)
-      ↔ (GoodBook book (bookIn book) × Keeps (bookIn book) (named (atomNo a)) paper × (length paper ≤ 60000))
-  check-exact bytes a = (λ e. there (checked-row book paper e), λ (read, g, h). check-complete read (atomNo a) g h)
+      ↔ (GoodBook book (bookIn book) × Keeps (bookIn book) (named a) paper × (length paper ≤ 60000))
+  check-exact bytes a = (λ e. there (checked-row book paper e), λ (read, g, h). check-complete read a g h)
     where
-      there : {a : ℕ} → CheckRow book paper (certain a)
-          → GoodBook book (bookIn book) × Keeps (bookIn book) (named (atomNo a)) paper × (length paper ≤ 60000)
+      there : {a : AtomNo} → CheckRow book paper (certain a)
+          → GoodBook book (bookIn book) × Keeps (bookIn book) (named a) paper × (length paper ≤ 60000)
       there (at-paper read r) =
           let (g, h) = accepted-keeps (bookIn book) paper bytes (row-told (bookIn book) paper r) in (read, g, h)

@@ -13,7 +13,7 @@ use Rattle.meaning.specs.Claim.{Claim}
 use Rattle.meaning.specs.Written.{colourOn, colourOff, pair}
 use Rattle.meaning.proofs.Written.{pair-on, pair-off}
 use Rattle.checker.specs.Steps.{Stepped, goes, parts, ends, fails, stepOf}
-use Rattle.checker.specs.Branches.{Walked, done, refusedAt, andThen, afterStep, branchOf, BranchTo}
+use Rattle.checker.specs.Branches.{Walked, done, wrongAt, andThen, afterStep, branchOf, BranchTo}
 use Rattle.checker.specs.declared.step.Stop.{Stop}
 use Rattle.checker.specs.declared.step.Stop.the-variants.{End, Split}
 use Rattle.checker.specs.declared.run.Ran.{Ran}
@@ -35,7 +35,7 @@ module _ (b : Book) (k : Claim) (s : List ℕ) (from at : ℕ) (c : Pair) where
   unfolding afterStep
   branch-ends next e = branch-by _ e (λ f g. refl)
 
-  branch-fails : (i : ℕ) → stepOf b k s from at c ≡ fails i → BranchTo b k s from at c (refusedAt i at)
+  branch-fails : (i : ℕ) → stepOf b k s from at c ≡ fails i → BranchTo b k s from at c (wrongAt i at)
   unfolding afterStep
   branch-fails i e = branch-by _ e (λ f g. refl)
 
@@ -47,7 +47,7 @@ module _ (b : Book) (k : Claim) (s : List ℕ) (from at : ℕ) (c : Pair) where
   -- a split, after its first branch has come to w
   module _ (next : ℕ) (r : RuleNo) (w : Walked) (h : at < next) (l : next ≤ from) (e : stepOf b k s from at c ≡ parts next r)
       (p : BranchTo b k s from next (put onSide (r ∷ []) c) w) where
-    split-first : (i place : ℕ) → w ≡ refusedAt i place → BranchTo b k s from at c (refusedAt i place)
+    split-first : (i place : ℕ) → w ≡ wrongAt i place → BranchTo b k s from at c (wrongAt i place)
     unfolding afterStep andThen
     split-first i place q = branch-by _ e (λ f g. rw (sym (p f (omega arith)) ∙ q))
 
@@ -103,7 +103,7 @@ module _ {b : Book} {k : Claim} {s : List ℕ} {from at : ℕ} {c : Pair} {ran :
   run-ends e = run-leads (branch-ends b k s from _ _ _ (step-is e), past {m = ran .at + 1} (omega arith) (within-is e))
 
   -- 24 and 25
-  pub run-refused : (i : ℕ) {x : Stop} → ran .stop ≡ x → stoppedBy (ran .at) x ≡ fails i → Branches b k s from at c (refusedAt i (ran .at))
+  pub run-refused : (i : ℕ) {x : Stop} → ran .stop ≡ x → stoppedBy (ran .at) x ≡ fails i → Branches b k s from at c (wrongAt i (ran .at))
   run-refused i e q = run-leads (branch-fails b k s from _ _ _ (step-is e ∙ q), refused)
 
   pub run-splits : {q : RuleNo} → ran .stop ≡ Split q
@@ -127,7 +127,7 @@ module _ {b : Book} {k : Claim} {s : List ℕ} {from at : ℕ} {r : RuleNo} {c f
   first-branch : BranchTo b k s from (at + 2) (put onSide (r ∷ []) (pair c)) (walked w)
   first-branch = rw (ap pair (p .on) ∙ pair-on c r (omega (arith, p .within .0, p .few, p .on-long))) at (p .comes .0)
 
-  pub split-refused : (i place : ℕ) → walked w ≡ refusedAt i place → Branches b k s from at (pair c) (refusedAt i place)
+  pub split-refused : (i place : ℕ) → walked w ≡ wrongAt i place → Branches b k s from at (pair c) (wrongAt i place)
   split-refused i place q =
       (split-first b k s from at _ _ r _ (omega arith) (p .within .1) (p .splits) first-branch i place q, refused)
 

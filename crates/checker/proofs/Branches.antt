@@ -18,31 +18,31 @@ use Rattle.meaning.specs.Paper.{numbers, unfounded, codeUnfounded, Branch, step
 use Rattle.book.specs.Format.{partFrom}
 use Rattle.book.proofs.Slices.{part-length}
 use Rattle.checker.specs.Steps.{Stepped, goes, parts, ends, fails, stepOf}
-use Rattle.checker.specs.Branches.{Walked, done, refusedAt, andThen, afterStep, branchOf}
+use Rattle.checker.specs.Branches.{Walked, done, wrongAt, andThen, afterStep, branchOf}
 use Rattle.checker.specs.Rows.{ruleAt, listAt, form-41, form-42, form-55, form-53, form-45}
 use Rattle.checker.proofs.Bytes.{rules-back, numbers-back, number-member, member-rule, list-length, list-read}
 use Rattle.checker.proofs.Bytes.{part-none, part-one, part-two, part-split, part-listed, read-one, read-two, read-past}
 use Rattle.checker.proofs.Steps.{StepIs, malformed, unheld, held, formed-further, fails-number, is-step, step-is}
 
-pub not-done : {A : Type 0} {i at m : ℕ} → refusedAt i at ≡ done m → A
+pub not-done : {A : Type 0} {i at m : ℕ} → wrongAt i at ≡ done m → A
 not-done e = let z : _≡_ {A = ℕ} 0 1 = cc in absurd (omega arith)
 
 same-end : {m n : ℕ} → done m ≡ done n → m ≡ n
 same-end e = cc
 
-pub same-refusal : {i j m n : ℕ} → refusedAt i m ≡ refusedAt j n → (i ≡ j) × (m ≡ n)
+pub same-refusal : {i j m n : ℕ} → wrongAt i m ≡ wrongAt j n → (i ≡ j) × (m ≡ n)
 same-refusal e = (cc, cc)
 
 then-done : (w : Walked) (f : ℕ → Walked) (m : ℕ) → andThen w f ≡ done m → (n : ℕ) × (w ≡ done n) × (f n ≡ done m)
 unfolding andThen
 then-done (done n) f m e = (n, refl, e)
-then-done (refusedAt i at) f m e = not-done e
+then-done (wrongAt i at) f m e = not-done e
 
-pub then-refused : (w : Walked) (f : ℕ → Walked) {i m : ℕ} → andThen w f ≡ refusedAt i m
-    → (w ≡ refusedAt i m) ⊎ ((n : ℕ) × (w ≡ done n) × (f n ≡ refusedAt i m))
+pub then-refused : (w : Walked) (f : ℕ → Walked) {i m : ℕ} → andThen w f ≡ wrongAt i m
+    → (w ≡ wrongAt i m) ⊎ ((n : ℕ) × (w ≡ done n) × (f n ≡ wrongAt i m))
 unfolding andThen
 then-refused (done n) f e = inr (n, refl, e)
-then-refused (refusedAt i at) f e = inl e
+then-refused (wrongAt i at) f e = inl e
 
 -- a refusal of a step between `at` and the witness start
 pub record RefusedIn (at from i m : ℕ) : Type 0 where
@@ -69,15 +69,15 @@ module _ (b : Book) (k : Claim) (s : List ℕ) (from : ℕ) where
       after (ends next) (held p q) e g = omega (arith, formed-further b k s from at c p, same-end e)
       after (fails i) p e g = not-done e
 
-  pub refused-between : (f at : ℕ) (c : Pair) {i m : ℕ} → at ≤ from → branchOf f b k s from at c ≡ refusedAt i m → RefusedIn at from i m
+  pub refused-between : (f at : ℕ) (c : Pair) {i m : ℕ} → at ≤ from → branchOf f b k s from at c ≡ wrongAt i m → RefusedIn at from i m
   unfolding branchOf afterStep
   refused-between zero at c h e =
       let (p, q) = same-refusal e in record { number = inl (sym p); above = omega arith; below = omega arith }
   refused-between (suc f) at c {i} {m} h e =
       after (stepOf b k s from at c) (step-is b k s from at c refl) e (λ next d. refused-between f next d)
     where
-      after : (x : Stepped) → StepIs b k s from at c x → afterStep at c x (branchOf f b k s from) ≡ refusedAt i m
-          → ((next : ℕ) (d : Pair) → next ≤ from → branchOf f b k s from next d ≡ refusedAt i m → RefusedIn next from i m)
+      after : (x : Stepped) → StepIs b k s from at c x → afterStep at c x (branchOf f b k s from) ≡ wrongAt i m
+          → ((next : ℕ) (d : Pair) → next ≤ from → branchOf f b k s from next d ≡ wrongAt i m → RefusedIn next from i m)
           → RefusedIn at from i m
       after (goes next d) (held p q) e g =
           let (u, v) = formed-further b k s from at c p in refused-above (omega arith) (g next d v e)
@@ -112,7 +112,7 @@ module _ (b : Book) (k : Claim) (s : List ℕ) (from : ℕ) where
               → andThen w (λ m. branchOf f b k s from m (put offSide (r ∷ []) c))
               ≡ andThen w (λ m. branchOf g b k s from m (put offSide (r ∷ []) c))
           rest u v (done m) y = let (z, o) = done-between g _ _ _ y in e m _ (omega arith) (omega arith)
-          rest u v (refusedAt i m) y = refl
+          rest u v (wrongAt i m) y = refl
       after (ends next) p e = refl
       after (fails i) p e = refl
 

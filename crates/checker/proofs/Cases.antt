@@ -4,14 +4,16 @@ use mathlib.Core.Path.{_≡_, refl}
 use mathlib.Core.List.{List, [], _∷_, map}
 use Prim.Native.Nat.{ℕ}
 use Rattle.meaning.specs.Sets.{every, some, everyBelow, someBelow, ascending}
-use Rattle.meaning.specs.Books.{sameAtom, sameRule, count, rule, everyRule, someRule}
+use Rattle.meaning.specs.declared.AtomNo.{AtomNo}
+use Rattle.meaning.specs.Books.{atomNo, sameAtom, sameRule, count, rule, everyRule, someRule}
 use Rattle.meaning.specs.Colours.{put, heads, allIn, mayOn, blocked, uncoloured, clashing}
 use Rattle.meaning.specs.Claim.{shown, ended}
 use Rattle.meaning.specs.Paper.{unfounded, fails}
 use Rattle.meaning.specs.Choice.{ifb, ifLt, ifEq}
+use Rattle.meaning.specs.Told.{Told, refusedAt}
 use Rattle.book.specs.Format.{u16At, partOf, bytesOf, recordOf, lengthOf, ruleOf, recordsOf, rulesOf, ifFine, bodyOf, readOf}
 use Rattle.book.specs.Format.{andThen as recordsThen}
-use Rattle.checker.specs.Numbers.{Told, certain, refused}
+use Rattle.checker.specs.Numbers.{certain}
 use Rattle.checker.specs.Steps.{withRule, properList, withList, stepBy, stepOf}
 use Rattle.checker.specs.Branches.{andThen, afterStep, branchOf}
 use Rattle.checker.specs.Witness.{andThen as witnessThen, follows, orderOf, blockedOf, restFails, listOf, witnessVerdict}
@@ -32,39 +34,39 @@ either-way =
     ∷ 0 ∷ 0 ∷ 4 ∷ 0 ∷ 8 ∷ 0 ∷ 12 ∷ 0 ∷ 3 ∷ 4 ∷ 16 ∷ 0 ∷ 0x52 ∷ 0x42 ∷ []
 
 -- a book, a paper, and what checking answers
-abbrev pub papers : List (List ℕ × List ℕ × Told)
+abbrev pub papers : List (List ℕ × List ℕ × Told AtomNo)
 papers =
     -- document 01's worked papers
-    (fact, 0x41 ∷ 0 ∷ 0x45 ∷ 0 ∷ 0 ∷ 1 ∷ 3 ∷ 0 ∷ 0x50 ∷ 0x46 ∷ [], certain 0)
-    ∷ (fact, 0x45 ∷ 0 ∷ 0 ∷ 1 ∷ 1 ∷ 0 ∷ 0x50 ∷ 0x46 ∷ [], refused 25 0)
-    ∷ (circle, 0x41 ∷ 0 ∷ 0x45 ∷ 0 ∷ 0 ∷ 3 ∷ 0 ∷ 0x50 ∷ 0x46 ∷ [], refused 25 0)
+    (fact, 0x41 ∷ 0 ∷ 0x45 ∷ 0 ∷ 0 ∷ 1 ∷ 3 ∷ 0 ∷ 0x50 ∷ 0x46 ∷ [], certain (atomNo 0))
+    ∷ (fact, 0x45 ∷ 0 ∷ 0 ∷ 1 ∷ 1 ∷ 0 ∷ 0x50 ∷ 0x46 ∷ [], refusedAt 25 0)
+    ∷ (circle, 0x41 ∷ 0 ∷ 0x45 ∷ 0 ∷ 0 ∷ 3 ∷ 0 ∷ 0x50 ∷ 0x46 ∷ [], refusedAt 25 0)
     ∷ (
       either-way,
       0x53 ∷ 0 ∷ 0x45 ∷ 0x53 ∷ 1 ∷ 0x45 ∷ 0x53 ∷ 2 ∷ 0x41 ∷ 0 ∷ 0x45 ∷ 0x41 ∷ 3 ∷ 0x41 ∷ 1 ∷ 0x45
           ∷ 2 ∷ 0 ∷ 2 ∷ 2 ∷ 16 ∷ 0 ∷ 0x50 ∷ 0x46 ∷ [],
-      certain 2,
+      certain (atomNo 2),
     )
     -- the book is refused first; then 20 to 23
-    ∷ ([], [], refused 1 0)
-    ∷ (fact, [], refused 20 0)
-    ∷ (fact, 0x41 ∷ 0 ∷ 0x45 ∷ 0 ∷ 0 ∷ 1 ∷ 3 ∷ 0 ∷ 0x50 ∷ 0x42 ∷ [], refused 21 8)
-    ∷ (fact, 0x41 ∷ 0 ∷ 0x45 ∷ 0 ∷ 0 ∷ 1 ∷ 4 ∷ 0 ∷ 0x50 ∷ 0x46 ∷ [], refused 22 6)
-    ∷ (fact, 0x41 ∷ 0 ∷ 0x45 ∷ 0 ∷ 1 ∷ 1 ∷ 3 ∷ 0 ∷ 0x50 ∷ 0x46 ∷ [], refused 23 4)
+    ∷ ([], [], refusedAt 1 0)
+    ∷ (fact, [], refusedAt 20 0)
+    ∷ (fact, 0x41 ∷ 0 ∷ 0x45 ∷ 0 ∷ 0 ∷ 1 ∷ 3 ∷ 0 ∷ 0x50 ∷ 0x42 ∷ [], refusedAt 21 8)
+    ∷ (fact, 0x41 ∷ 0 ∷ 0x45 ∷ 0 ∷ 0 ∷ 1 ∷ 4 ∷ 0 ∷ 0x50 ∷ 0x46 ∷ [], refusedAt 22 6)
+    ∷ (fact, 0x41 ∷ 0 ∷ 0x45 ∷ 0 ∷ 1 ∷ 1 ∷ 3 ∷ 0 ∷ 0x50 ∷ 0x46 ∷ [], refusedAt 23 4)
     -- 24: an unknown code; a rule not below R; an empty list; a step due at the witness start
-    ∷ (fact, 0x40 ∷ 0 ∷ 0x45 ∷ 0 ∷ 0 ∷ 1 ∷ 3 ∷ 0 ∷ 0x50 ∷ 0x46 ∷ [], refused 24 0)
-    ∷ (fact, 0x41 ∷ 1 ∷ 0x45 ∷ 0 ∷ 0 ∷ 1 ∷ 3 ∷ 0 ∷ 0x50 ∷ 0x46 ∷ [], refused 24 0)
-    ∷ (fact, 0x55 ∷ 0 ∷ 0x45 ∷ 0 ∷ 0 ∷ 1 ∷ 3 ∷ 0 ∷ 0x50 ∷ 0x46 ∷ [], refused 24 0)
-    ∷ (fact, 0x41 ∷ 0 ∷ 0 ∷ 0 ∷ 1 ∷ 2 ∷ 0 ∷ 0x50 ∷ 0x46 ∷ [], refused 24 2)
+    ∷ (fact, 0x40 ∷ 0 ∷ 0x45 ∷ 0 ∷ 0 ∷ 1 ∷ 3 ∷ 0 ∷ 0x50 ∷ 0x46 ∷ [], refusedAt 24 0)
+    ∷ (fact, 0x41 ∷ 1 ∷ 0x45 ∷ 0 ∷ 0 ∷ 1 ∷ 3 ∷ 0 ∷ 0x50 ∷ 0x46 ∷ [], refusedAt 24 0)
+    ∷ (fact, 0x55 ∷ 0 ∷ 0x45 ∷ 0 ∷ 0 ∷ 1 ∷ 3 ∷ 0 ∷ 0x50 ∷ 0x46 ∷ [], refusedAt 24 0)
+    ∷ (fact, 0x41 ∷ 0 ∷ 0 ∷ 0 ∷ 1 ∷ 2 ∷ 0 ∷ 0x50 ∷ 0x46 ∷ [], refusedAt 24 2)
     -- 26: a second 45
-    ∷ (fact, 0x41 ∷ 0 ∷ 0x45 ∷ 0x45 ∷ 0 ∷ 0 ∷ 1 ∷ 4 ∷ 0 ∷ 0x50 ∷ 0x46 ∷ [], refused 26 3)
+    ∷ (fact, 0x41 ∷ 0 ∷ 0x45 ∷ 0x45 ∷ 0 ∷ 0 ∷ 1 ∷ 4 ∷ 0 ∷ 0x50 ∷ 0x46 ∷ [], refusedAt 26 3)
     -- 27: a rule not below R; a rule twice; a rule left out
-    ∷ (fact, 0x41 ∷ 0 ∷ 0x45 ∷ 1 ∷ 0 ∷ 1 ∷ 3 ∷ 0 ∷ 0x50 ∷ 0x46 ∷ [], refused 27 3)
-    ∷ (fact, 0x41 ∷ 0 ∷ 0x45 ∷ 0 ∷ 0 ∷ 0 ∷ 2 ∷ 3 ∷ 0 ∷ 0x50 ∷ 0x46 ∷ [], refused 27 4)
-    ∷ (fact, 0x41 ∷ 0 ∷ 0x45 ∷ 0 ∷ 0 ∷ 3 ∷ 0 ∷ 0x50 ∷ 0x46 ∷ [], refused 27 3)
+    ∷ (fact, 0x41 ∷ 0 ∷ 0x45 ∷ 1 ∷ 0 ∷ 1 ∷ 3 ∷ 0 ∷ 0x50 ∷ 0x46 ∷ [], refusedAt 27 3)
+    ∷ (fact, 0x41 ∷ 0 ∷ 0x45 ∷ 0 ∷ 0 ∷ 0 ∷ 2 ∷ 3 ∷ 0 ∷ 0x50 ∷ 0x46 ∷ [], refusedAt 27 4)
+    ∷ (fact, 0x41 ∷ 0 ∷ 0x45 ∷ 0 ∷ 0 ∷ 3 ∷ 0 ∷ 0x50 ∷ 0x46 ∷ [], refusedAt 27 3)
     ∷ []
 
-pub papers-checked : map (λ (c : List ℕ × List ℕ × Told). checkOf (c .0) (c .1)) papers
-    ≡ map (λ (c : List ℕ × List ℕ × Told). c .2) papers
+pub papers-checked : map (λ (c : List ℕ × List ℕ × Told AtomNo). checkOf (c .0) (c .1)) papers
+    ≡ map (λ (c : List ℕ × List ℕ × Told AtomNo). c .2) papers
 unfolding checkOf checkRead paperOf trailerTold stepsTold branchTold witnessTold
     witnessVerdict listOf restFails blockedOf orderOf follows witnessThen
     branchOf afterStep andThen stepOf stepBy withList properList withRule

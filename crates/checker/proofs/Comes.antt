@@ -15,21 +15,21 @@ use Rattle.meaning.specs.Paper.{Branch, step-41, step-42, step-55, step-53, ste
 use Rattle.meaning.proofs.Tests.{lt-or-le}
 use Rattle.book.specs.Format.{partFrom}
 use Rattle.checker.specs.Steps.{Stepped, goes, parts, ends, fails, stepOf}
-use Rattle.checker.specs.Branches.{refusedAt, andThen, afterStep, branchOf}
+use Rattle.checker.specs.Branches.{wrongAt, andThen, afterStep, branchOf}
 use Rattle.checker.specs.Rows.{Comes, first-step, goes-on, into-first, into-second}
 use Rattle.checker.proofs.Steps.{StepIs, held, formed-further, is-step, step-is}
 use Rattle.checker.proofs.Branches.{not-done, same-refusal, then-refused, done-between, done-branch, part-done, turn}
 
 module _ (b : Book) (k : Claim) (s : List ℕ) (from : ℕ) (whole : from ≤ length s) where
-  pub refused-comes : (f at : ℕ) (c : Pair) {i m : ℕ} → from - at < f → branchOf f b k s from at c ≡ refusedAt i m → Comes b k s from at c
+  pub refused-comes : (f at : ℕ) (c : Pair) {i m : ℕ} → from - at < f → branchOf f b k s from at c ≡ wrongAt i m → Comes b k s from at c
       → (d : Pair) × Comes b k s from m d × StepIs b k s from m d (fails i)
   unfolding branchOf afterStep
   refused-comes zero at c h e came = absurd (not-suc-le-zero h)
   refused-comes (suc f) at c {i} {m} h e came =
       after (stepOf b k s from at c) (step-is b k s from at c refl) e (λ next d. refused-comes f next d)
     where
-      after : (x : Stepped) → StepIs b k s from at c x → afterStep at c x (branchOf f b k s from) ≡ refusedAt i m
-          → ((next : ℕ) (d : Pair) → from - next < f → branchOf f b k s from next d ≡ refusedAt i m → Comes b k s from next d
+      after : (x : Stepped) → StepIs b k s from at c x → afterStep at c x (branchOf f b k s from) ≡ wrongAt i m
+          → ((next : ℕ) (d : Pair) → from - next < f → branchOf f b k s from next d ≡ wrongAt i m → Comes b k s from next d
           → (d : Pair) × Comes b k s from m d × StepIs b k s from m d (fails i))
           → (d : Pair) × Comes b k s from m d × StepIs b k s from m d (fails i)
       after (goes next d) (held p q) e g =
@@ -57,10 +57,10 @@ module _ (b : Book) (k : Claim) (s : List ℕ) (from : ℕ) (whole : from ≤ le
   module _ (i m : ℕ) where
     -- whatever number of steps beyond the bytes left is allowed, the branch is refused at m
     abbrev Refused : ℕ → Pair → Type 0
-    Refused at c = (f : ℕ) → from - at < f → branchOf f b k s from at c ≡ refusedAt i m
+    Refused at c = (f : ℕ) → from - at < f → branchOf f b k s from at c ≡ wrongAt i m
 
     before : {at : ℕ} {c : Pair} {x : Stepped} → StepIs b k s from at c x
-        → ((f : ℕ) → from - at < suc f → afterStep at c x (branchOf f b k s from) ≡ refusedAt i m) → Refused at c
+        → ((f : ℕ) → from - at < suc f → afterStep at c x (branchOf f b k s from) ≡ wrongAt i m) → Refused at c
     before p g zero h = absurd (not-suc-le-zero h)
     before {at} {c} p g (suc f) h = turn b k s from f at c (is-step b k s from at c p) ∙ g f h
 
@@ -78,6 +78,6 @@ module _ (b : Book) (k : Claim) (s : List ℕ) (from : ℕ) (whole : from ≤ le
         (λ f h. rw (part-done b k s from whole next n (omega arith) o x f (omega arith)) (g f (omega arith))))
 
     pub comes-refused : {d : Pair} → Comes b k s from m d → StepIs b k s from m d (fails i)
-        → branchOf (suc from) b k s from 0 start ≡ refusedAt i m
+        → branchOf (suc from) b k s from 0 start ≡ wrongAt i m
     unfolding afterStep
     comes-refused came p = carried came (before p (λ f h. refl)) (suc from) (omega arith)

@@ -6,17 +6,19 @@ use Prim.Native.Nat.{ℕ, suc, _+_, _-_, _≤_, _<_}
 use native.Mathlib.Omega.{arith}
 use lib.ListN.{length, getD}
 use Rattle.meaning.specs.declared.colouring.Colouring.{Colouring}
+use Rattle.meaning.specs.declared.AtomNo.{AtomNo}
 use Rattle.meaning.specs.Books.{atomNo, Book}
 use Rattle.meaning.specs.Claim.{Claim, named}
+use Rattle.meaning.specs.Told.{Told, refusedAt}
 use Rattle.meaning.specs.Written.{nothing, pair}
 use Rattle.meaning.proofs.Choice.{lt-yes, lt-no, eq-yes, eq-no}
 use Rattle.meaning.proofs.Written.{pair-nothing}
 use Rattle.book.specs.declared.reader.Shape.{Shape}
-use Rattle.book.specs.Numbers.{shape, refused as book-refused}
+use Rattle.book.specs.Numbers.{shape}
 use Rattle.book.specs.Format.{u16At, BookRead, good, bad, readOf, toldOf, bookOf, bookIn, ReadAs}
 use Rattle.checker.specs.declared.witness.Verdict.{Verdict}
 use Rattle.checker.specs.declared.witness.Verdict.the-variants.{Right, Wrong}
-use Rattle.checker.specs.Numbers.{Told, certain, refused}
+use Rattle.checker.specs.Numbers.{certain}
 use Rattle.checker.specs.Branches.{Walked, done, BranchTo}
 use Rattle.checker.specs.Witness.{witnessVerdict}
 use Rattle.checker.specs.Parts.{verdict}
@@ -24,20 +26,20 @@ use Rattle.checker.specs.Check.{witnessTold, branchTold, stepsTold, trai
 
 -- ---- the steps and the witness, where the first branch, from the empty colouring, has come to x
 
-pub steps-are : (b : Book) (k : Claim) (s : List ℕ) (a w from : ℕ) {c : Colouring} {x y : Walked} → c ≡ nothing
+pub steps-are : (b : Book) (k : Claim) (s : List ℕ) (a : AtomNo) (w from : ℕ) {c : Colouring} {x y : Walked} → c ≡ nothing
     → BranchTo b k s from 0 (pair c) x → x ≡ y → branchTold b s a w from y ≡ stepsTold b k s a w from
 unfolding stepsTold
 steps-are b k s a w from e p q =
     ap (branchTold b s a w from) (sym q ∙ rw (ap pair e ∙ pair-nothing) at (p (suc from) (omega arith)))
 
-module _ (b : Book) (s : List ℕ) (a w from at : ℕ) where
-  pub told-gap : (at ≡ from → ⊥) → refused 26 at ≡ branchTold b s a w from (done at)
+module _ (b : Book) (s : List ℕ) (a : AtomNo) (w from at : ℕ) where
+  pub told-gap : (at ≡ from → ⊥) → refusedAt 26 at ≡ branchTold b s a w from (done at)
   unfolding branchTold
   told-gap n = sym (eq-no _ _ _ _ n)
 
   -- v is what the code found of the witness
   module _ (h : at ≡ from) (v : Verdict) (p : verdict v ≡ witnessVerdict b s from w) where
-    pub told-wrong : (place : ℕ) → v ≡ Wrong place → refused 27 place ≡ branchTold b s a w from (done at)
+    pub told-wrong : (place : ℕ) → v ≡ Wrong place → refusedAt 27 place ≡ branchTold b s a w from (done at)
     unfolding branchTold witnessTold
     told-wrong place e = sym (rw (← p, e) (eq-yes _ _ _ _ h))
 
@@ -57,52 +59,52 @@ pub record Framed (s : List ℕ) (w from : ℕ) : Type 0 where
   pub start : from ≡ u16At s (length s - 4)
 
 module _ (b : Book) (s : List ℕ) where
-  pub paper-short : length s < 6 → paperOf b s ≡ refused 20 0
+  pub paper-short : length s < 6 → paperOf b s ≡ refusedAt 20 0
   unfolding paperOf
   paper-short h = lt-yes _ _ _ _ h
 
-  pub paper-long : 60000 < length s → paperOf b s ≡ refused 20 0
+  pub paper-long : 60000 < length s → paperOf b s ≡ refusedAt 20 0
   unfolding paperOf
   paper-long h = lt-no _ _ _ _ (omega arith) ∙ lt-yes _ _ _ _ h
 
   module _ (h : 6 ≤ length s) (g : length s ≤ 60000) where
-    pub mark-first : (getD s (length s - 2) 0 ≡ 0x50 → ⊥) → paperOf b s ≡ refused 21 (length s - 2)
+    pub mark-first : (getD s (length s - 2) 0 ≡ 0x50 → ⊥) → paperOf b s ≡ refusedAt 21 (length s - 2)
     unfolding paperOf
     mark-first n = lt-no _ _ _ _ h ∙ lt-no _ _ _ _ g ∙ eq-no _ _ _ _ n
 
-    pub mark-second : getD s (length s - 2) 0 ≡ 0x50 → (getD s (length s - 1) 0 ≡ 0x46 → ⊥) → paperOf b s ≡ refused 21 (length s - 2)
+    pub mark-second : getD s (length s - 2) 0 ≡ 0x50 → (getD s (length s - 1) 0 ≡ 0x46 → ⊥) → paperOf b s ≡ refusedAt 21 (length s - 2)
     unfolding paperOf
     mark-second m n = lt-no _ _ _ _ h ∙ lt-no _ _ _ _ g ∙ eq-yes _ _ _ _ m ∙ eq-no _ _ _ _ n
 
   module _ {w from : ℕ} (f : Framed s w from) where
-    trailer-read : paperOf b s ≡ trailerTold b s (getD s (length s - 6) 0) w from
+    trailer-read : paperOf b s ≡ trailerTold b s (atomNo (getD s (length s - 6) 0)) w from
     unfolding paperOf
     trailer-read =
         lt-no _ _ _ _ (f .least) ∙ lt-no _ _ _ _ (f .most) ∙ eq-yes _ _ _ _ (f .first) ∙ eq-yes _ _ _ _ (f .second)
         ∙ rw (f .count, f .start)
 
-    pub trailer-wrong : (from + w + 6 ≡ length s → ⊥) → paperOf b s ≡ refused 22 (length s - 4)
+    pub trailer-wrong : (from + w + 6 ≡ length s → ⊥) → paperOf b s ≡ refusedAt 22 (length s - 4)
     unfolding trailerTold
     trailer-wrong z = trailer-read ∙ eq-no _ _ _ _ z
 
     module _ (z : from + w + 6 ≡ length s) where
-      pub atom-out : b .atoms ≤ getD s (length s - 6) 0 → paperOf b s ≡ refused 23 (length s - 6)
+      pub atom-out : b .atoms ≤ getD s (length s - 6) 0 → paperOf b s ≡ refusedAt 23 (length s - 6)
       unfolding trailerTold
       atom-out l = trailer-read ∙ eq-yes _ _ _ _ z ∙ lt-no _ _ _ _ l
 
-      pub atom-in : getD s (length s - 6) 0 < b .atoms → (x : Told)
-          → x ≡ stepsTold b (named (atomNo (getD s (length s - 6) 0))) s (getD s (length s - 6) 0) w from → x ≡ paperOf b s
+      pub atom-in : getD s (length s - 6) 0 < b .atoms → (x : Told AtomNo)
+          → let a = atomNo (getD s (length s - 6) 0) in x ≡ stepsTold b (named a) s a w from → x ≡ paperOf b s
       unfolding trailerTold
       atom-in l x q = q ∙ sym (trailer-read ∙ eq-yes _ _ _ _ z ∙ lt-yes _ _ _ _ l)
 
 -- ---- the book
 
-read-refused : (x : BookRead) (p : List ℕ) (i at : ℕ) → toldOf x ≡ book-refused i at → checkRead x p ≡ refused i at
+read-refused : (x : BookRead) (p : List ℕ) (i at : ℕ) → toldOf x ≡ refusedAt i at → checkRead x p ≡ refusedAt i at
 unfolding toldOf checkRead
 read-refused (good n k index l) p i at e = let z : _≡_ {A = ℕ} 0 1 = cc in absurd (omega arith)
 read-refused (bad j place) p i at e = cc
 
-pub check-refused : (s p : List ℕ) (i at : ℕ) → toldOf (readOf s) ≡ book-refused i at → checkOf s p ≡ refused i at
+pub check-refused : (s p : List ℕ) (i at : ℕ) → toldOf (readOf s) ≡ refusedAt i at → checkOf s p ≡ refusedAt i at
 unfolding checkOf
 check-refused s p i at e = read-refused (readOf s) p i at e
 

@@ -11,12 +11,12 @@ use Rattle.meaning.specs.Books.{Book}
 use Rattle.meaning.specs.Colours.{Pair, start}
 use Rattle.meaning.specs.Claim.{Claim}
 use Rattle.meaning.specs.Paper.{Branch}
+use Rattle.meaning.specs.Told.{refusedAt}
 use Rattle.book.specs.Format.{bad, readOf, bookIn}
 use Rattle.book.specs.Rows.{GoodBook}
 use Rattle.book.proofs.Refusals.{bad-number}
-use Rattle.checker.specs.Numbers.{refused}
 use Rattle.checker.specs.Steps.{fails}
-use Rattle.checker.specs.Branches.{done, refusedAt}
+use Rattle.checker.specs.Branches.{done, wrongAt}
 use Rattle.checker.specs.Witness.{witnessVerdict}
 use Rattle.checker.specs.Check.{checkOf}
 use Rattle.checker.specs.Rows.{startOf, claimOf, witnessBytes, LengthGood, MarkGood, TrailerGood, AtomGood, Framed}
@@ -41,7 +41,7 @@ module _ (book paper : List ℕ) where
 
   -- ---- the book first
 
-  paper-number : {i at : ℕ} → PaperRow b paper (refused i at) → 20 ≤ i
+  paper-number : {i at : ℕ} → PaperRow b paper (refusedAt i at) → 20 ≤ i
   paper-number (at-length l) = omega arith
   paper-number (at-mark l m) = omega arith
   paper-number (at-trailer l m t) = omega arith
@@ -52,54 +52,54 @@ module _ (book paper : List ℕ) where
   paper-number (at-witness f e w) = omega arith
 
   -- 1 to 7, at the place in the book: the book is refused so
-  pub refused-book : (i at : ℕ) → i ≤ 7 → (checkOf book paper ≡ refused i at) ↔ (readOf book ≡ bad i at)
+  pub refused-book : (i at : ℕ) → i ≤ 7 → (checkOf book paper ≡ refusedAt i at) ↔ (readOf book ≡ bad i at)
   refused-book i at h = (λ e. there h (checked-row book paper e), λ e. row-checked book paper (at-book e))
     where
-      there : {i at : ℕ} → i ≤ 7 → CheckRow book paper (refused i at) → readOf book ≡ bad i at
+      there : {i at : ℕ} → i ≤ 7 → CheckRow book paper (refusedAt i at) → readOf book ≡ bad i at
       there h (at-book e) = e
       there h (at-paper g r) = absurd (omega (arith, paper-number r))
 
   -- a number beyond the book's, and what its row says
-  exactly : {A : Type 0} {i at : ℕ} → 7 < i → (PaperRow b paper (refused i at) → A) → (A → PaperRow b paper (refused i at))
-      → (checkOf book paper ≡ refused i at) ↔ (GoodBook book b × A)
+  exactly : {A : Type 0} {i at : ℕ} → 7 < i → (PaperRow b paper (refusedAt i at) → A) → (A → PaperRow b paper (refusedAt i at))
+      → (checkOf book paper ≡ refusedAt i at) ↔ (GoodBook book b × A)
   exactly {A} h there back = (λ e. this h there (checked-row book paper e), λ (g, a). row-checked book paper (at-paper g (back a)))
     where
-      this : {i at : ℕ} → 7 < i → (PaperRow b paper (refused i at) → A) → CheckRow book paper (refused i at) → GoodBook book b × A
+      this : {i at : ℕ} → 7 < i → (PaperRow b paper (refusedAt i at) → A) → CheckRow book paper (refusedAt i at) → GoodBook book b × A
       this h there (at-book e) = absurd (omega (arith, bad-number book e))
       this h there (at-paper g r) = (g, there r)
 
   -- ---- 20 to 23
 
   -- 20, at 0: the paper has under 6 or over 60,000 bytes
-  pub refused-length : (at : ℕ) → (checkOf book paper ≡ refused 20 at) ↔ (GoodBook book b × ((¬ LengthGood paper) × (at ≡ 0)))
+  pub refused-length : (at : ℕ) → (checkOf book paper ≡ refusedAt 20 at) ↔ (GoodBook book b × ((¬ LengthGood paper) × (at ≡ 0)))
   refused-length at = exactly (omega arith) there (λ (l, p). rw p (at-length l))
     where
-      there : {at : ℕ} → PaperRow b paper (refused 20 at) → (¬ LengthGood paper) × (at ≡ 0)
+      there : {at : ℕ} → PaperRow b paper (refusedAt 20 at) → (¬ LengthGood paper) × (at ≡ 0)
       there (at-length l) = (l, refl)
 
   -- 21, at length - 2: the length is right, and the mark isn't 50 46
-  pub refused-mark : (at : ℕ) → (checkOf book paper ≡ refused 21 at)
+  pub refused-mark : (at : ℕ) → (checkOf book paper ≡ refusedAt 21 at)
       ↔ (GoodBook book b × (LengthGood paper × (¬ MarkGood paper) × (at ≡ length paper - 2)))
   refused-mark at = exactly (omega arith) there (λ (l, m, p). rw p (at-mark l m))
     where
-      there : {at : ℕ} → PaperRow b paper (refused 21 at) → LengthGood paper × (¬ MarkGood paper) × (at ≡ length paper - 2)
+      there : {at : ℕ} → PaperRow b paper (refusedAt 21 at) → LengthGood paper × (¬ MarkGood paper) × (at ≡ length paper - 2)
       there (at-mark l m) = (l, m, refl)
 
   -- 22, at length - 4: these are right, and witness start + w + 6 isn't the length
-  pub refused-trailer : (at : ℕ) → (checkOf book paper ≡ refused 22 at)
+  pub refused-trailer : (at : ℕ) → (checkOf book paper ≡ refusedAt 22 at)
       ↔ (GoodBook book b × (LengthGood paper × MarkGood paper × (¬ TrailerGood paper) × (at ≡ length paper - 4)))
   refused-trailer at = exactly (omega arith) there (λ (l, m, t, p). rw p (at-trailer l m t))
     where
-      there : {at : ℕ} → PaperRow b paper (refused 22 at)
+      there : {at : ℕ} → PaperRow b paper (refusedAt 22 at)
           → LengthGood paper × MarkGood paper × (¬ TrailerGood paper) × (at ≡ length paper - 4)
       there (at-trailer l m t) = (l, m, t, refl)
 
   -- 23, at length - 6: these are right, and the claimed atom isn't below A
-  pub refused-atom : (at : ℕ) → (checkOf book paper ≡ refused 23 at)
+  pub refused-atom : (at : ℕ) → (checkOf book paper ≡ refusedAt 23 at)
       ↔ (GoodBook book b × (LengthGood paper × MarkGood paper × TrailerGood paper × (¬ AtomGood b paper) × (at ≡ length paper - 6)))
   refused-atom at = exactly (omega arith) there (λ (l, m, t, a, p). rw p (at-atom l m t a))
     where
-      there : {at : ℕ} → PaperRow b paper (refused 23 at)
+      there : {at : ℕ} → PaperRow b paper (refusedAt 23 at)
           → LengthGood paper × MarkGood paper × TrailerGood paper × (¬ AtomGood b paper) × (at ≡ length paper - 6)
       there (at-atom l m t a) = (l, m, t, a, refl)
 
@@ -109,11 +109,11 @@ module _ (book paper : List ℕ) where
     inside : from ≤ length paper
     inside = let t = f .trailer in omega arith
 
-    came : {i at : ℕ} → walkOf b paper ≡ refusedAt i at → (c : Pair) × Comes b k paper from at c × StepIs b k paper from at c (fails i)
+    came : {i at : ℕ} → walkOf b paper ≡ wrongAt i at → (c : Pair) × Comes b k paper from at c × StepIs b k paper from at c (fails i)
     came e = refused-comes b k paper from inside (suc from) 0 start (omega arith) e first-step
 
   -- 24: none of these, and the checker comes to a step that is malformed
-  pub refused-form : (at : ℕ) → (checkOf book paper ≡ refused 24 at)
+  pub refused-form : (at : ℕ) → (checkOf book paper ≡ refusedAt 24 at)
       ↔ (GoodBook book b × (Framed b paper × (c : Pair) × Comes b k paper from at c × Malformed b paper from at))
   refused-form at = exactly (omega arith) there
       (λ (f, c, p, m). at-form f (comes-refused b k paper from (inside f) 24 at p (malformed m)))
@@ -121,11 +121,11 @@ module _ (book paper : List ℕ) where
       is-malformed : {c : Pair} → StepIs b k paper from at c (fails 24) → Malformed b paper from at
       is-malformed (malformed m) = m
 
-      there : PaperRow b paper (refused 24 at) → Framed b paper × (c : Pair) × Comes b k paper from at c × Malformed b paper from at
+      there : PaperRow b paper (refusedAt 24 at) → Framed b paper × (c : Pair) × Comes b k paper from at c × Malformed b paper from at
       there (at-form f e) = let (c, p, q) = came f e in (f, c, p, is-malformed q)
 
   -- 25: none of these, and the checker comes to a step that is well-formed and whose condition does not hold
-  pub refused-step : (at : ℕ) → (checkOf book paper ≡ refused 25 at)
+  pub refused-step : (at : ℕ) → (checkOf book paper ≡ refusedAt 25 at)
       ↔ (GoodBook book b × (Framed b paper × (c : Pair) × Comes b k paper from at c × Unheld b k paper from at c))
   refused-step at = exactly (omega arith) there
       (λ (f, c, p, u). at-step f (comes-refused b k paper from (inside f) 25 at p (unheld (u .formed) (u .fails))))
@@ -133,7 +133,7 @@ module _ (book paper : List ℕ) where
       is-unheld : {c : Pair} → StepIs b k paper from at c (fails 25) → Unheld b k paper from at c
       is-unheld (unheld f e) = record { test = _; next = _; formed = f; fails = e }
 
-      there : PaperRow b paper (refused 25 at) → Framed b paper × (c : Pair) × Comes b k paper from at c × Unheld b k paper from at c
+      there : PaperRow b paper (refusedAt 25 at) → Framed b paper × (c : Pair) × Comes b k paper from at c × Unheld b k paper from at c
       there (at-step f e) = let (c, p, q) = came f e in (f, c, p, is-unheld q)
 
   -- ---- 26 and 27: behind the last 45
@@ -149,20 +149,20 @@ module _ (book paper : List ℕ) where
         part-done b k paper from (inside f) 0 m (omega arith) h (rw (sub-zero m) p) (suc from) (omega arith)
 
   -- 26: none of these, and the branch from byte 0 ends before the witness; at the first byte behind it
-  pub refused-gap : (at : ℕ) → (checkOf book paper ≡ refused 26 at)
+  pub refused-gap : (at : ℕ) → (checkOf book paper ≡ refusedAt 26 at)
       ↔ (GoodBook book b × (Framed b paper × Branch b k start (take at paper) × (at < from)))
   refused-gap at = exactly (omega arith) there (λ (f, p, h). at-gap f (first-done f (omega arith) p) (λ e. omega arith))
     where
-      there : PaperRow b paper (refused 26 at) → Framed b paper × Branch b k start (take at paper) × (at < from)
+      there : PaperRow b paper (refusedAt 26 at) → Framed b paper × Branch b k start (take at paper) × (at < from)
       there (at-gap f e n) = let (h, p) = done-first f e in (f, p, omega arith)
 
   -- 27: none of these, so that the steps are one branch up to the witness, and the witness is wrong
-  pub refused-witness : (at : ℕ) → (checkOf book paper ≡ refused 27 at)
+  pub refused-witness : (at : ℕ) → (checkOf book paper ≡ refusedAt 27 at)
       ↔ (GoodBook book b × (Framed b paper × Branch b k start (take from paper) × WrongAt b paper from (witnessBytes paper) at))
   unfolding witnessVerdict
   refused-witness at = exactly (omega arith) there
       (λ (f, p, w). at-witness f (first-done f (omega arith) p) (wrong-list b paper from (witnessBytes paper) w))
     where
-      there : PaperRow b paper (refused 27 at)
+      there : PaperRow b paper (refusedAt 27 at)
           → Framed b paper × Branch b k start (take from paper) × WrongAt b paper from (witnessBytes paper) at
       there (at-witness f e w) = let (h, p) = done-first f e in (f, p, list-wrong b paper from (witnessBytes paper) w)

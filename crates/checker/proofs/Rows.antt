@@ -6,14 +6,16 @@ use mathlib.Core.List.{List}
 use Prim.Native.Nat.{ℕ, suc, _-_}
 use native.Mathlib.Omega.{arith}
 use lib.ListN.{length}
+use Rattle.meaning.specs.declared.AtomNo.{AtomNo}
 use Rattle.meaning.specs.Books.{Rule, Book}
 use Rattle.meaning.specs.Colours.{start}
+use Rattle.meaning.specs.Told.{Told, refusedAt}
 use Rattle.meaning.proofs.Choice.{lt-yes, lt-no, lt-either, eq-yes, eq-no, eq-either}
 use Rattle.book.specs.Format.{BookRead, good, bad, readOf, bookOf, bookIn}
 use Rattle.book.specs.Rows.{GoodBook}
 use Rattle.book.proofs.Refusals.{good-read, read-good}
-use Rattle.checker.specs.Numbers.{Told, certain, refused}
-use Rattle.checker.specs.Branches.{Walked, done, refusedAt, branchOf}
+use Rattle.checker.specs.Numbers.{certain}
+use Rattle.checker.specs.Branches.{Walked, done, wrongAt, branchOf}
 use Rattle.checker.specs.Witness.{Check, fine, wrong, witnessVerdict}
 use Rattle.checker.specs.Check.{witnessTold, branchTold, stepsTold, trailerTold, paperOf, checkRead, checkOf}
 use Rattle.checker.specs.Rows.{atomOf, countOf, startOf, claimOf, LengthGood, MarkGood, TrailerGood, AtomGood, Framed}
@@ -23,16 +25,16 @@ use Rattle.checker.proofs.Branches.{refused-between}
 abbrev pub walkOf : Book → List ℕ → Walked
 walkOf b s = branchOf (suc (startOf s)) b (claimOf s) s (startOf s) 0 start
 
-pub data PaperRow (b : Book) (s : List ℕ) : Told → Type 0 where
-  at-length : ¬ LengthGood s → PaperRow b s (refused 20 0)
-  at-mark : LengthGood s → ¬ MarkGood s → PaperRow b s (refused 21 (length s - 2))
-  at-trailer : LengthGood s → MarkGood s → ¬ TrailerGood s → PaperRow b s (refused 22 (length s - 4))
-  at-atom : LengthGood s → MarkGood s → TrailerGood s → ¬ AtomGood b s → PaperRow b s (refused 23 (length s - 6))
-  at-form : {at : ℕ} → Framed b s → walkOf b s ≡ refusedAt 24 at → PaperRow b s (refused 24 at)
-  at-step : {at : ℕ} → Framed b s → walkOf b s ≡ refusedAt 25 at → PaperRow b s (refused 25 at)
-  at-gap : {at : ℕ} → Framed b s → walkOf b s ≡ done at → ¬ (at ≡ startOf s) → PaperRow b s (refused 26 at)
+pub data PaperRow (b : Book) (s : List ℕ) : Told AtomNo → Type 0 where
+  at-length : ¬ LengthGood s → PaperRow b s (refusedAt 20 0)
+  at-mark : LengthGood s → ¬ MarkGood s → PaperRow b s (refusedAt 21 (length s - 2))
+  at-trailer : LengthGood s → MarkGood s → ¬ TrailerGood s → PaperRow b s (refusedAt 22 (length s - 4))
+  at-atom : LengthGood s → MarkGood s → TrailerGood s → ¬ AtomGood b s → PaperRow b s (refusedAt 23 (length s - 6))
+  at-form : {at : ℕ} → Framed b s → walkOf b s ≡ wrongAt 24 at → PaperRow b s (refusedAt 24 at)
+  at-step : {at : ℕ} → Framed b s → walkOf b s ≡ wrongAt 25 at → PaperRow b s (refusedAt 25 at)
+  at-gap : {at : ℕ} → Framed b s → walkOf b s ≡ done at → ¬ (at ≡ startOf s) → PaperRow b s (refusedAt 26 at)
   at-witness : {at : ℕ} → Framed b s → walkOf b s ≡ done (startOf s) → witnessVerdict b s (startOf s) (countOf s) ≡ wrong at
-      → PaperRow b s (refused 27 at)
+      → PaperRow b s (refusedAt 27 at)
   nowhere : Framed b s → walkOf b s ≡ done (startOf s) → witnessVerdict b s (startOf s) (countOf s) ≡ fine
       → PaperRow b s (certain (atomOf s))
 
@@ -49,7 +51,7 @@ module _ (b : Book) (s : List ℕ) where
   unfolding branchTold
   walk-row f (done at) e =
       eq-either (PaperRow b s) _ _ _ _ (λ p. witness-row f (rw p at e) _ refl) (λ n. at-gap f e n)
-  walk-row f (refusedAt i at) e =
+  walk-row f (wrongAt i at) e =
       ⊎-elim (λ (p : i ≡ 24). rw p (at-form f (rw p at e))) (λ (p : i ≡ 25). rw p (at-step f (rw p at e)))
       (refused-between b (claimOf s) s (startOf s) _ 0 start (omega arith) e .number)
 
@@ -63,7 +65,7 @@ module _ (b : Book) (s : List ℕ) where
       (λ e. eq-either P _ _ _ _ (λ f. marked size (record { first = e; second = f })) (λ f. at-mark size (λ m. f (m .second))))
       (λ e. at-mark size (λ m. e (m .first)))
     where
-      P : Told → Type 0
+      P : Told AtomNo → Type 0
       P = PaperRow b s
 
       marked : LengthGood s → MarkGood s → P (trailerTold b s (atomOf s) (countOf s) (startOf s))
@@ -83,47 +85,47 @@ module _ (b : Book) (s : List ℕ) where
   unfolding trailerTold stepsTold
   framed-told f e = marked-told (f .size) (f .mark) ∙ eq-yes _ _ _ _ (f .trailer) ∙ lt-yes _ _ _ _ (f .atom) ∙ rw e
 
-  pub row-told : {x : Told} → PaperRow b s x → paperOf b s ≡ x
+  pub row-told : {x : Told AtomNo} → PaperRow b s x → paperOf b s ≡ x
   unfolding paperOf trailerTold branchTold witnessTold
   row-told (at-length m) =
-      lt-either (λ x. x ≡ refused 20 0) _ _ _ _ (λ _. refl) λ h. lt-either (λ x. x ≡ refused 20 0) _ _ _ _ (λ _. refl)
+      lt-either (λ x. x ≡ refusedAt 20 0) _ _ _ _ (λ _. refl) λ h. lt-either (λ x. x ≡ refusedAt 20 0) _ _ _ _ (λ _. refl)
       λ k. absurd (m (record { at-least = h; at-most = k }))
   row-told (at-mark l m) =
-      let P : Told → Type 0 = λ x. x ≡ refused 21 (length s - 2) in
+      let P : Told AtomNo → Type 0 = λ x. x ≡ refusedAt 21 (length s - 2) in
       lt-no _ _ _ _ (l .at-least)
       ∙ lt-no _ _ _ _ (l .at-most)
       ∙ eq-either P _ _ _ _ (λ e. eq-either P _ _ _ _ (λ f. absurd (m (record { first = e; second = f }))) (λ _. refl)) (λ _. refl)
   row-told (at-trailer l m t) = marked-told l m ∙ eq-no _ _ _ _ t
   row-told (at-atom l m t a) =
-      marked-told l m ∙ eq-yes _ _ _ _ t ∙ lt-either (λ x. x ≡ refused 23 (length s - 6)) _ _ _ _ (λ h. absurd (a h)) (λ _. refl)
+      marked-told l m ∙ eq-yes _ _ _ _ t ∙ lt-either (λ x. x ≡ refusedAt 23 (length s - 6)) _ _ _ _ (λ h. absurd (a h)) (λ _. refl)
   row-told (at-form f e) = framed-told f e
   row-told (at-step f e) = framed-told f e
   row-told (at-gap f e n) = framed-told f e ∙ eq-no _ _ _ _ n
   row-told (at-witness f e w) = framed-told f e ∙ eq-yes _ _ _ _ refl ∙ rw w
   row-told (nowhere f e w) = framed-told f e ∙ eq-yes _ _ _ _ refl ∙ rw w
 
-  pub row-of : {x : Told} → paperOf b s ≡ x → PaperRow b s x
+  pub row-of : {x : Told AtomNo} → paperOf b s ≡ x → PaperRow b s x
   row-of e = subst (PaperRow b s) e paper-row
 
 -- ---- the book is refused, or the paper is checked
 
-pub data CheckRow (book paper : List ℕ) : Told → Type 0 where
-  at-book : {i at : ℕ} → readOf book ≡ bad i at → CheckRow book paper (refused i at)
-  at-paper : {x : Told} → GoodBook book (bookIn book) → PaperRow (bookIn book) paper x → CheckRow book paper x
+pub data CheckRow (book paper : List ℕ) : Told AtomNo → Type 0 where
+  at-book : {i at : ℕ} → readOf book ≡ bad i at → CheckRow book paper (refusedAt i at)
+  at-paper : {x : Told AtomNo} → GoodBook book (bookIn book) → PaperRow (bookIn book) paper x → CheckRow book paper x
 
 module _ (book paper : List ℕ) where
   checks-paper : {n k index : ℕ} {l : List Rule} → readOf book ≡ good n k index l → checkOf book paper ≡ paperOf (bookIn book) paper
   unfolding checkOf bookIn checkRead bookOf
   checks-paper e = rw e
 
-  pub row-checked : {x : Told} → CheckRow book paper x → checkOf book paper ≡ x
+  pub row-checked : {x : Told AtomNo} → CheckRow book paper x → checkOf book paper ≡ x
   unfolding checkOf checkRead
   row-checked (at-book e) = rw e
   row-checked (at-paper g r) = checks-paper (good-read book g) ∙ row-told (bookIn book) paper r
 
-  pub checked-row : {x : Told} → checkOf book paper ≡ x → CheckRow book paper x
+  pub checked-row : {x : Told AtomNo} → checkOf book paper ≡ x → CheckRow book paper x
   checked-row e = subst (CheckRow book paper) e (by-read (readOf book) refl)
     where
       by-read : (x : BookRead) → readOf book ≡ x → CheckRow book paper (checkOf book paper)
       by-read (good n k index l) r = at-paper (read-good book r) (row-of (bookIn book) paper (sym (checks-paper r)))
-      by-read (bad i at) r = let c : CheckRow book paper (refused i at) = at-book r in rw (row-checked c) c
+      by-read (bad i at) r = let c : CheckRow book paper (refusedAt i at) = at-book r in rw (row-checked c) c

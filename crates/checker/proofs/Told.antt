@@ -1,15 +1,16 @@
--- What is told of a check tells all of it: two answers told alike are equal, so that a promise in these terms determines the answer. The
--- answer is found again from what is told. Document 01, "What the promises say".
-use mathlib.Core.Path.{_≡_, refl, sym, _∙_, ap}
+-- What is told of a check tells all of it: two answers told alike are equal. Each answer is found again from what is told of it.
+use mathlib.Core.Path.{_≡_, refl}
 use mathlib.Core.List.{List, [], _∷_, _++_}
 use Prim.Native.Nat.{ℕ}
 use lib.ListN.{getD, replicate}
-use Rattle.meaning.specs.Books.{atomNo}
+use Rattle.meaning.specs.declared.AtomNo.{AtomNo}
+use Rattle.meaning.specs.Told.{Told}
+use Rattle.meaning.proofs.Told.{again, one-again}
 use Rattle.book.specs.declared.refusal.Refusal.the-variants.{Length as BookLength, Mark as BookMark, Trailer as BookTrailer, Entry}
 use Rattle.book.specs.declared.refusal.Refusal.the-variants.{Record, Atom as BookAtom, Order}
 use Rattle.checker.specs.declared.answer.Checked.{Checked}
 use Rattle.checker.specs.declared.answer.Checked.the-variants.{Certain, Book, Length, Mark, Trailer, Atom, Form, Fails, Gap, Witness}
-use Rattle.checker.specs.Numbers.{Told, certain, refused, told}
+use Rattle.checker.specs.Numbers.{told}
 
 -- 1 to 7, and 20 to 27; no answer is told as another number
 abbrev refusals : ℕ → List Checked
@@ -18,9 +19,8 @@ refusals at =
     ∷ Book (Order at) ∷ replicate 12 Length)
     ++ (Length ∷ Mark at ∷ Trailer at ∷ Atom at ∷ Form at ∷ Fails at ∷ Gap at ∷ Witness at ∷ [])
 
-abbrev checkedAt : Told → Checked
-checkedAt (certain a) = Certain (atomNo a)
-checkedAt (refused number at) = getD (refusals at) number Length
+abbrev checkedAt : Told AtomNo → Checked
+checkedAt = again Certain (λ values. Length) (λ number at. getD (refusals at) number Length) (λ number. Length)
 
 checked-again : (x : Checked) → checkedAt (told x) ≡ x
 checked-again (Certain a) = refl
@@ -41,4 +41,4 @@ checked-again (Gap at) = refl
 checked-again (Witness at) = refl
 
 pub told-one : (x y : Checked) → told x ≡ told y → x ≡ y
-told-one x y e = sym (checked-again x) ∙ ap checkedAt e ∙ checked-again y
+told-one = one-again told checkedAt checked-again

@@ -13,11 +13,11 @@ use Rattle.checker.specs.Steps.{Stepped, goes, parts, ends, fails, stepO
 -- a branch that ends before a place, or a refusal's number and place
 pub data Walked : Type 0 where
   done : ℕ → Walked
-  refusedAt : ℕ → ℕ → Walked
+  wrongAt : ℕ → ℕ → Walked
 
 unfoldable pub andThen : Walked → (ℕ → Walked) → Walked
 andThen (done at) f = f at
-andThen (refusedAt i at) f = refusedAt i at
+andThen (wrongAt i at) f = wrongAt i at
 
 -- what follows a step at byte `at` with the pair c, where `further` checks the branch at a place with a pair. The second branch of a
 -- split starts from the pair before it.
@@ -25,10 +25,10 @@ unfoldable pub afterStep : ℕ → Pair → Stepped → (ℕ → Pair → Walked
 afterStep at c (goes next d) further = further next d
 afterStep at c (parts next r) further = andThen (further next (put onSide (r ∷ []) c)) (λ m. further m (put offSide (r ∷ []) c))
 afterStep at c (ends next) further = done next
-afterStep at c (fails i) further = refusedAt i at
+afterStep at c (fails i) further = wrongAt i at
 
 unfoldable pub branchOf : ℕ → Book → Claim → List ℕ → ℕ → ℕ → Pair → Walked
-branchOf zero b k s from at c = refusedAt 24 at
+branchOf zero b k s from at c = wrongAt 24 at
 branchOf (suc f) b k s from at c = afterStep at c (stepOf b k s from at c) (λ next d. branchOf f b k s from next d)
 
 -- each step takes a byte at least, so more steps than bytes left are enough

@@ -1,22 +1,22 @@
 -- What checking tells. Document 01, "Numbers given back": "Acceptance tells the claimed atom."
-use Prim.Native.Nat.{ℕ}
+use Rattle.meaning.specs.declared.AtomNo.{AtomNo}
+use Rattle.meaning.specs.Told.{Told, success, refusedAt}
 use Rattle.book.specs.Numbers.{numberOf, placeOf}
 use Rattle.checker.specs.declared.answer.Checked.{Checked}
 use Rattle.checker.specs.declared.answer.Checked.the-variants.{Certain, Book, Length, Mark, Trailer, Atom, Form, Fails, Gap, Witness}
 
--- the atom that is certain, or a refusal's number and place
-pub data Told : Type 0 where
-  certain : ℕ → Told
-  refused : ℕ → ℕ → Told
+-- success tells the atom that is certain
+abbrev pub certain : AtomNo → Told AtomNo
+certain a = success a
 
-abbrev pub told : Checked → Told
-told (Certain a) = certain (a .0)
-told (Book f) = refused (numberOf f) (placeOf f)
-told Length = refused 20 0
-told (Mark at) = refused 21 at
-told (Trailer at) = refused 22 at
-told (Atom at) = refused 23 at
-told (Form at) = refused 24 at
-told (Fails at) = refused 25 at
-told (Gap at) = refused 26 at
-told (Witness at) = refused 27 at
+abbrev pub told : Checked → Told AtomNo
+told (Certain a) = certain a
+told (Book f) = refusedAt (numberOf f) (placeOf f)
+told Length = refusedAt 20 0
+told (Mark at) = refusedAt 21 at
+told (Trailer at) = refusedAt 22 at
+told (Atom at) = refusedAt 23 at
+told (Form at) = refusedAt 24 at
+told (Fails at) = refusedAt 25 at
+told (Gap at) = refusedAt 26 at
+told (Witness at) = refusedAt 27 at

@@ -30,7 +30,7 @@ use Rattle.checker.specs.declared.branch.Walked.the-variants.{Done, Form
 use Rattle.checker.specs.declared.witness.Verdict.{Verdict}
 use Rattle.checker.specs.declared.witness.Verdict.the-variants.{Right, Wrong}
 use Rattle.checker.specs.Steps.{Stepped, goes, parts, ends, fails, stepOf}
-use Rattle.checker.specs.Branches.{Walked, done, refusedAt}
+use Rattle.checker.specs.Branches.{Walked, done, wrongAt}
 use Rattle.checker.specs.Witness.{Check, fine, wrong}
 
 -- the rules that a list of m bytes names
@@ -86,12 +86,12 @@ pub record Runs (b : Book) (k : Claim) (s : List ℕ) (from at : ℕ) (c : Pair)
 
 abbrev pub walked : Branched → Walked
 walked (Done at) = done at
-walked (BadForm at) = refusedAt 24 at
-walked (BadFails at) = refusedAt 25 at
+walked (BadForm at) = wrongAt 24 at
+walked (BadFails at) = wrongAt 25 at
 
 pub data Ends (at from : ℕ) : Walked → Type 0 where
   past : {m : ℕ} → at < m → m ≤ from → Ends at from (done m)
-  refused : {i place : ℕ} → Ends at from (refusedAt i place)
+  refused : {i place : ℕ} → Ends at from (wrongAt i place)
 
 abbrev pub verdict : Verdict → Check
 verdict Right = fine

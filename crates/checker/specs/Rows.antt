@@ -11,6 +11,7 @@ use mathlib.Core.Bool.{Bool, true, false}
 use mathlib.Core.List.{List, [], _∷_, map, List·Memᴰ}
 use Prim.Native.Nat.{ℕ, _+_, _-_, _≤_, _<_}
 use lib.ListN.{length, getD, take, drop}
+use Rattle.meaning.specs.declared.AtomNo.{AtomNo}
 use Rattle.meaning.specs.declared.RuleNo.{RuleNo}
 use Rattle.meaning.specs.Sets.{ascending}
 use Rattle.meaning.specs.Books.{atomNo, ruleNo, Book, count, InBook}
@@ -23,8 +24,8 @@ use Rattle.checker.specs.Steps.{Stepped, goes, parts, ends}
 -- ---- the trailer
 
 -- "claimed atom, count w of witness rules, start of the witness (two bytes), then 50 46"
-abbrev pub atomOf : List ℕ → ℕ
-atomOf s = getD s (length s - 6) 0
+abbrev pub atomOf : List ℕ → AtomNo
+atomOf s = atomNo (getD s (length s - 6) 0)
 
 abbrev pub countOf : List ℕ → ℕ
 countOf s = getD s (length s - 5) 0
@@ -33,7 +34,7 @@ abbrev pub startOf : List ℕ → ℕ
 startOf s = u16At s (length s - 4)
 
 abbrev pub claimOf : List ℕ → Claim
-claimOf s = named (atomNo (atomOf s))
+claimOf s = named (atomOf s)
 
 abbrev pub witnessBytes : List ℕ → List ℕ
 witnessBytes s = take (countOf s) (drop (startOf s) s)
@@ -54,7 +55,7 @@ TrailerGood s = startOf s + countOf s + 6 ≡ length s
 
 -- 23: "claimed atom not below A"
 abbrev pub AtomGood : Book → List ℕ → Type 0
-AtomGood b s = atomOf s < b .atoms
+AtomGood b s = atomOf s .0 < b .atoms
 
 pub record Framed (b : Book) (s : List ℕ) : Type 0 where
   pub size : LengthGood s

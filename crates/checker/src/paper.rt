@@ -29,7 +29,7 @@ fn check_steps(book: &[u8], shape: Shape, paper: &[u8], trailer: Trailer) -> Che
         × (trailer .from + trailer .count + 6 ≡ length (now paper))
         × (length (now paper) ≤ 60000) ⌝ }
     ensures { λ r. ⌜ told r ≡ stepsTold (bookIn (now (book .entry))) (named (trailer .atom))
-        (now (paper .entry)) (trailer .atom .0) (trailer .count) (trailer .from) ⌝ }
+        (now (paper .entry)) (trailer .atom) (trailer .count) (trailer .from) ⌝ }
 {
     let atom = trailer.atom;
     match branch(book, shape, paper, trailer, 0, Colouring::empty()) {

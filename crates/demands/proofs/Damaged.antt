@@ -6,9 +6,11 @@ use mathlib.Core.List.{List}
 use Prim.Native.Nat.{ℕ, _≤_}
 use native.Mathlib.Omega.{arith}
 use lib.ListN.{length}
-use Rattle.meaning.specs.Books.{Book, atomNo}
+use Rattle.meaning.specs.declared.AtomNo.{AtomNo}
+use Rattle.meaning.specs.Books.{Book}
 use Rattle.meaning.specs.Claim.{named}
 use Rattle.meaning.specs.Paper.{Keeps}
+use Rattle.meaning.specs.Told.{Told, success, refusedWith, refusedAt, refused}
 use Rattle.book.specs.Format.{BookRead, good, bad, readOf, bookIn}
 use Rattle.book.specs.Rows.{Bytes}
 use Rattle.book.proofs.Records.{at-entry, at-record, at-atom, at-order}
@@ -16,7 +18,6 @@ use Rattle.book.proofs.Refusals.{BookRow, row-of, in-records, at-length as no-l
 use Rattle.book.proofs.Refusals.{refused-length, refused-mark, refused-trailer, refused-entry, refused-record, refused-atom, refused-order}
 use Rattle.book.proofs.Refusals.{accepted}
 pub use Rattle.book.proofs.Refusals.{good-read, good-is}
-use Rattle.checker.specs.Numbers.{Told, certain, refused}
 use Rattle.checker.specs.Check.{checkOf}
 use Rattle.checker.proofs.Rows.{CheckRow, at-book, at-paper, checked-row, row-checked}
 use Rattle.checker.proofs.Rows.{at-length, at-mark, at-trailer, at-form, at-step, at-gap, at-witness}
@@ -72,7 +73,7 @@ module _ (book paper : List ℕ) where
   Refuses : ℕ → ℕ → Type 0
   Refuses i at = DamagedBook book i at ⊎ ((b : Book) × GoodBook book b × DamagedPaper b paper i at)
 
-  refused-row : {i at : ℕ} → checkOf book paper ≡ refused i at → CheckRow book paper (refused i at) → Refuses i at
+  refused-row : {i at : ℕ} → checkOf book paper ≡ refusedAt i at → CheckRow book paper (refusedAt i at) → Refuses i at
   unfolding Refuses
   refused-row e (at-book p) = inl (bad-damaged book p)
   refused-row e (at-paper g (at-length l)) = inr (bookIn book, g, row-20 l)
@@ -88,7 +89,7 @@ module _ (book paper : List ℕ) where
   refused-row e (at-paper g (at-witness f w v)) =
       let (framed, p, l) = refused-witness book paper _ .0 e .1 in inr (bookIn book, g, row-27 framed p l)
 
-  damaged-row : {i at : ℕ} → GoodBook book (bookIn book) → DamagedPaper (bookIn book) paper i at → checkOf book paper ≡ refused i at
+  damaged-row : {i at : ℕ} → GoodBook book (bookIn book) → DamagedPaper (bookIn book) paper i at → checkOf book paper ≡ refusedAt i at
   damaged-row g (row-20 l) = paper-length book paper 0 .1 (g, (l, refl))
   damaged-row g (row-21 l m) = paper-mark book paper _ .1 (g, (l, m, refl))
   damaged-row g (row-22 l m t) = paper-trailer book paper _ .1 (g, (l, m, t, refl))
@@ -100,7 +101,7 @@ module _ (book paper : List ℕ) where
 
   -- checking refuses exactly the damaged: the book by its row, then the paper by its row
   pub check-refused : (i at : ℕ)
-      → (checkOf book paper ≡ refused i at) ↔ (DamagedBook book i at ⊎ ((b : Book) × GoodBook book b × DamagedPaper b paper i at))
+      → (checkOf book paper ≡ refusedAt i at) ↔ (DamagedBook book i at ⊎ ((b : Book) × GoodBook book b × DamagedPaper b paper i at))
   unfolding Refuses
   check-refused i at = (
     λ e. refused-row e (checked-row book paper e),
@@ -108,13 +109,22 @@ module _ (book paper : List ℕ) where
         (λ (b, g, p). damaged-row (rw (good-is book g) g) (rw (← good-is book g) at p)) d,
   )
 
+  -- every refusal of checking has a place
+  not-valued : {A : Type 0} {i : ℕ} {l : List ℕ} → CheckRow book paper (refusedWith i l) → A
+  not-valued (at-paper g r) = elim r [ ]
+
+  not-bare : {A : Type 0} {i : ℕ} → CheckRow book paper (refused i) → A
+  not-bare (at-paper g r) = elim r [ ]
+
   -- every paper for a good book keeps the printed rules, at no more than 60,000 bytes, or is damaged
   pub every-paper : Bytes paper → {b : Book} → GoodBook book b
-      → ((a : ℕ) × Keeps b (named (atomNo a)) paper × (length paper ≤ 60000)) ⊎ ((i : ℕ) × (at : ℕ) × DamagedPaper b paper i at)
+      → ((a : AtomNo) × Keeps b (named a) paper × (length paper ≤ 60000)) ⊎ ((i : ℕ) × (at : ℕ) × DamagedPaper b paper i at)
   every-paper bytes {b} g = go (checkOf book paper) refl
     where
-      go : (t : Told) → checkOf book paper ≡ t
-          → ((a : ℕ) × Keeps b (named (atomNo a)) paper × (length paper ≤ 60000)) ⊎ ((i : ℕ) × (at : ℕ) × DamagedPaper b paper i at)
-      go (certain a) e = let (h, k, l) = check-exact book paper bytes a .0 e in inl (a, rw (good-is book g) at k, l)
-      go (refused i at) e = ⊎-elim (not-both book g)
+      go : (t : Told AtomNo) → checkOf book paper ≡ t
+          → ((a : AtomNo) × Keeps b (named a) paper × (length paper ≤ 60000)) ⊎ ((i : ℕ) × (at : ℕ) × DamagedPaper b paper i at)
+      go (success a) e = let (h, k, l) = check-exact book paper bytes a .0 e in inl (a, rw (good-is book g) at k, l)
+      go (refusedAt i at) e = ⊎-elim (not-both book g)
           (λ (c, h, d). inr (i, at, rw (sym (good-is book h) ∙ good-is book g) at d)) (check-refused i at .0 e)
+      go (refusedWith i l) e = not-valued (checked-row book paper e)
+      go (refused i) e = not-bare (checked-row book paper e)

@@ -3,7 +3,7 @@
 -- Where a promise is an equation of the result itself, or of a buffer afterwards, there is nothing more to it than `equal-determined`. The
 -- answers of read_book, find, page, name and check are enums, and their promises speak of document 01's numbers and values; what is told
 -- of an answer tells all of it, so these are determined too. In a promise, r is the result and `after` the buffer afterwards.
-use mathlib.Core.Path.{_≡_, sym, _∙_, ap}
+use mathlib.Core.Path.{_≡_, sym, _∙_}
 use mathlib.Core.List.{List}
 use Prim.Native.Nat.{ℕ, suc, _-_}
 use native.Mathlib.Omega.{arith}
@@ -11,18 +11,20 @@ use Rattle.meaning.specs.declared.AtomNo.{AtomNo}
 use Rattle.meaning.specs.Books.{Book}
 use Rattle.meaning.specs.Colours.{Pair}
 use Rattle.meaning.specs.Claim.{Claim}
+use Rattle.meaning.specs.Told.{Answered}
+use Rattle.meaning.proofs.Told.{answered-one}
 use Rattle.book.specs.Format.{readOf, toldOf}
 use Rattle.book.specs.Numbers.{told as readTold}
 use Rattle.book.specs.declared.reader.Read.{Read}
 use Rattle.book.proofs.Told.{told-one as read-one}
-use Rattle.walk.specs.Find.{Answered as Found, findOf}
+use Rattle.walk.specs.Find.{findOf}
 use Rattle.walk.specs.Find.{told as findTold}
-use Rattle.walk.specs.Page.{Paged, pageOf}
+use Rattle.walk.specs.Page.{PageEnd, pageOf}
 use Rattle.walk.specs.Page.{told as pageTold}
 use Rattle.walk.specs.declared.kth.Found.{Found as FoundAnswer}
 use Rattle.walk.specs.declared.page_answer.Page.{Page}
 use Rattle.walk.proofs.Told.{found-one, page-one}
-use Rattle.writer.specs.Name.{Answered as Named, nameOf}
+use Rattle.writer.specs.Name.{Handed, nameOf}
 use Rattle.writer.specs.Name.{told as nameTold}
 use Rattle.writer.specs.declared.answer.Named.{Named as NamedAnswer}
 use Rattle.writer.proofs.Told.{told-one as named-one}
@@ -40,27 +42,24 @@ read-determined book r q p s = read-one r q (equal-determined p s)
 
 module _ (book : List ℕ) (k limit : ℕ) (answer : List ℕ) where
   abbrev FindPromise : FoundAnswer → List ℕ → Type 0
-  FindPromise r after = _≡_ {A = Found} (record { told = findTold r; buffer = after }) (findOf book k limit answer)
+  FindPromise r after = _≡_ {A = Answered ℕ} (record { told = findTold r; buffer = after }) (findOf book k limit answer)
 
   pub find-determined : (r q : FoundAnswer) (after other : List ℕ) → FindPromise r after → FindPromise q other → (r ≡ q) × (after ≡ other)
-  find-determined r q after other p s =
-      let e = equal-determined p s in (found-one r q (ap (λ (a : Found). a .told) e), ap (λ (a : Found). a .buffer) e)
+  find-determined r q after other p s = answered-one findTold found-one r q after other (equal-determined p s)
 
 module _ (book : List ℕ) (limit tries : ℕ) (last out : List ℕ) where
   abbrev PagePromise : Page → List ℕ → Type 0
-  PagePromise r after = _≡_ {A = Paged} (record { told = pageTold r; buffer = after }) (pageOf book limit tries last out)
+  PagePromise r after = _≡_ {A = Answered PageEnd} (record { told = pageTold r; buffer = after }) (pageOf book limit tries last out)
 
   pub page-determined : (r q : Page) (after other : List ℕ) → PagePromise r after → PagePromise q other → (r ≡ q) × (after ≡ other)
-  page-determined r q after other p s =
-      let e = equal-determined p s in (page-one r q (ap (λ (a : Paged). a .told) e), ap (λ (a : Paged). a .buffer) e)
+  page-determined r q after other p s = answered-one pageTold page-one r q after other (equal-determined p s)
 
 module _ (book : List ℕ) (atom : AtomNo) (limit : ℕ) (paper : List ℕ) where
   abbrev NamePromise : NamedAnswer → List ℕ → Type 0
-  NamePromise r after = _≡_ {A = Named} (record { told = nameTold r; buffer = after }) (nameOf book atom limit paper)
+  NamePromise r after = _≡_ {A = Answered Handed} (record { told = nameTold r; buffer = after }) (nameOf book atom limit paper)
 
   pub name-determined : (r q : NamedAnswer) (after other : List ℕ) → NamePromise r after → NamePromise q other → (r ≡ q) × (after ≡ other)
-  name-determined r q after other p s =
-      let e = equal-determined p s in (named-one r q (ap (λ (a : Named). a .told) e), ap (λ (a : Named). a .buffer) e)
+  name-determined r q after other p s = answered-one nameTold named-one r q after other (equal-determined p s)
 
 pub check-determined : (book paper : List ℕ) (r q : Checked) → checkTold r ≡ checkOf book paper → checkTold q ≡ checkOf book paper → r ≡ q
 check-determined book paper r q p s = checked-one r q (equal-determined p s)

@@ -1,6 +1,7 @@
 -- That this engine meets the demands, and what the demands rule out. Read in this order.
 pub mod Damaged
 pub mod Calls
+pub mod Books
 pub mod Ours1
 pub mod Ours2
 pub mod Once

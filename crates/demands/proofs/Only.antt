@@ -8,20 +8,21 @@ use Prim.Native.Nat.{ℕ, _-_, _≤_, _<_}
 use native.Mathlib.Omega.{arith}
 use lib.ListN.{length, getD, drop}
 use Rattle.meaning.specs.declared.AtomNo.{AtomNo}
-use Rattle.meaning.specs.Books.{Atoms, atomNo, Book}
+use Rattle.meaning.specs.Books.{Atoms, Book}
 use Rattle.meaning.specs.AnswerSet.{AnswerSet, Certain}
 use Rattle.meaning.specs.Claim.{named}
+use Rattle.meaning.specs.Told.{Told, refusedAt, refused, fewer, stopped, Answered}
 use Rattle.meaning.proofs.Tests.{lt-or-le}
 use Rattle.book.specs.Rows.{Bytes}
 use Rattle.walk.specs.Readings.{AllReadings}
 use Rattle.walk.specs.Tries.{Needs, to-reading, to-end}
 use Rattle.walk.specs.Run.{rowOf}
-use Rattle.walk.specs.Find.{Told, set, fewer, stopped, refusedAt, refused, Answered, findOf}
+use Rattle.walk.specs.Find.{set, findOf}
 use Rattle.walk.proofs.Run.{apart}
 use Rattle.walk.proofs.Needs.{needs-some}
 use Rattle.writer.specs.Needs.{paperFor}
-use Rattle.writer.specs.Name.{Told as NameTold, paper, fewer as nameFewer, stopped as nameStopped, refusedAt as unnamedAt}
-use Rattle.writer.specs.Name.{refused as unnamed, Answered as Named, nameOf}
+use Rattle.writer.specs.Name.{Handed, paper}
+use Rattle.writer.specs.Name.{nameOf}
 use Rattle.writer.proofs.Needs.{needs-some as paper-needs-some}
 use Rattle.writer.proofs.First.{kth-answer, fewer-none}
 use Rattle.checker.specs.Check.{checkOf}
@@ -40,11 +41,11 @@ use Rattle.demands.proofs.Ours3.{certain-or-not, ours-3}
 
 module _ (book : List ℕ) (bytes : Bytes book) (k limit : ℕ) (answer : List ℕ) where
   -- every engine that meets demands 1 and 2 answers this call so
-  Finds : Answered → Type 0
+  Finds : Answered ℕ → Type 0
   Finds a = (e : Engine) → Demand1 e → Demand2 e → e .find book k limit answer ≡ a
 
   -- the same told, and the buffer as it was
-  refuses : (t : Told) → ((u : ℕ) → t ≡ set u → ⊥) → ((e : Engine) → Demand1 e → Demand2 e → e .find book k limit answer .told ≡ t)
+  refuses : (t : Told ℕ) → ((u : ℕ) → t ≡ set u → ⊥) → ((e : Engine) → Demand1 e → Demand2 e → e .find book k limit answer .told ≡ t)
       → Finds (record { told = t; buffer = answer })
   unfolding Finds
   refuses t n f e p q =
@@ -61,7 +62,7 @@ module _ (book : List ℕ) (bytes : Bytes book) (k limit : ℕ) (answer : List �
         let there = row (λ a. false) in
         λ i. record { told = told i; buffer = there i }
 
-    call-found : (a : Answered) × Finds a
+    call-found : (a : Answered ℕ) × Finds a
     call-found =
         let (l, all, n, needs) = call-counts c in
         ⊎-elim (λ h. (_, refuses (stopped limit) (λ u z. apart (cc)) (λ e p q. q .stops book b k limit answer c .1 (n, needs, h))))
@@ -74,7 +75,7 @@ module _ (book : List ℕ) (bytes : Bytes book) (k limit : ℕ) (answer : List �
         (λ m. (_, gives all needs h m)) (lt-or-le (length l) k)) (lt-or-le limit n)
 
   module _ {b : Book} (g : GoodBook book b) where
-    good-found : (a : Answered) × Finds a
+    good-found : (a : Answered ℕ) × Finds a
     good-found = ⊎-elim
         (λ h. ⊎-elim
         (λ l. (_, refuses (refused 8) (λ u z. apart (cc)) (λ e p q. p .find-room book k limit answer .1 (b, g, h, l))))
@@ -82,7 +83,7 @@ module _ (book : List ℕ) (bytes : Bytes book) (k limit : ℕ) (answer : List �
         (λ h. (_, refuses (refused 15) (λ u z. apart (cc)) (λ e p q. p .find-number book k limit answer .1 (b, g, omega arith))))
         (lt-or-le 0 k)
 
-  found-one : (a : Answered) × Finds a
+  found-one : (a : Answered ℕ) × Finds a
   found-one = ⊎-elim (λ (b, g). good-found g)
       (λ (i, at, d). (_, refuses (refusedAt i at) (λ u z. apart (cc)) (λ e p q. p .find-book book k limit answer i at .1 d)))
       (every-book book)
@@ -94,10 +95,10 @@ module _ (book : List ℕ) (bytes : Bytes book) (k limit : ℕ) (answer : List �
 -- ---- naming
 
 module _ (book : List ℕ) (bytes : Bytes book) (a : AtomNo) (limit : ℕ) (buffer : List ℕ) where
-  Names : Named → Type 0
+  Names : Answered Handed → Type 0
   Names r = (e : Engine) → Demand1 e → Demand2 e → Demand3 e → e .name book a limit buffer ≡ r
 
-  leaves : (t : NameTold) → ((u n : ℕ) → t ≡ paper u n → ⊥)
+  leaves : (t : Told Handed) → ((u n : ℕ) → t ≡ paper u n → ⊥)
       → ((e : Engine) → Demand1 e → Demand2 e → Demand3 e → e .name book a limit buffer .told ≡ t)
       → Names (record { told = t; buffer = buffer })
   unfolding Names
@@ -120,26 +121,26 @@ module _ (book : List ℕ) (bytes : Bytes book) (a : AtomNo) (limit : ℕ) (buff
           λ i. record { told = told i; buffer = stands i }
 
       long : Certain b a → (length buffer < length (own x)) ⊎ (60000 < length (own x))
-          → Names (record { told = unnamed 14; buffer = buffer })
-      long t l = leaves (unnamed 14) (λ u n z. apart (cc)) (λ e p q r. r .tells-length book b a limit buffer c t x m w .1 l)
+          → Names (record { told = refused 14; buffer = buffer })
+      long t l = leaves (refused 14) (λ u n z. apart (cc)) (λ e p q r. r .tells-length book b a limit buffer c t x m w .1 l)
 
-      within-named : (r : Named) × Names r
+      within-named : (r : Answered Handed) × Names r
       within-named = ⊎-elim
           (λ t. ⊎-elim (λ l. (_, long t (inl l))) (λ l. ⊎-elim (λ h. (_, long t (inr h))) (λ h. (_, writes t l h))
           (lt-or-le 60000 (length (own x)))) (lt-or-le (length buffer) (length (own x))))
-          (λ u. (_, leaves (unnamed 12) (λ t n z. apart (cc)) (λ e p q r. r .tells-uncertain book b a limit buffer c x m w .1 u)))
+          (λ u. (_, leaves (refused 12) (λ t n z. apart (cc)) (λ e p q r. r .tells-uncertain book b a limit buffer c x m w .1 u)))
           (certain-or-not c (w .first))
 
-    call-named : (r : Named) × Names r
+    call-named : (r : Answered Handed) × Names r
     call-named = by (needs-some b 1 (omega arith) .1)
       where
         stops : {n : ℕ} → Needs b 1 n
             → (limit < n) ⊎ ((n ≤ limit) × ((x : Atoms) × AnswerSet b x) × (limit < paper-needs-some b (named a) .0))
-            → Names (record { told = nameStopped limit; buffer = buffer })
-        stops needs l = leaves (nameStopped limit) (λ u n z. apart (cc))
+            → Names (record { told = stopped limit; buffer = buffer })
+        stops needs l = leaves (stopped limit) (λ u n z. apart (cc))
             (λ e p q r. q .naming-stops book b a limit buffer c _ _ needs (paper-needs-some b (named a) .1) .1 l)
 
-        by : {n : ℕ} → Needs b 1 n → (r : Named) × Names r
+        by : {n : ℕ} → Needs b 1 n → (r : Answered Handed) × Names r
         by {n} (to-reading {x = x} first) = ⊎-elim (λ h. (_, stops (to-reading first) (inl h)))
             (λ h. let (m, needs) = paper-needs-some b (named a) in ⊎-elim
             (λ l. (_, stops (to-reading first) (inr (h, (x, kth-answer b (nameable c .few-rules) first), l))))
@@ -148,16 +149,16 @@ module _ (book : List ℕ) (bytes : Bytes book) (a : AtomNo) (limit : ℕ) (buff
         by {n} (to-end f) = ⊎-elim (λ h. (_, stops (to-end f) (inl h)))
             (λ h. (
               _,
-              leaves (nameFewer n 0) (λ u m z. apart (cc))
+              leaves (fewer n 0) (λ u m z. apart (cc))
                   (λ e p q r. q .naming-fewer book b a limit buffer c n (to-end f) h .1 (fewer-none b (nameable c .few-rules) f)),
             )) (lt-or-le limit n)
 
-  named-one : (r : Named) × Names r
+  named-one : (r : Answered Handed) × Names r
   named-one = ⊎-elim
       (λ (b, g). ⊎-elim (λ h. call-named (record { bytes = bytes; good-book = g; good-number = h }))
-      (λ h. (_, leaves (unnamed 13) (λ u n z. apart (cc)) (λ e p q r. p .name-atom book a limit buffer .1 (b, g, h))))
+      (λ h. (_, leaves (refused 13) (λ u n z. apart (cc)) (λ e p q r. p .name-atom book a limit buffer .1 (b, g, h))))
       (lt-or-le (a .0) (b .atoms)))
-      (λ (i, at, d). (_, leaves (unnamedAt i at) (λ u n z. apart (cc)) (λ e p q r. p .name-book book a limit buffer i at .1 d)))
+      (λ (i, at, d). (_, leaves (refusedAt i at) (λ u n z. apart (cc)) (λ e p q r. p .name-book book a limit buffer i at .1 d)))
       (every-book book)
 
   pub name-only : (e : Engine) → Demand1 e → Demand2 e → Demand3 e → e .name book a limit buffer ≡ nameOf book a limit buffer
@@ -169,7 +170,7 @@ module _ (book : List ℕ) (bytes : Bytes book) (a : AtomNo) (limit : ℕ) (buff
 pub check-only : (book s : List ℕ) → Bytes s → (e : Engine) → Demand1 e → Demand3 e → e .check book s ≡ checkOf book s
 check-only book s bytes e p r = ⊎-elim
     (λ (b, g). ⊎-elim
-    (λ (a, k, h). r .complete book s b (atomNo a) g k h ∙ sym (ours-3 .complete book s b (atomNo a) g k h))
+    (λ (a, k, h). r .complete book s b a g k h ∙ sym (ours-3 .complete book s b a g k h))
     (λ (i, at, d). both i at (inr (b, g, d))) (every-paper book s bytes g))
     (λ (i, at, d). both i at (inl d)) (every-book book)
   where

@@ -9,17 +9,18 @@ use lib.ListN.{length}
 use Rattle.meaning.specs.declared.AtomNo.{AtomNo}
 use Rattle.meaning.specs.Books.{Book}
 use Rattle.meaning.specs.Claim.{named, claimed}
+use Rattle.meaning.specs.Told.{Told, refusedAt, refused, fewer, stopped, Answered}
 use Rattle.meaning.proofs.Choice.{lt-yes, lt-no, lt-either, eq-yes, eq-no, eq-either}
 use Rattle.walk.specs.Run.{State}
-use Rattle.walk.specs.Find.{Told, set, fewer, stopped, refusedAt, refused, Answered, toldBy, findIn, findOf}
+use Rattle.walk.specs.Find.{set, toldBy, findIn, findOf}
 use Rattle.walk.specs.declared.tally.Halt.{Halt}
 use Rattle.walk.specs.declared.tally.Halt.the-variants.{Going, Full, Limit}
 use Rattle.walk.proofs.Run.{apart}
 use Rattle.walk.proofs.Demand.{find-bad-book}
 use Rattle.walk.proofs.Kept.{find-keeps}
 use Rattle.writer.specs.Scan.{Course, writing, limited, refuted, Progress}
-use Rattle.writer.specs.Name.{Told as NameTold, paper, fewer as nameFewer, stopped as nameStopped, refusedAt as nameRefusedAt}
-use Rattle.writer.specs.Name.{refused as nameRefused, Answered as Named, handOver, afterPaperWalk, afterFirstWalk, nameIn, nameOf}
+use Rattle.writer.specs.Name.{Handed, paper}
+use Rattle.writer.specs.Name.{handOver, afterPaperWalk, afterFirstWalk, nameIn, nameOf}
 use Rattle.writer.proofs.Stages.{name-bad-book, name-keeps-buffer}
 use Rattle.demands.specs.Engine.{ours}
 use Rattle.demands.specs.Damaged.{GoodBook, DamagedBook}
@@ -30,7 +31,7 @@ use Rattle.demands.proofs.Calls.{found-as, named-as}
 -- ---- finding
 
 -- what finding tells, and for the refusals why
-data Finds (k : ℕ) (room atoms : ℕ) : Told → Type 0 where
+data Finds (k : ℕ) (room atoms : ℕ) : Told ℕ → Type 0 where
   no-number : k ≡ 0 → Finds k room atoms (refused 15)
   no-room : 0 < k → room < atoms → Finds k room atoms (refused 8)
   found : {t : ℕ} → Finds k room atoms (set t)
@@ -38,7 +39,7 @@ data Finds (k : ℕ) (room atoms : ℕ) : Told → Type 0 where
   too-long : {l : ℕ} → Finds k room atoms (stopped l)
 
 module _ (b : Book) (k limit : ℕ) (answer : List ℕ) where
-  abbrev FindTells : Told → Type 0
+  abbrev FindTells : Told ℕ → Type 0
   FindTells = Finds k (length answer) (b .atoms)
 
   walk-tells : (h : Halt) (s : State) → FindTells (toldBy h s limit)
@@ -50,19 +51,19 @@ module _ (b : Book) (k limit : ℕ) (answer : List ℕ) where
   find-tells : FindTells (findIn b k limit answer .told)
   unfolding findIn
   find-tells =
-      let P : Answered → Type 0 = λ a. FindTells (a .told) in
+      let P : Answered ℕ → Type 0 = λ a. FindTells (a .told) in
       eq-either P _ _ _ _ no-number λ n. lt-either P _ _ _ _ (no-room (omega arith)) λ h. walk-tells _ _
 
 module _ (book : List ℕ) (k limit : ℕ) (answer : List ℕ) where
   bad-told : {i at : ℕ} → DamagedBook book i at → findOf book k limit answer .told ≡ refusedAt i at
-  bad-told d = ap (λ (a : Answered). a .told) (find-bad-book book k limit answer _ _ (damaged-bad book d))
+  bad-told d = ap (λ (a : Answered ℕ). a .told) (find-bad-book book k limit answer _ _ (damaged-bad book d))
 
   -- a refusal told of a book is a good book's or a damaged one's
-  find-cases : {t : Told} (A : Type 0) → findOf book k limit answer .told ≡ t
+  find-cases : {t : Told ℕ} (A : Type 0) → findOf book k limit answer .told ≡ t
       → ((b : Book) → GoodBook book b → Finds k (length answer) (b .atoms) t → A)
       → ((i at : ℕ) → DamagedBook book i at → refusedAt i at ≡ t → A) → A
   find-cases A e f g = ⊎-elim
-      (λ (b, h). f b h (subst (Finds k (length answer) (b .atoms)) (ap (λ (a : Answered). a .told) (sym (found-as h k limit answer)) ∙ e)
+      (λ (b, h). f b h (subst (Finds k (length answer) (b .atoms)) (ap (λ (a : Answered ℕ). a .told) (sym (found-as h k limit answer)) ∙ e)
       (find-tells b k limit answer)))
       (λ (i, at, d). g i at d (sym (bad-told d) ∙ e)) (every-book book)
 
@@ -80,7 +81,7 @@ module _ (book : List ℕ) (k limit : ℕ) (answer : List ℕ) where
   unfolding findIn
   find-zero = (
     λ e. find-cases ((b : Book) × GoodBook book b × (k ≡ 0)) e (λ b g w. (b, g, there w)) (λ i at d q. apart (cc)),
-    λ (b, g, e). ap (λ (a : Answered). a .told) (found-as g k limit answer ∙ eq-yes _ _ _ _ e),
+    λ (b, g, e). ap (λ (a : Answered ℕ). a .told) (found-as g k limit answer ∙ eq-yes _ _ _ _ e),
   )
     where
       there : {room atoms : ℕ} → Finds k room atoms (refused 15) → k ≡ 0
@@ -92,7 +93,7 @@ module _ (book : List ℕ) (k limit : ℕ) (answer : List ℕ) where
     λ e. find-cases ((b : Book) × GoodBook book b × (0 < k) × (length answer < b .atoms)) e
         (λ b g w. let (h, l) = there w in (b, g, h, l)) (λ i at d q. apart (cc)),
     λ (b, g, h, l).
-        ap (λ (a : Answered). a .told) (found-as g k limit answer ∙ eq-no _ _ _ _ (λ e. omega arith) ∙ lt-yes _ _ _ _ l),
+        ap (λ (a : Answered ℕ). a .told) (found-as g k limit answer ∙ eq-no _ _ _ _ (λ e. omega arith) ∙ lt-yes _ _ _ _ l),
   )
     where
       there : {room atoms : ℕ} → Finds k room atoms (refused 8) → (0 < k) × (room < atoms)
@@ -102,22 +103,22 @@ module _ (book : List ℕ) (k limit : ℕ) (answer : List ℕ) where
   find-buffer f = ⊎-elim
       (λ (b, g).
       let e = found-as g k limit answer in
-      ap (λ (a : Answered). a .buffer) e ∙ find-keeps b k limit answer (λ t p. f t (ap (λ (a : Answered). a .told) e ∙ p)))
-      (λ (i, at, d). ap (λ (a : Answered). a .buffer) (find-bad-book book k limit answer _ _ (damaged-bad book d))) (every-book book)
+      ap (λ (a : Answered ℕ). a .buffer) e ∙ find-keeps b k limit answer (λ t p. f t (ap (λ (a : Answered ℕ). a .told) e ∙ p)))
+      (λ (i, at, d). ap (λ (a : Answered ℕ). a .buffer) (find-bad-book book k limit answer _ _ (damaged-bad book d))) (every-book book)
 
 -- ---- naming
 
 -- what naming tells, and for 13 why
-data Names (atom atoms : ℕ) : NameTold → Type 0 where
-  no-atom : atoms ≤ atom → Names atom atoms (nameRefused 13)
-  open-branch : Names atom atoms (nameRefused 12)
-  passes-room : Names atom atoms (nameRefused 14)
+data Names (atom atoms : ℕ) : Told Handed → Type 0 where
+  no-atom : atoms ≤ atom → Names atom atoms (refused 13)
+  open-branch : Names atom atoms (refused 12)
+  passes-room : Names atom atoms (refused 14)
   written : {t n : ℕ} → Names atom atoms (paper t n)
-  none : {t n : ℕ} → Names atom atoms (nameFewer t n)
-  limit-met : {l : ℕ} → Names atom atoms (nameStopped l)
+  none : {t n : ℕ} → Names atom atoms (fewer t n)
+  limit-met : {l : ℕ} → Names atom atoms (stopped l)
 
 module _ (b : Book) (a : AtomNo) (limit : ℕ) (buffer : List ℕ) where
-  abbrev NameTells : Named → Type 0
+  abbrev NameTells : Answered Handed → Type 0
   NameTells m = Names (a .0) (b .atoms) (m .told)
 
   hand-tells : (tries : ℕ) (whole : List ℕ) → NameTells (handOver tries whole buffer)
@@ -141,35 +142,35 @@ module _ (b : Book) (a : AtomNo) (limit : ℕ) (buffer : List ℕ) where
   name-tells = lt-either NameTells _ _ _ _ (λ h. first-tells _ _) no-atom
 
 module _ (book : List ℕ) (a : AtomNo) (limit : ℕ) (buffer : List ℕ) where
-  bad-named : {i at : ℕ} → DamagedBook book i at → nameOf book a limit buffer .told ≡ nameRefusedAt i at
-  bad-named d = ap (λ (m : Named). m .told) (name-bad-book book a limit buffer _ _ (damaged-bad book d))
+  bad-named : {i at : ℕ} → DamagedBook book i at → nameOf book a limit buffer .told ≡ refusedAt i at
+  bad-named d = ap (λ (m : Answered Handed). m .told) (name-bad-book book a limit buffer _ _ (damaged-bad book d))
 
-  name-cases : {t : NameTold} (A : Type 0) → nameOf book a limit buffer .told ≡ t
+  name-cases : {t : Told Handed} (A : Type 0) → nameOf book a limit buffer .told ≡ t
       → ((b : Book) → GoodBook book b → Names (a .0) (b .atoms) t → A)
-      → ((i at : ℕ) → DamagedBook book i at → nameRefusedAt i at ≡ t → A) → A
+      → ((i at : ℕ) → DamagedBook book i at → refusedAt i at ≡ t → A) → A
   name-cases A e f g = ⊎-elim
-      (λ (b, h). f b h (subst (Names (a .0) (b .atoms)) (ap (λ (m : Named). m .told) (sym (named-as h a limit buffer)) ∙ e)
+      (λ (b, h). f b h (subst (Names (a .0) (b .atoms)) (ap (λ (m : Answered Handed). m .told) (sym (named-as h a limit buffer)) ∙ e)
       (name-tells b a limit buffer)))
       (λ (i, at, d). g i at d (sym (bad-named d) ∙ e)) (every-book book)
 
-  name-damaged : (i at : ℕ) → (nameOf book a limit buffer .told ≡ nameRefusedAt i at) ↔ DamagedBook book i at
+  name-damaged : (i at : ℕ) → (nameOf book a limit buffer .told ≡ refusedAt i at) ↔ DamagedBook book i at
   name-damaged i at = (
     λ e. name-cases (DamagedBook book i at) e (λ b g. never)
         (λ j p d q. let u : j ≡ i = cc in let v : p ≡ at = cc in rw (u, v) at d),
     bad-named,
   )
     where
-      never : {i at atom atoms : ℕ} {A : Type 0} → Names atom atoms (nameRefusedAt i at) → A
+      never : {i at atom atoms : ℕ} {A : Type 0} → Names atom atoms (refusedAt i at) → A
       never w = elim w [ ]
 
-  name-beyond : (nameOf book a limit buffer .told ≡ nameRefused 13) ↔ ((b : Book) × GoodBook book b × (b .atoms ≤ a .0))
+  name-beyond : (nameOf book a limit buffer .told ≡ refused 13) ↔ ((b : Book) × GoodBook book b × (b .atoms ≤ a .0))
   unfolding nameIn claimed
   name-beyond = (
     λ e. name-cases ((b : Book) × GoodBook book b × (b .atoms ≤ a .0)) e (λ b g w. (b, g, there w)) (λ i at d q. apart (cc)),
-    λ (b, g, h). ap (λ (m : Named). m .told) (named-as g a limit buffer ∙ lt-no _ _ _ _ h),
+    λ (b, g, h). ap (λ (m : Answered Handed). m .told) (named-as g a limit buffer ∙ lt-no _ _ _ _ h),
   )
     where
-      there : {atom atoms : ℕ} → Names atom atoms (nameRefused 13) → atoms ≤ atom
+      there : {atom atoms : ℕ} → Names atom atoms (refused 13) → atoms ≤ atom
       there (no-atom h) = h
 
 pub ours-1 : Demand1 ours

@@ -8,14 +8,15 @@ use lib.ListN.{length, getD, drop}
 use Rattle.meaning.specs.Books.{Atoms, Book}
 use Rattle.meaning.specs.Claim.{named}
 use Rattle.meaning.specs.Written.{nothing}
+use Rattle.meaning.specs.Told.{fewer, stopped, Answered}
 use Rattle.walk.specs.Events.{events}
 use Rattle.walk.specs.Readings.{readings}
 use Rattle.walk.specs.Tries.{Kth, Needs, to-reading, to-end}
 use Rattle.walk.specs.Run.{rowOf}
-use Rattle.walk.specs.Find.{set, fewer, stopped, Answered, findIn, findOf}
+use Rattle.walk.specs.Find.{set, findIn, findOf}
 use Rattle.walk.proofs.Needs.{kth-reading, needs-one}
 use Rattle.walk.proofs.Demand.{find-set, find-stopped, find-fewer, find-row}
-use Rattle.writer.specs.Name.{fewer as nameFewer, stopped as nameStopped, Answered as Named}
+use Rattle.writer.specs.Name.{Handed}
 use Rattle.writer.proofs.Naming.{name-stopped, name-none}
 use Rattle.demands.specs.Engine.{ours}
 use Rattle.demands.specs.Demand2.{Call, Demand2}
@@ -23,7 +24,7 @@ use Rattle.demands.proofs.Calls.{along, found-as, named-as, readings-sa
 
 module _ (book : List ℕ) (b : Book) (k limit : ℕ) (answer : List ℕ) (c : Call book b k answer) where
   told-as : findOf book k limit answer .told ≡ findIn b k limit answer .told
-  told-as = ap (λ (a : Answered). a .told) (found-as (c .good-book) k limit answer)
+  told-as = ap (λ (a : Answered ℕ). a .told) (found-as (c .good-book) k limit answer)
 
   -- the k-th reading, met at try n
   kth-given : {n : ℕ} {x : Atoms} → Kth b k n x → n ≤ limit
@@ -32,7 +33,7 @@ module _ (book : List ℕ) (b : Book) (k limit : ℕ) (answer : List ℕ) (c : C
   kth-given {n} {x} first h =
       let e = find-set b k limit answer (c .good-number) (c .good-room) n .1 (x, first, h) in (
         told-as ∙ e,
-        λ z. ap (λ (a : Answered). a .buffer) (found-as (c .good-book) k limit answer)
+        λ z. ap (λ (a : Answered ℕ). a .buffer) (found-as (c .good-book) k limit answer)
             ∙ find-row b k limit answer n x e first
             ∙ ap (λ (y : Atoms). rowOf b y ++ drop (b .atoms) answer) (sym (kth-reading b first z)),
       )
@@ -62,9 +63,9 @@ ours-2 = record {
   tells-fewer = λ book b k limit answer c l all n needs h.
       rw (readings-same (c .good-book) (c .bytes) all) (fewer-told book b k limit answer c needs h);
   naming-stops = λ book b a limit buffer c n m needs paper.
-      along (nameStopped limit) (ap (λ (x : Named). x .told) (named-as (c .good-book) a limit buffer))
+      along (stopped limit) (ap (λ (x : Answered Handed). x .told) (named-as (c .good-book) a limit buffer))
       (name-stopped b (named a) limit buffer (nameable c) needs paper);
   naming-fewer = λ book b a limit buffer c n needs h.
-      along (nameFewer n 0) (ap (λ (x : Named). x .told) (named-as (c .good-book) a limit buffer))
+      along (fewer n 0) (ap (λ (x : Answered Handed). x .told) (named-as (c .good-book) a limit buffer))
       (name-none b (named a) limit buffer (nameable c) needs h);
 }

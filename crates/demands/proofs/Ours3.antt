@@ -15,6 +15,7 @@ use Rattle.meaning.specs.AnswerSet.{AnswerSet, Throughout, Certain}
 use Rattle.meaning.specs.Colours.{start}
 use Rattle.meaning.specs.Claim.{named, meant}
 use Rattle.meaning.specs.Paper.{Keeps}
+use Rattle.meaning.specs.Told.{Told, refusedAt, refused, fewer, Answered}
 use Rattle.meaning.proofs.Tests.{decided, clash, lt-or-le}
 use Rattle.meaning.proofs.Claim.{named-certain}
 use Rattle.book.specs.Format.{bookIn}
@@ -22,7 +23,7 @@ use Rattle.book.specs.Rows.{Bytes}
 use Rattle.walk.specs.Tries.{Kth, to-reading}
 use Rattle.writer.specs.Branches.{branches}
 use Rattle.writer.specs.Needs.{settled, Stuck, to-stuck, to-end, paperFor}
-use Rattle.writer.specs.Name.{Told, paper, fewer, refusedAt, refused, Answered, nameIn, nameOf}
+use Rattle.writer.specs.Name.{Handed, paper, nameIn, nameOf}
 use Rattle.writer.proofs.Needs.{stuck-some, needs-one}
 use Rattle.writer.proofs.Papers.{settled-each, unsettled-one, certain-settled}
 use Rattle.writer.proofs.First.{kth-answer}
@@ -47,7 +48,7 @@ check-accepts-sound : Sound ours
 check-accepts-sound book s a e =
     let (p, g) = row (checked-row book s e) in (p, (bookIn book, g, check-sound book s e))
   where
-    row : {a : ℕ} → CheckRow book s (certain a) → (a ≡ atomOf s) × GoodBook book (bookIn book)
+    row : {a : AtomNo} → CheckRow book s (certain a) → (a ≡ atomOf s) × GoodBook book (bookIn book)
     row (at-paper g (nowhere f w v)) = (refl, g)
 
 check-accepts-all : Complete ours
@@ -97,13 +98,13 @@ module _ (book : List ℕ) (b : Book) (a : AtomNo) (limit : ℕ) (buffer : List 
         let l = w .paper-within in
         let (e, k) = name-writes b (named a) limit buffer good (throughout t) (w .first) (w .first-within) (omega arith) room most in (
           k,
-          ap (λ (r : Answered). r .told) (as-named ∙ e) ∙ ap (λ (i : ℕ). paper i (length (paperFor b (named a) x))) n,
-          ap (λ (r : Answered). r .buffer) (as-named ∙ e),
+          ap (λ (r : Answered Handed). r .told) (as-named ∙ e) ∙ ap (λ (i : ℕ). paper i (length (paperFor b (named a) x))) n,
+          ap (λ (r : Answered Handed). r .buffer) (as-named ∙ e),
         )
 
     tells-length : Certain b a → (nameOf book a limit buffer .told ≡ refused 14)
         ↔ ((length buffer < length (paperFor b (named a) x)) ⊎ (60000 < length (paperFor b (named a) x)))
-    tells-length t = along (refused 14) (ap (λ (r : Answered). r .told) as-named)
+    tells-length t = along (refused 14) (ap (λ (r : Answered Handed). r .told) as-named)
         (name-too-long b (named a) limit buffer good (to-reading (w .first)) (w .first-within) (x, first-answer) (w .needs)
         (w .paper-within) (certain-settled b (named a) (good .few-rules) (throughout t)) (w .first))
 
@@ -114,25 +115,25 @@ module _ (book : List ℕ) (b : Book) (a : AtomNo) (limit : ℕ) (buffer : List 
         (decided (every settled (branches b (named a) start)))
 
     tells-uncertain : (nameOf book a limit buffer .told ≡ refused 12) ↔ (Certain b a → ⊥)
-    tells-uncertain = along (refused 12) (ap (λ (r : Answered). r .told) as-named) (
+    tells-uncertain = along (refused 12) (ap (λ (r : Answered Handed). r .told) as-named) (
       λ e t. let (y, answer, n) = name-lacks b (named a) limit buffer good e in clash (throughout t .each y answer) n,
       λ u. name-not-certain b (named a) limit buffer good (to-reading (w .first)) (w .first-within) (x, first-answer) (w .needs)
           (w .paper-within) .1 (stuck-uncertain u),
     )
 
 -- answers to calls with a good book and an atom of it
-pub data GoodNaming : Told → Type 0 where
+pub data GoodNaming : Told Handed → Type 0 where
   told-paper : {t n : ℕ} → GoodNaming (paper t n)
   told-none : {t n : ℕ} → GoodNaming (fewer t n)
 
 -- a call that we answer so has them
-pub naming-of : (book : List ℕ) → Bytes book → (a : AtomNo) (limit : ℕ) (buffer : List ℕ) {t : Told}
+pub naming-of : (book : List ℕ) → Bytes book → (a : AtomNo) (limit : ℕ) (buffer : List ℕ) {t : Told Handed}
     → GoodNaming t → nameOf book a limit buffer .told ≡ t → (b : Book) × Naming book b a
 naming-of book bytes a limit buffer w told = ⊎-elim
     (λ (b, g). (b, record { bytes = bytes; good-book = g; good-number = below b g }))
     (λ (i, at, d). not-placed (other (ours-1 .name-book book a limit buffer i at .1 d))) (every-book book)
   where
-    other : {u : Told} → nameOf book a limit buffer .told ≡ u → GoodNaming u
+    other : {u : Told Handed} → nameOf book a limit buffer .told ≡ u → GoodNaming u
     other p = subst GoodNaming (sym told ∙ p) w
 
     not-placed : {A : Type 0} {i at : ℕ} → GoodNaming (refusedAt i at) → A
@@ -149,9 +150,9 @@ writes-only : WritesOnly ours
 writes-only book bytes a limit buffer t n e =
     let (b, c) = naming-of book bytes a limit buffer told-paper e in
     let same = as-named book b a limit buffer c in
-    let told = ap (λ (r : Answered). r .told) (sym same) ∙ e in
+    let told = ap (λ (r : Answered Handed). r .told) (sym same) ∙ e in
     let (x, answer, p, size, room, most, stands, k) = name-written b (named a) limit buffer (nameable c) told in
-    let there = ap (λ (r : Answered). r .buffer) same ∙ stands in
+    let there = ap (λ (r : Answered Handed). r .buffer) same ∙ stands in
     let front : take n (nameOf book a limit buffer .buffer) ≡ paperFor b (named a) x =
     ap (take n) there ∙ take-at (paperFor b (named a) x) _ n (sym size) in
     (b, c .good-book, most, room, rw front k, ap (drop n) there ∙ drop-at (paperFor b (named a) x) _ n (sym size))
@@ -170,11 +171,11 @@ ours-3 = record {
 
 -- whatever engine meets demand 3: the paper that it tells is accepted by its own checker
 pub paper-accepted : {e : Engine} → Demand3 e → (book : List ℕ) → Bytes book → (a : AtomNo) (limit : ℕ) (buffer : List ℕ) (t n : ℕ)
-    → e .name book a limit buffer .told ≡ paper t n → e .check book (take n (e .name book a limit buffer .buffer)) ≡ certain (a .0)
+    → e .name book a limit buffer .told ≡ paper t n → e .check book (take n (e .name book a limit buffer .buffer)) ≡ certain a
 paper-accepted {e} d book bytes a limit buffer t n told =
     let (b, g, most, room, k, later) = d .writes-only book bytes a limit buffer t n told in
     d .complete book _ b a g k (simp length-take (omega arith))
 
 pub our-paper-accepted : (book : List ℕ) → Bytes book → (a : AtomNo) (limit : ℕ) (buffer : List ℕ) (t n : ℕ)
-    → nameOf book a limit buffer .told ≡ paper t n → checkOf book (take n (nameOf book a limit buffer .buffer)) ≡ certain (a .0)
+    → nameOf book a limit buffer .told ≡ paper t n → checkOf book (take n (nameOf book a limit buffer .buffer)) ≡ certain a
 our-paper-accepted = paper-accepted ours-3

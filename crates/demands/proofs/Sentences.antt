@@ -12,21 +12,22 @@ use lib.ListN.{length}
 use borrow.Author.Tests.{ltb-true}
 use Rattle.meaning.specs.declared.AtomNo.{AtomNo}
 use Rattle.meaning.specs.Sets.{every}
-use Rattle.meaning.specs.Books.{Atoms, atomNo, Book}
+use Rattle.meaning.specs.Books.{Atoms, Book}
 use Rattle.meaning.specs.Claim.{named}
 use Rattle.meaning.specs.Written.{nothing}
+use Rattle.meaning.specs.Told.{Told, refusedAt, refused, fewer, stopped, Answered}
 use Rattle.meaning.proofs.Tests.{left, right, lt-or-le}
 use Rattle.book.specs.Format.{bookIn}
 use Rattle.book.specs.Rows.{Bytes}
 use Rattle.walk.specs.Events.{events}
 use Rattle.walk.specs.Readings.{readings}
 use Rattle.walk.specs.Tries.{to-reading, to-end as to-last}
-use Rattle.walk.specs.Find.{Told, set, fewer, stopped, refusedAt, refused, Answered, findOf}
+use Rattle.walk.specs.Find.{set, findOf}
 use Rattle.walk.proofs.Run.{apart}
 use Rattle.walk.proofs.Needs.{kth-count}
 use Rattle.walk.proofs.Demand.{find-set}
 use Rattle.writer.specs.Needs.{to-end, paperFor}
-use Rattle.writer.specs.Name.{paper, fewer as nameFewer, Answered as Named, nameOf}
+use Rattle.writer.specs.Name.{Handed, paper, nameOf}
 use Rattle.writer.proofs.First.{fewer-none}
 use Rattle.writer.proofs.Ways.{Found, Settled, Outcome, first-stopped, no-reading, paper-stopped, got-stuck, too-long, handed-over}
 use Rattle.writer.proofs.Ways.{name-outcome}
@@ -51,14 +52,14 @@ bytes-of (x ∷ l) e (suc i) = bytes-of l (right (ltb x 256) _ e) i
 -- ---- finding
 
 -- the answers to good calls
-pub data Good : Told → Type 0 where
+pub data Good : Told ℕ → Type 0 where
   good-set : {t : ℕ} → Good (set t)
   good-fewer : {t n : ℕ} → Good (fewer t n)
   good-stop : {l : ℕ} → Good (stopped l)
 
 module _ (book : List ℕ) (bytes : Bytes book) (k limit : ℕ) (answer : List ℕ) where
   -- a call that we answer so is good
-  call-of : {t : Told} → Good t → findOf book k limit answer .told ≡ t → (b : Book) × Call book b k answer
+  call-of : {t : Told ℕ} → Good t → findOf book k limit answer .told ≡ t → (b : Book) × Call book b k answer
   call-of {t} w e = ⊎-elim
       (λ (b, g). (
         b,
@@ -74,7 +75,7 @@ module _ (book : List ℕ) (bytes : Bytes book) (k limit : ℕ) (answer : List �
       ))
       (λ (i, at, d). not-placed (other (ours-1 .find-book book k limit answer i at .1 d))) (every-book book)
     where
-      other : {u : Told} → findOf book k limit answer .told ≡ u → Good u
+      other : {u : Told ℕ} → findOf book k limit answer .told ≡ u → Good u
       other p = subst Good (sym e ∙ p) w
 
       not-placed : {A : Type 0} {i at : ℕ} → Good (refusedAt i at) → A
@@ -88,7 +89,7 @@ module _ (book : List ℕ) (bytes : Bytes book) (k limit : ℕ) (answer : List �
   given-as-ours e gives {t} told =
       let (b, c) = call-of good-set told in
       let g = c .good-book in
-      let ours-told = ap (λ (a : Answered). a .told) (sym (found-as g k limit answer)) ∙ told in
+      let ours-told = ap (λ (a : Answered ℕ). a .told) (sym (found-as g k limit answer)) ∙ told in
       let (x, kth, h) = find-set b k limit answer (c .good-number) (c .good-room) t .0 ours-told in
       let all = readings-there g bytes in
       let n = to-reading kth in
@@ -98,7 +99,7 @@ module _ (book : List ℕ) (bytes : Bytes book) (k limit : ℕ) (answer : List �
       let same-told = p ∙ sym u in let same-row = q x ∙ sym (v x) in
       λ i. record { told = same-told i; buffer = same-row i }
 
-  pub stops-as-ours : (e : Engine) → Stops e → {t : Told} → Good t → findOf book k limit answer .told ≡ t
+  pub stops-as-ours : (e : Engine) → Stops e → {t : Told ℕ} → Good t → findOf book k limit answer .told ≡ t
       → (e .find book k limit answer .told ≡ stopped limit) ↔ (findOf book k limit answer .told ≡ stopped limit)
   stops-as-ours e stops w told =
       let (b, c) = call-of w told in
@@ -121,15 +122,15 @@ module _ (book : List ℕ) (bytes : Bytes book) (k limit : ℕ) (answer : List �
 -- ---- checking
 
 module _ (book s : List ℕ) (bytes : Bytes s) where
-  pub accepts-as-ours : (e : Engine) → Complete e → (a : ℕ) → checkOf book s ≡ certain a → e .check book s ≡ certain a
+  pub accepts-as-ours : (e : Engine) → Complete e → (a : AtomNo) → checkOf book s ≡ certain a → e .check book s ≡ certain a
   accepts-as-ours e complete a told =
       let (g, k, h) = check-exact book s bytes a .0 told in
-      complete book s (bookIn book) (atomNo a) g k h
+      complete book s (bookIn book) a g k h
 
 -- ---- naming
 
 -- our walks were within the limit where a paper was told, and all branches are settled
-handed : {b : Book} {a : AtomNo} {limit : ℕ} {buffer : List ℕ} {r : Named} → Outcome b (named a) limit buffer r
+handed : {b : Book} {a : AtomNo} {limit : ℕ} {buffer : List ℕ} {r : Answered Handed} → Outcome b (named a) limit buffer r
     → {t n : ℕ} → r .told ≡ paper t n
     → (x : Atoms) × Found b limit x × Settled b (named a) limit × (length (paperFor b (named a) x) ≤ length buffer)
     × (length (paperFor b (named a) x) ≤ 60000)
@@ -141,8 +142,8 @@ handed (too-long f s l) e = apart (cc)
 handed (handed-over {x} f s h l) e = (x, f, s, h, l)
 
 -- where fewer was told, there is no reading, and the whole walk was within the limit
-none : {b : Book} {a : AtomNo} {limit : ℕ} {buffer : List ℕ} {r : Named} → Outcome b (named a) limit buffer r
-    → {t n : ℕ} → r .told ≡ nameFewer t n → (length (readings b) < 1) × (length (events b nothing) ≤ limit)
+none : {b : Book} {a : AtomNo} {limit : ℕ} {buffer : List ℕ} {r : Answered Handed} → Outcome b (named a) limit buffer r
+    → {t n : ℕ} → r .told ≡ fewer t n → (length (readings b) < 1) × (length (events b nothing) ≤ limit)
 none (first-stopped p h) e = apart (cc)
 none (no-reading h l) e = (h, l)
 none (paper-stopped f p h) e = apart (cc)
@@ -151,11 +152,11 @@ none (too-long f s l) e = apart (cc)
 none (handed-over f s h l) e = apart (cc)
 
 module _ (book : List ℕ) (bytes : Bytes book) (a : AtomNo) (limit : ℕ) (buffer : List ℕ) where
-  pub unnamed-as-ours : (e : Engine) → NamingFewer e → {t n : ℕ} → nameOf book a limit buffer .told ≡ nameFewer t n
-      → e .name book a limit buffer .told ≡ nameFewer t n
+  pub unnamed-as-ours : (e : Engine) → NamingFewer e → {t n : ℕ} → nameOf book a limit buffer .told ≡ fewer t n
+      → e .name book a limit buffer .told ≡ fewer t n
   unnamed-as-ours e tells told =
       let (b, c) = naming-of book bytes a limit buffer told-none told in
-      let in-book = ap (λ (r : Named). r .told) (sym (named-as (c .good-book) a limit buffer)) ∙ told in
+      let in-book = ap (λ (r : Answered Handed). r .told) (sym (named-as (c .good-book) a limit buffer)) ∙ told in
       let (few, within) = none (name-outcome b (named a) limit buffer (nameable c)) in-book in
       let lacks = fewer-none b (nameable c .few-rules) few in
       tells book b a limit buffer c _ (to-last few) within .1 lacks
@@ -165,7 +166,7 @@ module _ (book : List ℕ) (bytes : Bytes book) (a : AtomNo) (limit : ℕ) (buff
       → e .name book a limit buffer ≡ nameOf book a limit buffer
   written-as-ours e writes {t} told =
       let (b, c) = naming-of book bytes a limit buffer told-paper told in
-      let in-book = ap (λ (r : Named). r .told) (sym (named-as (c .good-book) a limit buffer)) ∙ told in
+      let in-book = ap (λ (r : Answered Handed). r .told) (sym (named-as (c .good-book) a limit buffer)) ∙ told in
       let (x, (i, first, h), (all, m), room, most) = handed (name-outcome b (named a) limit buffer (nameable c)) in-book in
       let w : InLimit b a limit x _ =
       record { tries = i; first = first; first-within = h; needs = to-end all; paper-within = m } in

@@ -12,6 +12,7 @@ use Rattle.meaning.specs.Colours.{put, heads, allIn, mayOn, blocked, clashing, 
 use Rattle.meaning.specs.Claim.{shown, ended}
 use Rattle.meaning.specs.Paper.{unfounded, fails}
 use Rattle.meaning.specs.Choice.{ifb, ifLt, ifEq}
+use Rattle.meaning.specs.Told.{refusedAt, refused}
 use Rattle.meaning.proofs.Tests.{clash}
 use Rattle.meaning.proofs.Readings.{atomsOf}
 use Rattle.meaning.proofs.Cases.{circular-readings, choice-readings}
@@ -22,8 +23,8 @@ use Rattle.book.specs.Format.{u16At, partOf, bytesOf, recordOf, lengthOf, ruleO
 use Rattle.book.specs.Format.{andThen as recordsThen, bookOf, bookIn}
 use Rattle.book.specs.Rows.{Bytes}
 use Rattle.walk.specs.Find.{set, findOf}
-use Rattle.writer.specs.Name.{paper, refused as unnamed, nameOf}
-use Rattle.checker.specs.Numbers.{certain, refused}
+use Rattle.writer.specs.Name.{paper, nameOf}
+use Rattle.checker.specs.Numbers.{certain}
 use Rattle.checker.specs.Steps.{withRule, properList, withList, stepBy, stepOf}
 use Rattle.checker.specs.Branches.{andThen, afterStep, branchOf}
 use Rattle.checker.specs.Witness.{andThen as witnessThen, follows, orderOf, blockedOf, restFails, listOf, witnessVerdict}
@@ -59,7 +60,7 @@ circular-uncertain g c = let (x, answer) = c .one in clash (c .each x answer) (m
 
 -- no paper is accepted for a book without an answer set, by any checker of which demand 3's first half holds
 pub none-certain : (e : Engine) → Sound e → (book : List ℕ) → ((b : Book) → GoodBook book b → (x : Atoms) → AnswerSet b x → ⊥)
-    → (s : List ℕ) (a : ℕ) → e .check book s ≡ certain a → ⊥
+    → (s : List ℕ) (a : AtomNo) → e .check book s ≡ certain a → ⊥
 none-certain e sound book none s a told = let (p, (b, g, c)) = sound book s a told in nothing-certain b (none b g) c
 
 -- ---- "A name taken from the first answer set."
@@ -72,7 +73,7 @@ told-certain e only book bytes a limit buffer t n told =
 
 -- so 0 is not named in "0 if not 1; 1 if not 0", where the first answer set has it and the second has not
 pub first-set-names-nobody : (findOf choice 1 1000 (sevens 3) ≡ record { told = set 2; buffer = 1 ∷ 0 ∷ sevens 1 })
-    × (nameOf choice (atomNo 0) 1000 (sevens 12) ≡ record { told = unnamed 12; buffer = sevens 12 })
+    × (nameOf choice (atomNo 0) 1000 (sevens 12) ≡ record { told = refused 12; buffer = sevens 12 })
 unfolding At Holds
 first-set-names-nobody = (row 8, row 11)
 
@@ -86,8 +87,8 @@ choice-uncertain g c =
 -- ---- "The second branch of a split starting from what the first had added."
 -- ---- "Listing a rule under 55 because its negative atoms block it."
 
-pub slips-refused : (checkOf choice carriedPaper ≡ refused 25 3) × (checkOf barredBook barredPaper ≡ refused 25 2)
-    × (checkOf barredBook blockedPaper ≡ certain 0)
+pub slips-refused : (checkOf choice carriedPaper ≡ refusedAt 25 3) × (checkOf barredBook barredPaper ≡ refusedAt 25 2)
+    × (checkOf barredBook blockedPaper ≡ certain (atomNo 0))
 unfolding checkOf checkRead paperOf trailerTold stepsTold branchTold witnessTold
     witnessVerdict listOf restFails blockedOf orderOf follows witnessThen
     branchOf afterStep andThen stepOf stepBy withList properList withRule

@@ -10,13 +10,15 @@ use lib.ListN.{getD}
 use Rattle.meaning.specs.declared.AtomNo.{AtomNo}
 use Rattle.meaning.specs.Sets.{every}
 use Rattle.meaning.specs.Books.{atomNo, Book}
+use Rattle.meaning.specs.Told.{Told, fewer, stopped, Answered}
 use Rattle.meaning.proofs.Tests.{lt-or-le}
+use Rattle.meaning.proofs.Told.{success-one}
 use Rattle.book.specs.Rows.{Bytes}
-use Rattle.walk.specs.Find.{Told, Answered as Found, set, fewer, stopped, findOf}
+use Rattle.walk.specs.Find.{set, findOf}
 use Rattle.walk.specs.Tries.{Needs}
 use Rattle.walk.proofs.Run.{apart}
 use Rattle.walk.proofs.Needs.{needs-one}
-use Rattle.writer.specs.Name.{Answered as Named, paper, fewer as nameFewer, nameOf}
+use Rattle.writer.specs.Name.{Handed, paper, nameOf}
 use Rattle.checker.specs.Numbers.{certain}
 use Rattle.checker.specs.Check.{checkOf}
 use Rattle.demands.specs.Engine.{Engine}
@@ -24,16 +26,16 @@ use Rattle.demands.specs.Demand2.{Call, GivesReadings, Stops, TellsFewer
 use Rattle.demands.specs.Demand3.{Complete, Writes}
 use Rattle.demands.specs.Printed.{fact, factPaper, choice}
 use Rattle.demands.specs.Worked.{Holds, sevens}
-use Rattle.demands.specs.Useless.{Excuse, at-limit, too-few, by-number, by-place, findExcuse, nameExcuse, refusesAll, sameSet}
+use Rattle.demands.specs.Useless.{Excuse, at-limit, too-few, by-number, by-place, excused, refusesAll, sameSet}
 use Rattle.demands.specs.Useless.{NeverFinds, NeverNames, NeverAccepts, doesNothing, withTries, inventsTries}
 use Rattle.demands.proofs.Worked.{At, row}
 use Rattle.demands.proofs.Sentences.{bytes-of, good-set, good-stop, given-as-ours, stops-as-ours, fewer-as-ours, accepts-as-ours}
 use Rattle.demands.proofs.Sentences.{unnamed-as-ours, written-as-ours}
 
-abbrev told : Found → Told
+abbrev told : Answered ℕ → Told ℕ
 told a = a .told
 
-abbrev first-byte : Found → ℕ
+abbrev first-byte : Answered ℕ → ℕ
 first-byte a = getD (a .buffer) 0 0
 
 -- ---- our answers, from the table
@@ -54,7 +56,7 @@ fact-named : nameOf fact (atomNo 0) 1000 (sevens 12) ≡ record { told = paper 1
 unfolding At Holds
 fact-named = row 3
 
-fact-checked : checkOf fact factPaper ≡ certain 0
+fact-checked : checkOf fact factPaper ≡ certain (atomNo 0)
 unfolding At Holds
 fact-checked = row 4
 
@@ -90,12 +92,13 @@ module _ (e : Engine) where
       let t = ap told fact-found in
       let q = stops-as-ours fact fact-bytes 1 1000 (sevens 2) e s good-set t .0 p in apart (cc)
 
-  accepts-fact : Complete e → e .check fact factPaper ≡ certain 0
+  accepts-fact : Complete e → e .check fact factPaper ≡ certain (atomNo 0)
   unfolding every
-  accepts-fact s = accepts-as-ours fact factPaper (bytes-of factPaper refl) e s 0 fact-checked
+  accepts-fact s = accepts-as-ours fact factPaper (bytes-of factPaper refl) e s (atomNo 0) fact-checked
 
   writes-fact : Writes e → e .name fact (atomNo 0) 1000 (sevens 12) ≡ record { told = paper 1 10; buffer = factPaper ++ sevens 2 }
-  writes-fact s = written-as-ours fact fact-bytes (atomNo 0) 1000 (sevens 12) e s (ap (λ (r : Named). r .told) fact-named) ∙ fact-named
+  writes-fact s =
+      written-as-ours fact fact-bytes (atomNo 0) 1000 (sevens 12) e s (ap (λ (r : Answered Handed). r .told) fact-named) ∙ fact-named
 
 -- ---- "One refuses each call: demand 2's "exactly" and demand 3's last two sentences stop it."
 
@@ -104,22 +107,22 @@ module _ (e : Engine) where
   never-finds-fails never s = never fact 1 1000 (sevens 2) 1 (ap told (gives-fact e s))
 
   pub never-names-fails : NeverNames e → Writes e → ⊥
-  never-names-fails never s = never fact (atomNo 0) 1000 (sevens 12) 1 10 (ap (λ (r : Named). r .told) (writes-fact e s))
+  never-names-fails never s = never fact (atomNo 0) 1000 (sevens 12) 1 10 (ap (λ (r : Answered Handed). r .told) (writes-fact e s))
 
   pub never-accepts-fails : NeverAccepts e → Complete e → ⊥
-  never-accepts-fails never s = never fact factPaper 0 (accepts-fact e s)
+  never-accepts-fails never s = never fact factPaper (atomNo 0) (accepts-fact e s)
 
 -- with one and the same excuse, it does not stop as demand 2 says either
 module _ (i at : ℕ) where
   refuses-all-stops : (w : Excuse) → Stops (refusesAll w i at) → ⊥
-  unfolding findExcuse
+  unfolding excused
   refuses-all-stops at-limit s = goes-on-fact (refusesAll at-limit i at) s refl
   refuses-all-stops (too-few t n) s = let e = stops-fact (refusesAll (too-few t n) i at) s in apart (cc)
   refuses-all-stops (by-number j) s = let e = stops-fact (refusesAll (by-number j) i at) s in apart (cc)
   refuses-all-stops (by-place j p) s = let e = stops-fact (refusesAll (by-place j p) i at) s in apart (cc)
 
   refuses-all-names : (w : Excuse) → NeverNames (refusesAll w i at)
-  unfolding nameExcuse
+  unfolding excused
   refuses-all-names at-limit book a limit buffer t n e = apart (cc)
   refuses-all-names (too-few u m) book a limit buffer t n e = apart (cc)
   refuses-all-names (by-number j) book a limit buffer t n e = apart (cc)
@@ -135,7 +138,7 @@ module _ (i at : ℕ) where
 
 -- ---- "One gives the same answer set": demand 2
 
-pub same-set-fails : (f : List ℕ → ℕ → List ℕ → Found) → GivesReadings (sameSet f) → ⊥
+pub same-set-fails : (f : List ℕ → ℕ → List ℕ → Answered ℕ) → GivesReadings (sameSet f) → ⊥
 same-set-fails f s =
     let p = ap first-byte (gives-first (sameSet f) s) in let q = ap first-byte (gives-second (sameSet f) s) in absurd (omega arith)
 
@@ -144,7 +147,7 @@ same-set-fails f s =
 pub does-nothing-fails : (e : Engine) → (GivesReadings (doesNothing e) → ⊥) × (Writes (doesNothing e) → ⊥)
 does-nothing-fails e = (
   λ s. let p = ap first-byte (gives-fact (doesNothing e) s) in absurd (omega arith),
-  λ s. let p = ap (λ (r : Named). getD (r .buffer) 0 0) (writes-fact (doesNothing e) s) in absurd (omega arith),
+  λ s. let p = ap (λ (r : Answered Handed). getD (r .buffer) 0 0) (writes-fact (doesNothing e) s) in absurd (omega arith),
 )
 
 -- ---- "One invents tries: the count is that of the fixed walk, on which demand 2's limit rests."
@@ -171,10 +174,12 @@ module _ (e : Engine) (book : List ℕ) (bytes : Bytes book) (limit : ℕ) where
   module _ (a : AtomNo) (buffer : List ℕ) where
     pub paper-tries-ours : Writes e → {t n u m : ℕ} → nameOf book a limit buffer .told ≡ paper t n
         → e .name book a limit buffer .told ≡ paper u m → u ≡ t
-    paper-tries-ours s p q = let same = ap (λ (r : Named). r .told) (written-as-ours book bytes a limit buffer e s p) in cc
+    paper-tries-ours s p q =
+        let same = ap (λ (r : Answered Handed). r .told) (written-as-ours book bytes a limit buffer e s p) in
+        ap (λ (h : Handed). h .tries) (success-one (sym q ∙ same ∙ p))
 
-    pub unnamed-tries-ours : NamingFewer e → {t n u m : ℕ} → nameOf book a limit buffer .told ≡ nameFewer t n
-        → e .name book a limit buffer .told ≡ nameFewer u m → u ≡ t
+    pub unnamed-tries-ours : NamingFewer e → {t n u m : ℕ} → nameOf book a limit buffer .told ≡ fewer t n
+        → e .name book a limit buffer .told ≡ fewer u m → u ≡ t
     unnamed-tries-ours s p q = let same = unnamed-as-ours book bytes a limit buffer e s p in cc
 
 -- whatever an engine counts for the limit: if it stops exactly when its count passes the limit, its count is the tries of the fixed walk

@@ -2,21 +2,24 @@
 -- checkers that accept a paper without a look at each branch. At "0 if not 1; 1 if not 0" and at "0 if 1; 1 if 0".
 use mathlib.Core.Path.{_≡_, refl, sym, _∙_, ap}
 use mathlib.Core.List.{_∷_}
+use Prim.Native.Nat.{ℕ}
 use native.Mathlib.Omega.{arith}
 use lib.ListN.{getD}
+use Rattle.meaning.specs.declared.AtomNo.{AtomNo}
 use Rattle.meaning.specs.Sets.{every, some, everyBelow, someBelow}
-use Rattle.meaning.specs.Books.{sameAtom, sameRule, count, rule, everyRule, someRule}
+use Rattle.meaning.specs.Books.{atomNo, sameAtom, sameRule, count, rule, everyRule, someRule}
 use Rattle.meaning.specs.Colours.{put, heads, allIn, mayOn, blocked, starved, clashing, uncoloured}
 use Rattle.meaning.specs.Claim.{shown, ended}
 use Rattle.meaning.specs.Paper.{fails}
 use Rattle.meaning.specs.Written.{of, addFrom, added}
 use Rattle.meaning.specs.Computed.{iterate, upheld, supportMore, support, goesOff, closeMore, marked, close}
 use Rattle.meaning.specs.Choice.{ifb, ifLt, ifEq}
+use Rattle.meaning.specs.Told.{Told, refusedAt, Answered}
 use Rattle.book.specs.Format.{u16At, partOf, bytesOf, recordOf, lengthOf, ruleOf, recordsOf, rulesOf, ifFine, bodyOf, readOf}
 use Rattle.book.specs.Format.{andThen as recordsThen, bookOf, bookIn}
 use Rattle.walk.specs.Run.{rowFrom, rowOf, writeAt}
-use Rattle.walk.specs.Find.{Answered as Found, set}
-use Rattle.checker.specs.Numbers.{Told, certain, refused}
+use Rattle.walk.specs.Find.{set}
+use Rattle.checker.specs.Numbers.{certain}
 use Rattle.checker.specs.Steps.{withRule, stepBy, stepOf}
 use Rattle.checker.specs.Branches.{andThen}
 use Rattle.checker.specs.Witness.{andThen as witnessThen, follows, orderOf, blockedOf, restFails, listOf, witnessVerdict}
@@ -33,15 +36,16 @@ use Rattle.demands.proofs.Useless.{gives-first}
 
 -- ---- "One gives the same answer set or always accepts: demand 2, and demand 3's first half."
 
-circular-refused : checkOf circular circularPaper ≡ refused 25 0
+circular-refused : checkOf circular circularPaper ≡ refusedAt 25 0
 unfolding At Holds
 circular-refused = row 16
 
 pub always-accepts-fails : Sound alwaysAccepts → ⊥
 unfolding formFirst ifLt ifb
 always-accepts-fails sound =
-    let told : alwaysAccepts .check circular circularPaper ≡ certain 0 = ap (λ (t : Told). formFirst t (certain 0)) circular-refused in
-    let (p, (b, g, c)) = sound circular circularPaper 0 told in
+    let told : alwaysAccepts .check circular circularPaper ≡ certain (atomNo 0) =
+    ap (λ (t : Told AtomNo). formFirst t (certain (atomNo 0))) circular-refused in
+    let (p, (b, g, c)) = sound circular circularPaper (atomNo 0) told in
     circular-uncertain g c
 
 -- ---- "One closes once and calls the rest off, or checks only the first branch: the same two."
@@ -55,10 +59,10 @@ once-choice = refl
 
 pub closes-once-fails : GivesReadings closesOnce → ⊥
 closes-once-fails gives =
-    let p = ap (λ (a : Found). getD (a .buffer) 0 0) (sym once-choice ∙ gives-first closesOnce gives) in absurd (omega arith)
+    let p = ap (λ (a : Answered ℕ). getD (a .buffer) 0 0) (sym once-choice ∙ gives-first closesOnce gives) in absurd (omega arith)
 
 -- it accepts a paper whose second branch does not hold
-first-accepts : firstBranch .check choice carriedPaper ≡ certain 0
+first-accepts : firstBranch .check choice carriedPaper ≡ certain (atomNo 0)
 unfolding formFirst branchTold witnessTold witnessVerdict listOf restFails blockedOf orderOf follows witnessThen
     firstOf afterFirst skipOf andThen stepOf stepBy withRule bookIn bookOf
     readOf bodyOf ifFine recordsOf rulesOf ruleOf lengthOf recordOf bytesOf partOf recordsThen u16At
@@ -68,4 +72,4 @@ first-accepts = rw (slips-refused .0)
 
 pub first-branch-fails : Sound firstBranch → ⊥
 first-branch-fails sound =
-    let (p, (b, g, c)) = sound choice carriedPaper 0 first-accepts in choice-uncertain g c
+    let (p, (b, g, c)) = sound choice carriedPaper (atomNo 0) first-accepts in choice-uncertain g c

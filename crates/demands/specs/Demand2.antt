@@ -19,13 +19,13 @@ use Rattle.meaning.specs.declared.AtomNo.{AtomNo}
 use Rattle.meaning.specs.Books.{Atoms, Book}
 use Rattle.meaning.specs.AnswerSet.{AnswerSet}
 use Rattle.meaning.specs.Claim.{named}
+use Rattle.meaning.specs.Told.{fewer, stopped}
 use Rattle.book.specs.Rows.{Bytes}
 use Rattle.walk.specs.Readings.{AllReadings}
 use Rattle.walk.specs.Tries.{Needs}
 use Rattle.walk.specs.Run.{rowOf}
-use Rattle.walk.specs.Find.{set, fewer, stopped}
+use Rattle.walk.specs.Find.{set}
 use Rattle.writer.specs.Needs.{Needs as PaperNeeds}
-use Rattle.writer.specs.Name.{fewer as unnamedFewer, stopped as unnamedStopped}
 use Rattle.demands.specs.Engine.{Engine}
 use Rattle.demands.specs.Damaged.{GoodBook}
 
@@ -64,13 +64,13 @@ TellsFewer e = (book : List ℕ) (b : Book) (k limit : ℕ) (answer : List ℕ) 
 abbrev pub NamingStops : Engine → Type 0
 NamingStops e = (book : List ℕ) (b : Book) (a : AtomNo) (limit : ℕ) (buffer : List ℕ) → Naming book b a
     → (n m : ℕ) → Needs b 1 n → PaperNeeds b (named a) m
-    → (e .name book a limit buffer .told ≡ unnamedStopped limit)
+    → (e .name book a limit buffer .told ≡ stopped limit)
     ↔ ((limit < n) ⊎ ((n ≤ limit) × ((x : Atoms) × AnswerSet b x) × (limit < m)))
 
 abbrev pub NamingFewer : Engine → Type 0
 NamingFewer e = (book : List ℕ) (b : Book) (a : AtomNo) (limit : ℕ) (buffer : List ℕ) → Naming book b a
     → (n : ℕ) → Needs b 1 n → n ≤ limit
-    → (e .name book a limit buffer .told ≡ unnamedFewer n 0) ↔ ((x : Atoms) → AnswerSet b x → ⊥)
+    → (e .name book a limit buffer .told ≡ fewer n 0) ↔ ((x : Atoms) → AnswerSet b x → ⊥)
 
 pub record Demand2 (e : Engine) : Type 0 where
   pub gives-readings : GivesReadings e

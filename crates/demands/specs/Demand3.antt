@@ -13,14 +13,15 @@ use mathlib.Core.Logic.{_⊎_, _↔_}
 use Prim.Native.Nat.{ℕ, _≤_, _<_}
 use lib.ListN.{length, take, drop}
 use Rattle.meaning.specs.declared.AtomNo.{AtomNo}
-use Rattle.meaning.specs.Books.{Atoms, atomNo, Book}
+use Rattle.meaning.specs.Books.{Atoms, Book}
 use Rattle.meaning.specs.AnswerSet.{Certain}
 use Rattle.meaning.specs.Claim.{named}
 use Rattle.meaning.specs.Paper.{Keeps}
+use Rattle.meaning.specs.Told.{refused}
 use Rattle.book.specs.Rows.{Bytes}
 use Rattle.walk.specs.Tries.{Kth}
 use Rattle.writer.specs.Needs.{Needs, paperFor}
-use Rattle.writer.specs.Name.{paper, refused}
+use Rattle.writer.specs.Name.{paper}
 use Rattle.checker.specs.Numbers.{certain}
 use Rattle.checker.specs.Rows.{atomOf}
 use Rattle.demands.specs.Engine.{Engine}
@@ -29,13 +30,13 @@ use Rattle.demands.specs.Demand2.{Naming}
 
 -- "If it accepts, then, whoever wrote the paper, the book has an answer set and the atom is in all of them": the atom that the paper names
 abbrev pub Sound : Engine → Type 0
-Sound e = (book s : List ℕ) (a : ℕ) → e .check book s ≡ certain a
-    → (a ≡ atomOf s) × ((b : Book) × GoodBook book b × Certain b (atomNo a))
+Sound e = (book s : List ℕ) (a : AtomNo) → e .check book s ≡ certain a
+    → (a ≡ atomOf s) × ((b : Book) × GoodBook book b × Certain b a)
 
 -- "Every paper that keeps the printed rules and is at most 60,000 bytes is accepted."
 abbrev pub Complete : Engine → Type 0
 Complete e = (book s : List ℕ) (b : Book) (a : AtomNo) → GoodBook book b → Keeps b (named a) s → length s ≤ 60000
-    → e .check book s ≡ certain (a .0)
+    → e .check book s ≡ certain a
 
 pub record InLimit (b : Book) (a : AtomNo) (limit : ℕ) (x : Atoms) (m : ℕ) : Type 0 where
   pub tries : ℕ

@@ -8,15 +8,15 @@
 use mathlib.Core.List.{List}
 use Prim.Native.Nat.{ℕ}
 use Rattle.meaning.specs.declared.AtomNo.{AtomNo}
-use Rattle.walk.specs.Find.{Answered as Found, findOf}
-use Rattle.writer.specs.Name.{Answered as Named, nameOf}
-use Rattle.checker.specs.Numbers.{Told as Checked}
+use Rattle.meaning.specs.Told.{Told, Answered}
+use Rattle.walk.specs.Find.{findOf}
+use Rattle.writer.specs.Name.{Handed, nameOf}
 use Rattle.checker.specs.Check.{checkOf}
 
 pub record Engine : Type 0 where
-  pub find : List ℕ → ℕ → ℕ → List ℕ → Found
-  pub name : List ℕ → AtomNo → ℕ → List ℕ → Named
-  pub check : List ℕ → List ℕ → Checked
+  pub find : List ℕ → ℕ → ℕ → List ℕ → Answered ℕ
+  pub name : List ℕ → AtomNo → ℕ → List ℕ → Answered Handed
+  pub check : List ℕ → List ℕ → Told AtomNo
 
 abbrev pub ours : Engine
 ours = record { find = findOf; name = nameOf; check = checkOf }

@@ -26,18 +26,16 @@ use Rattle.meaning.specs.Paper.{codeOn, codeOff, codeUnfounded, codeSplit, code
 use Rattle.meaning.specs.Written.{nothing, pair}
 use Rattle.meaning.specs.Computed.{close}
 use Rattle.meaning.specs.Choice.{ifb, ifLt, ifEq}
+use Rattle.meaning.specs.Told.{Told, success, refusedWith, refusedAt, refused, fewer, stopped, Answered}
 use Rattle.book.specs.Format.{BookRead, good, bad, readOf, bookIn}
 use Rattle.walk.specs.Readings.{readingOf}
 use Rattle.walk.specs.Run.{rowOf, writeAt}
-use Rattle.walk.specs.Find.{set, refusedWith, fewer, stopped, refusedAt, refused, findOf}
-use Rattle.walk.specs.Find.{Told as FindTold, Answered as Found}
-use Rattle.writer.specs.Name.{Told as NameTold, paper, nameOf}
-use Rattle.writer.specs.Name.{fewer as nameFewer, stopped as nameStopped, refusedAt as unnamedAt, refused as unnamed}
+use Rattle.walk.specs.Find.{set, findOf}
+use Rattle.writer.specs.Name.{paper, nameOf}
 use Rattle.checker.specs.Numbers.{certain}
-use Rattle.checker.specs.Numbers.{Told as CheckTold, refused as unchecked}
 use Rattle.checker.specs.Steps.{Stepped, goes, parts, ends, fails, stepOf}
 use Rattle.checker.specs.Branches.{Walked, done, andThen}
-use Rattle.checker.specs.Branches.{refusedAt as stops}
+use Rattle.checker.specs.Branches.{wrongAt}
 use Rattle.checker.specs.Check.{branchTold, checkOf}
 use Rattle.checker.specs.Rows.{atomOf, countOf, startOf, claimOf}
 use Rattle.demands.specs.Engine.{Engine}
@@ -51,23 +49,17 @@ pub data Excuse : Type 0 where
   by-number : ℕ → Excuse
   by-place : ℕ → ℕ → Excuse
 
-unfoldable pub findExcuse : Excuse → ℕ → FindTold
-findExcuse at-limit limit = stopped limit
-findExcuse (too-few t n) limit = fewer t n
-findExcuse (by-number i) limit = refused i
-findExcuse (by-place i at) limit = refusedAt i at
-
-unfoldable pub nameExcuse : Excuse → ℕ → NameTold
-nameExcuse at-limit limit = nameStopped limit
-nameExcuse (too-few t n) limit = nameFewer t n
-nameExcuse (by-number i) limit = unnamed i
-nameExcuse (by-place i at) limit = unnamedAt i at
+unfoldable pub excused : {S : Type 0} → Excuse → ℕ → Told S
+excused at-limit limit = stopped limit
+excused (too-few t n) limit = fewer t n
+excused (by-number i) limit = refused i
+excused (by-place i at) limit = refusedAt i at
 
 abbrev pub refusesAll : Excuse → ℕ → ℕ → Engine
 refusesAll w i at = record {
-  find = λ book k limit answer. record { told = findExcuse w limit; buffer = answer };
-  name = λ book a limit buffer. record { told = nameExcuse w limit; buffer = buffer };
-  check = λ book s. unchecked i at;
+  find = λ book k limit answer. record { told = excused w limit; buffer = answer };
+  name = λ book a limit buffer. record { told = excused w limit; buffer = buffer };
+  check = λ book s. refusedAt i at;
 }
 
 abbrev pub NeverFinds : Engine → Type 0
@@ -77,17 +69,19 @@ abbrev pub NeverNames : Engine → Type 0
 NeverNames e = (book : List ℕ) (a : AtomNo) (limit : ℕ) (buffer : List ℕ) (t n : ℕ) → e .name book a limit buffer .told ≡ paper t n → ⊥
 
 abbrev pub NeverAccepts : Engine → Type 0
-NeverAccepts e = (book s : List ℕ) (a : ℕ) → e .check book s ≡ certain a → ⊥
+NeverAccepts e = (book s : List ℕ) (a : AtomNo) → e .check book s ≡ certain a → ⊥
 
 -- ---- gives the same answer set, or always accepts
 
-abbrev pub sameSet : (List ℕ → ℕ → List ℕ → Found) → Engine
+abbrev pub sameSet : (List ℕ → ℕ → List ℕ → Answered ℕ) → Engine
 sameSet f = record { find = λ book k limit answer. f book limit answer; name = nameOf; check = checkOf }
 
 -- our own refusals by 1 to 23, otherwise the answer t
-unfoldable pub formFirst : CheckTold → CheckTold → CheckTold
-formFirst (certain a) t = t
-formFirst (unchecked i at) t = ifLt i 24 (unchecked i at) t
+unfoldable pub formFirst : Told AtomNo → Told AtomNo → Told AtomNo
+formFirst (success a) t = t
+formFirst (refusedWith i l) t = t
+formFirst (refusedAt i at) t = ifLt i 24 (refusedAt i at) t
+formFirst (refused i) t = t
 
 abbrev pub alwaysAccepts : Engine
 alwaysAccepts = record { find = findOf; name = nameOf; check = λ book s. formFirst (checkOf book s) (certain (atomOf s)) }
@@ -95,12 +89,12 @@ alwaysAccepts = record { find = findOf; name = nameOf; check = λ book s. formFi
 -- ---- closes once and calls the rest off, or checks only the first branch
 
 -- the pair d of the first closing, with all that has no colour off, is taken for the only reading
-unfoldable pub onceIn : Book → Colouring → ℕ → List ℕ → Found
+unfoldable pub onceIn : Book → Colouring → ℕ → List ℕ → Answered ℕ
 onceIn b d k answer =
     ifb (clashing b (pair d)) (record { told = fewer 1 0; buffer = answer })
     (ifEq k 1 (record { told = set 1; buffer = writeAt 0 (rowOf b (readingOf b d)) answer }) (record { told = fewer 1 1; buffer = answer }))
 
-unfoldable pub onceOf : BookRead → ℕ → ℕ → List ℕ → Found
+unfoldable pub onceOf : BookRead → ℕ → ℕ → List ℕ → Answered ℕ
 onceOf (good n r index l) k limit answer =
     let b : Book = record { atoms = n; rules = l } in
     ifEq k 0 (record { told = refused 15; buffer = answer })
@@ -113,22 +107,22 @@ closesOnce = record { find = λ book k limit answer. onceOf (readOf book) k limi
 
 -- the end of the branch at byte `at`, by the codes of its steps alone
 unfoldable pub skipOf : ℕ → List ℕ → ℕ → Walked
-skipOf zero s at = stops 24 at
+skipOf zero s at = wrongAt 24 at
 skipOf (suc f) s at =
     ifEq (getD s at 0) codeEnd (done (at + 1))
     (ifEq (getD s at 0) codeSplit (andThen (skipOf f s (at + 2)) (λ m. skipOf f s m))
     (ifEq (getD s at 0) codeUnfounded (skipOf f s (at + 2 + getD s (at + 1) 0))
-    (ifEq (getD s at 0) codeOn (skipOf f s (at + 2)) (ifEq (getD s at 0) codeOff (skipOf f s (at + 2)) (stops 24 at)))))
+    (ifEq (getD s at 0) codeOn (skipOf f s (at + 2)) (ifEq (getD s at 0) codeOff (skipOf f s (at + 2)) (wrongAt 24 at)))))
 
 -- as afterStep of the checker, but for the second branch of a split
 unfoldable pub afterFirst : ℕ → Pair → Stepped → (ℕ → Pair → Walked) → (ℕ → Walked) → Walked
 afterFirst at c (goes next d) further skip = further next d
 afterFirst at c (parts next r) further skip = andThen (further next (put onSide (r ∷ []) c)) skip
 afterFirst at c (ends next) further skip = done next
-afterFirst at c (fails i) further skip = stops i at
+afterFirst at c (fails i) further skip = wrongAt i at
 
 unfoldable pub firstOf : ℕ → Book → Claim → List ℕ → ℕ → ℕ → Pair → Walked
-firstOf zero b k s from at c = stops 24 at
+firstOf zero b k s from at c = wrongAt 24 at
 firstOf (suc f) b k s from at c =
     afterFirst at c (stepOf b k s from at c) (λ next d. firstOf f b k s from next d) (λ m. skipOf f s m)
 
@@ -157,8 +151,8 @@ invented n [] = []
 invented n (limit ∷ []) = limit ∷ []
 invented n (t ∷ (m ∷ l)) = n ∷ (m ∷ l)
 
-unfoldable pub withTries : ℕ → FindTold → FindTold
-withTries n (set t) = set n
+unfoldable pub withTries : ℕ → Told ℕ → Told ℕ
+withTries n (success t) = set n
 withTries n (refusedWith i l) = refusedWith i (invented n l)
 withTries n (refusedAt i at) = refusedAt i at
 withTries n (refused i) = refused i

@@ -8,21 +8,23 @@ use mathlib.Core.Path.{_≡_}
 use mathlib.Core.List.{List, [], _∷_, _++_}
 use Prim.Native.Nat.{ℕ}
 use lib.ListN.{replicate}
+use Rattle.meaning.specs.declared.AtomNo.{AtomNo}
 use Rattle.meaning.specs.Books.{atomNo}
-use Rattle.walk.specs.Find.{Told as FindTold, set, fewer, stopped}
-use Rattle.writer.specs.Name.{Told as NameTold, paper, fewer as nameFewer, stopped as nameStopped, refused as unnamed}
-use Rattle.checker.specs.Numbers.{Told as CheckTold, certain, refused as unchecked}
+use Rattle.meaning.specs.Told.{Told, refusedAt, refused, fewer, stopped}
+use Rattle.walk.specs.Find.{set}
+use Rattle.writer.specs.Name.{Handed, paper}
+use Rattle.checker.specs.Numbers.{certain}
 use Rattle.demands.specs.Engine.{Engine}
 use Rattle.demands.specs.Printed.{empty, fact, factPaper, hastyPaper, choice, contrary, circular, circularPaper, undone}
 use Rattle.demands.specs.Printed.{eitherWay, eitherWayPaper, six}
 
 pub data Case : Type 0 where
   -- book, k, L, the buffer before; what is told, the buffer afterwards
-  finding : List ℕ → ℕ → ℕ → List ℕ → FindTold → List ℕ → Case
+  finding : List ℕ → ℕ → ℕ → List ℕ → Told ℕ → List ℕ → Case
   -- book, atom, L, the buffer before; what is told, the buffer afterwards
-  naming : List ℕ → ℕ → ℕ → List ℕ → NameTold → List ℕ → Case
+  naming : List ℕ → ℕ → ℕ → List ℕ → Told Handed → List ℕ → Case
   -- book, paper; what is told
-  checking : List ℕ → List ℕ → CheckTold → Case
+  checking : List ℕ → List ℕ → Told AtomNo → Case
 
 unfoldable pub Holds : Engine → Case → Type 0
 Holds e (finding book k limit before t after) = e .find book k limit before ≡ record { told = t; buffer = after }
@@ -46,32 +48,32 @@ cases =
     -- "Fact 0 ... Paper for 0 ... L = 0 gives 9"
     ∷ finding fact 1 1000 (sevens 2) (set 1) (1 ∷ sevens 1)
     ∷ naming fact 0 1000 (sevens 12) (paper 1 10) (factPaper ++ sevens 2)
-    ∷ checking fact factPaper (certain 0)
+    ∷ checking fact factPaper (certain (atomNo 0))
     ∷ finding fact 1 0 (sevens 2) (stopped 0) (sevens 2)
-    ∷ naming fact 0 0 (sevens 12) (nameStopped 0) (sevens 12)
+    ∷ naming fact 0 0 (sevens 12) (stopped 0) (sevens 12)
     -- "Same book, paper 45 | 00 | 00 01 01 00 50 46: 25 at 0"
-    ∷ checking fact hastyPaper (unchecked 25 0)
+    ∷ checking fact hastyPaper (refusedAt 25 0)
     -- "sets {0}, {1}; naming 0 gives 12"
     ∷ finding choice 1 1000 (sevens 3) (set 2) (1 ∷ 0 ∷ sevens 1)
     ∷ finding choice 2 1000 (sevens 3) (set 3) (0 ∷ 1 ∷ sevens 1)
     ∷ finding choice 3 1000 (sevens 3) (fewer 3 2) (sevens 3)
-    ∷ naming choice 0 1000 (sevens 12) (unnamed 12) (sevens 12)
+    ∷ naming choice 0 1000 (sevens 12) (refused 12) (sevens 12)
     -- "0 if not 0: 11 after 3 tries"
     ∷ finding contrary 1 1000 (sevens 2) (fewer 3 0) (sevens 2)
-    ∷ naming contrary 0 1000 (sevens 12) (nameFewer 3 0) (sevens 12)
+    ∷ naming contrary 0 1000 (sevens 12) (fewer 3 0) (sevens 12)
     -- "the empty set, 1 try. The paper 41 00 45 ...: 25 at 0"
     ∷ finding circular 1 1000 (sevens 3) (set 1) (0 ∷ 0 ∷ sevens 1)
     ∷ finding circular 2 1000 (sevens 3) (fewer 1 1) (sevens 3)
-    ∷ checking circular circularPaper (unchecked 25 0)
+    ∷ checking circular circularPaper (refusedAt 25 0)
     -- "0; 1 if 0 and not 1: 11 after 3 tries"
     ∷ finding undone 1 1000 (sevens 3) (fewer 3 0) (sevens 3)
-    ∷ naming undone 0 1000 (sevens 12) (nameFewer 3 0) (sevens 12)
+    ∷ naming undone 0 1000 (sevens 12) (fewer 3 0) (sevens 12)
     -- "{0,2} at try 7, {1,2}, 15 tries in all. Paper for 2"
     ∷ finding eitherWay 1 1000 (sevens 4) (set 7) (1 ∷ 0 ∷ 1 ∷ sevens 1)
     ∷ finding eitherWay 2 1000 (sevens 4) (set 12) (0 ∷ 1 ∷ 1 ∷ sevens 1)
     ∷ finding eitherWay 3 1000 (sevens 4) (fewer 15 2) (sevens 4)
     ∷ naming eitherWay 2 1000 (sevens 25) (paper 7 24) (eitherWayPaper ++ sevens 1)
-    ∷ checking eitherWay eitherWayPaper (certain 2)
+    ∷ checking eitherWay eitherWayPaper (certain (atomNo 2))
     -- "{0,1,2}, {0,1,3}, 3 tries"
     ∷ finding six 1 1000 (sevens 7) (set 2) (1 ∷ 1 ∷ 1 ∷ 0 ∷ 0 ∷ 0 ∷ sevens 1)
     ∷ finding six 2 1000 (sevens 7) (set 3) (1 ∷ 1 ∷ 0 ∷ 1 ∷ 0 ∷ 0 ∷ sevens 1)

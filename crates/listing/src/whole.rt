@@ -113,7 +113,7 @@ fn list_page(
             let sets = print_last(rows, atoms, count, before, line_end);
             print_end(b"end", sets, tries, line_end);
         }
-        Page::Stopped(count) => {
+        Page::Cut(count) => {
             let sets = print_last(rows, atoms, count, before, line_end);
             print_end(b"stopped", sets, LIMIT, line_end);
         }

@@ -1,5 +1,6 @@
 -- The laws of the meaning that need no code. Read in this order.
 pub mod Choice
+pub mod Told
 pub mod Tests
 pub mod Sets
 pub mod Least

@@ -10,3 +10,4 @@ pub mod Computed
 pub mod Lowest
 pub mod Engine
 pub mod Choice
+pub mod Told

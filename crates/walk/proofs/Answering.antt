@@ -9,22 +9,22 @@ use lib.ListN.{length}
 use Rattle.meaning.specs.declared.colouring.Colouring.{Colouring}
 use Rattle.meaning.specs.Books.{Atoms, Book}
 use Rattle.meaning.specs.Choice.{ifEq}
+use Rattle.meaning.specs.Told.{Told, success, refusedAt, refused, Answered}
 use Rattle.meaning.specs.Written.{nothing}
 use Rattle.meaning.proofs.Choice.{lt-yes, lt-no, eq-yes, eq-no}
 use Rattle.book.specs.declared.refusal.Refusal.{Refusal}
 use Rattle.book.specs.declared.reader.Shape.{Shape}
 use Rattle.book.specs.declared.reader.Read.{Read}
 use Rattle.book.specs.declared.reader.Read.the-variants.{Good, Refused}
-use Rattle.book.specs.Numbers.{refused as badly, numberOf, placeOf, told as bookTold}
+use Rattle.book.specs.Numbers.{numberOf, placeOf, told as bookTold}
 use Rattle.book.specs.Format.{BookRead, good, bad, readOf, toldOf, bookOf, bookIn, ReadAs}
 use Rattle.book.proofs.Shape.{told-good}
 use Rattle.book.proofs.Places.{shape-atoms}
 use Rattle.walk.specs.Events.{events, rest}
 use Rattle.walk.specs.Run.{Wanted, State, run}
 use Rattle.walk.specs.Room.{Room}
-use Rattle.walk.specs.Find.{Told, refused, refusedAt, toldBy, startOf, answeredBy, findIn, findOf}
-use Rattle.walk.specs.Page.{Told as PageTold, refused as small, refusedAt as badAt, toldBy as pageToldBy, setIn, eventsFrom, roomIn}
-use Rattle.walk.specs.Page.{Paged, pagedBy, pageIn, pageRead, pageOf}
+use Rattle.walk.specs.Find.{toldBy, startOf, answeredBy, findIn, findOf}
+use Rattle.walk.specs.Page.{PageEnd, endedBy, setIn, eventsFrom, roomIn, pagedBy, pageIn, pageRead, pageOf}
 use Rattle.walk.specs.declared.tally.Halt.{Halt}
 use Rattle.walk.specs.declared.tally.Halt.the-variants.{Going, Full, Limit}
 use Rattle.walk.specs.declared.tally.Tally.{Tally}
@@ -35,7 +35,7 @@ use Rattle.walk.proofs.Listing.{later-events}
 
 -- ---- the book
 
-told-refused : (x : BookRead) (i at : ℕ) → toldOf x ≡ badly i at → x ≡ bad i at
+told-refused : (x : BookRead) (i at : ℕ) → toldOf x ≡ refusedAt i at → x ≡ bad i at
 unfolding toldOf
 told-refused (good n k index l) i at e = apart (cc)
 told-refused (bad j to) i at e = let p : j ≡ i = cc in let q : to ≡ at = cc in λ m. bad (p m) (q m)
@@ -52,11 +52,11 @@ module _ (s : List ℕ) {x : Read} (e : bookTold x ≡ toldOf (readOf s)) where
   find-refused k limit answer f = sym (find-bad-book s k limit answer _ _ (read-bad f))
 
   pub page-refused : (limit tries : ℕ) (row out : List ℕ) {f : Refusal} → x ≡ Refused f
-      → record { told = badAt (numberOf f) (placeOf f); buffer = out } ≡ pageOf s limit tries row out
+      → record { told = refusedAt (numberOf f) (placeOf f); buffer = out } ≡ pageOf s limit tries row out
   unfolding pageOf pageRead
   page-refused limit tries row out f = sym (rw (read-bad f))
 
-  pub page-read : (limit tries : ℕ) (row out : List ℕ) {h : Shape} {p : Paged} → x ≡ Good h
+  pub page-read : (limit tries : ℕ) (row out : List ℕ) {h : Shape} {p : Answered PageEnd} → x ≡ Good h
       → p ≡ pageIn (bookIn s) limit tries row out → p ≡ pageOf s limit tries row out
   unfolding pageOf pageRead bookIn bookOf
   page-read limit tries row out f g = g ∙ rw (told-good (readOf s) _ _ _ (read-as f))
@@ -97,7 +97,7 @@ module _ (s : List ℕ) (h : Shape) (e : ReadAs s h) where
       unfolding findIn
       find-no-room l = sym (find-read ∙ eq-no _ _ _ _ n ∙ lt-yes _ _ _ _ (rw (shape-atoms s h e) l))
 
-      pub find-walked : h .atoms ≤ length answer → {t : Tally} {out : List ℕ} {r : Told}
+      pub find-walked : h .atoms ≤ length answer → {t : Tally} {out : List ℕ} {r : Told ℕ}
           → record { tally = t; out = out }
           ≡ run (bookIn s) (record { pass = k - 1; room = 1; limit = limit }) (startOf answer) (events (bookIn s) nothing)
           → r ≡ toldBy (t .halt) (record { tally = t; out = [] }) limit → record { told = r; buffer = out } ≡ findOf s k limit answer
@@ -110,8 +110,8 @@ module _ (s : List ℕ) (h : Shape) (e : ReadAs s h) where
 -- ---- page
 
 page-any-buffer : (h : Halt) (t : Tally) (o p : List ℕ)
-    → pageToldBy h (record { tally = t; out = o }) ≡ pageToldBy h (record { tally = t; out = p })
-unfolding pageToldBy
+    → endedBy h (record { tally = t; out = o }) ≡ endedBy h (record { tally = t; out = p })
+unfolding endedBy
 page-any-buffer Going t o p = refl
 page-any-buffer Full t o p = refl
 page-any-buffer Limit t o p = refl
@@ -125,7 +125,7 @@ module _ (s : List ℕ) (h : Shape) (e : ReadAs s h) (tries : ℕ) (out : List �
   start = record { tally = record { tries = tries; sets = 0; halt = Going }; out = out }
 
   pub page-no-room : (limit : ℕ) (row : List ℕ) → length out < h .atoms
-      → record { told = small 8; buffer = out } ≡ pageIn (bookIn s) limit tries row out
+      → record { told = refused 8; buffer = out } ≡ pageIn (bookIn s) limit tries row out
   unfolding pageIn
   page-no-room limit row l = sym (lt-yes _ _ _ _ (rw (shape-atoms s h e) l))
 
@@ -147,12 +147,12 @@ module _ (s : List ℕ) (h : Shape) (e : ReadAs s h) (tries : ℕ) (out : List �
       w = record { pass = 0; room = room; limit = limit }
 
       -- a walk from the start along the events of the page tells the page
-      module _ {t : Tally} {o : List ℕ} {r : PageTold} (k : r ≡ pageToldBy (t .halt) (record { tally = t; out = [] })) where
+      module _ {t : Tally} {o : List ℕ} {r : Told PageEnd} (k : r ≡ success (endedBy (t .halt) (record { tally = t; out = [] }))) where
         page-walked : record { tally = t; out = o } ≡ run (bookIn s) w start (eventsFrom (bookIn s) tries (setIn row))
             → record { told = r; buffer = o } ≡ pageIn (bookIn s) limit tries row out
         unfolding pageIn
         page-walked g =
-            rw (k ∙ page-any-buffer (t .halt) t [] o)
+            rw (k ∙ ap success (page-any-buffer (t .halt) t [] o))
             (sym (lt-no _ _ _ _ (rw (shape-atoms s h e) l) ∙ ap pagedBy (rw (← room-is) (sym g))))
 
         pub page-first : {c : Colouring} → c ≡ nothing → tries ≡ 0

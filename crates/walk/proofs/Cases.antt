@@ -7,6 +7,7 @@ use Rattle.meaning.specs.Sets.{every, some, everyBelow, someBelow}
 use Rattle.meaning.specs.Books.{sameAtom, count, rule, everyRule, someRule}
 use Rattle.meaning.specs.AnswerSet.{generates, generating}
 use Rattle.meaning.specs.Choice.{ifb, ifLt, ifEq}
+use Rattle.meaning.specs.Told.{Told, success, refused, fewer, stopped, Answered}
 use Rattle.meaning.specs.Colours.{heads, allIn, mayOn, blocked, starved, clashing, uncoloured}
 use Rattle.meaning.specs.Written.{of, addFrom, added}
 use Rattle.meaning.specs.Computed.{iterate, upheld, supportMore, support, goesOff, closeMore, marked, close}
@@ -14,16 +15,16 @@ use Rattle.meaning.specs.Lowest.{oneOr, lowestFrom, lowest}
 use Rattle.book.specs.Format.{u16At, partOf, andThen, bytesOf, recordOf, lengthOf, ruleOf, recordsOf, rulesOf, ifFine, bodyOf, readOf}
 use Rattle.walk.specs.Events.{after, eventsIn, events, beside, afterPast, restIn, rest}
 use Rattle.walk.specs.Run.{rowFrom, rowOf, writeAt, readingMet, tried, met, run}
-use Rattle.walk.specs.Find.{Told, set, fewer, stopped, refused, Answered, toldBy, findIn, findRead, findOf}
-use Rattle.walk.specs.Page.{whole, last, stopped as cut, setIn, eventsFrom, roomIn, toldBy as pageToldBy, pageIn, pageRead, pageOf}
+use Rattle.walk.specs.Find.{set, toldBy, findIn, findRead, findOf}
+use Rattle.walk.specs.Page.{whole, last, cut, setIn, eventsFrom, roomIn, endedBy, pageIn, pageRead, pageOf}
 
 pub record Case : Type 0 where
   pub book : List ℕ
   pub k : ℕ
   pub limit : ℕ
-  pub answer : Answered
+  pub answer : Answered ℕ
 
-abbrev case : List ℕ → ℕ → ℕ → Told → List ℕ → Case
+abbrev case : List ℕ → ℕ → ℕ → Told ℕ → List ℕ → Case
 case book k limit told buffer = record { book = book; k = k; limit = limit; answer = record { told = told; buffer = buffer } }
 
 -- "00 00 00 00 52 42"
@@ -94,13 +95,13 @@ unfolding every some everyBelow someBelow sameAtom count rule everyRule someRule
 cases-found = refl
 
 pub pages-found :
-    (pageOf choice 1000 0 [] (7 ∷ 7 ∷ 7 ∷ []) ≡ record { told = whole 2; buffer = 1 ∷ 0 ∷ 7 ∷ [] })
-    × (pageOf choice 1000 2 (1 ∷ 0 ∷ []) (7 ∷ 7 ∷ 7 ∷ []) ≡ record { told = whole 3; buffer = 0 ∷ 1 ∷ 7 ∷ [] })
-    × (pageOf choice 1000 3 (0 ∷ 1 ∷ []) (7 ∷ 7 ∷ 7 ∷ []) ≡ record { told = last 3 0; buffer = 7 ∷ 7 ∷ 7 ∷ [] })
-    × (pageOf choice 2 2 (1 ∷ 0 ∷ []) (7 ∷ 7 ∷ 7 ∷ []) ≡ record { told = cut 0; buffer = 7 ∷ 7 ∷ 7 ∷ [] })
+    (pageOf choice 1000 0 [] (7 ∷ 7 ∷ 7 ∷ []) ≡ record { told = success (whole 2); buffer = 1 ∷ 0 ∷ 7 ∷ [] })
+    × (pageOf choice 1000 2 (1 ∷ 0 ∷ []) (7 ∷ 7 ∷ 7 ∷ []) ≡ record { told = success (whole 3); buffer = 0 ∷ 1 ∷ 7 ∷ [] })
+    × (pageOf choice 1000 3 (0 ∷ 1 ∷ []) (7 ∷ 7 ∷ 7 ∷ []) ≡ record { told = success (last 3 0); buffer = 7 ∷ 7 ∷ 7 ∷ [] })
+    × (pageOf choice 2 2 (1 ∷ 0 ∷ []) (7 ∷ 7 ∷ 7 ∷ []) ≡ record { told = success (cut 0); buffer = 7 ∷ 7 ∷ 7 ∷ [] })
 unfolding every some everyBelow someBelow sameAtom count rule everyRule someRule ifb ifLt ifEq heads allIn mayOn blocked starved
     clashing uncoloured of addFrom added iterate upheld supportMore support goesOff closeMore marked close
     oneOr lowestFrom lowest u16At partOf andThen bytesOf recordOf lengthOf ruleOf recordsOf rulesOf ifFine bodyOf readOf
     generates generating after eventsIn events beside afterPast restIn rest rowFrom rowOf writeAt readingMet tried met run
-    setIn eventsFrom roomIn pageToldBy pageIn pageRead pageOf
+    setIn eventsFrom roomIn endedBy pageIn pageRead pageOf
 pages-found = (refl, refl, refl, refl)

@@ -7,6 +7,7 @@ use Prim.Native.Nat.{ℕ, _≤_, _<_}
 use native.Mathlib.Omega.{arith}
 use lib.ListN.{length, drop}
 use Rattle.meaning.specs.Books.{Atoms, Rule, Book, count}
+use Rattle.meaning.specs.Told.{refusedAt, fewer, stopped, Answered}
 use Rattle.meaning.specs.Written.{nothing}
 use Rattle.meaning.proofs.Rules.{rule-member}
 use Rattle.meaning.proofs.LeastModel.{Proper}
@@ -17,7 +18,7 @@ use Rattle.walk.specs.Events.{events}
 use Rattle.walk.specs.Readings.{readings}
 use Rattle.walk.specs.Tries.{Kth, Needs, to-reading, to-end}
 use Rattle.walk.specs.Run.{rowOf}
-use Rattle.walk.specs.Find.{set, fewer, stopped, refusedAt, Answered, findIn, findRead, findOf}
+use Rattle.walk.specs.Find.{set, findIn, findRead, findOf}
 use Rattle.walk.proofs.Run.{apart}
 use Rattle.walk.proofs.Needs.{kth-count, kth-one, needs-one}
 use Rattle.walk.proofs.Finding.{Outcome, found, too-few, too-long, no-number, no-room, find-outcome}
@@ -25,7 +26,7 @@ use Rattle.walk.proofs.Finding.{Outcome, found, too-few, too-long, no-n
 module _ {b : Book} {k limit : ℕ} {answer : List ℕ} where
   -- ---- what an answer says of the walk
 
-  set-says : {A : Answered} → Outcome b k limit answer A → (t : ℕ) → A .told ≡ set t
+  set-says : {A : Answered ℕ} → Outcome b k limit answer A → (t : ℕ) → A .told ≡ set t
       → (x : Atoms) × Kth b k t x × (t ≤ limit) × (A .buffer ≡ rowOf b x ++ drop (b .atoms) answer)
   set-says (found {t = u} {x = x} c h) t e = let z : u ≡ t = cc in (x, rw z at c, rw z at h, refl)
   set-says (too-few h l) t e = apart (cc)
@@ -33,14 +34,14 @@ module _ {b : Book} {k limit : ℕ} {answer : List ℕ} where
   set-says (no-number h) t e = apart (cc)
   set-says (no-room h l) t e = apart (cc)
 
-  stopped-says : {A : Answered} → Outcome b k limit answer A → A .told ≡ stopped limit → (n : ℕ) × Needs b k n × (limit < n)
+  stopped-says : {A : Answered ℕ} → Outcome b k limit answer A → A .told ≡ stopped limit → (n : ℕ) × Needs b k n × (limit < n)
   stopped-says (found c h) e = apart (cc)
   stopped-says (too-few h l) e = apart (cc)
   stopped-says (too-long {n = n} m h) e = (n, m, h)
   stopped-says (no-number h) e = apart (cc)
   stopped-says (no-room h l) e = apart (cc)
 
-  fewer-says : {A : Answered} → Outcome b k limit answer A → (t n : ℕ) → A .told ≡ fewer t n
+  fewer-says : {A : Answered ℕ} → Outcome b k limit answer A → (t n : ℕ) → A .told ≡ fewer t n
       → (length (readings b) < k) × (t ≡ length (events b nothing)) × (n ≡ length (readings b)) × (t ≤ limit)
   fewer-says (found c h) t n e = apart (cc)
   fewer-says (too-few h l) t n e =
@@ -52,21 +53,21 @@ module _ {b : Book} {k limit : ℕ} {answer : List ℕ} where
   -- ---- and what the walk says of the answer
 
   module _ (some : 1 ≤ k) (room : b .atoms ≤ length answer) where
-    set-if : {A : Answered} → Outcome b k limit answer A → {t : ℕ} {x : Atoms} → Kth b k t x → t ≤ limit → A .told ≡ set t
+    set-if : {A : Answered ℕ} → Outcome b k limit answer A → {t : ℕ} {x : Atoms} → Kth b k t x → t ≤ limit → A .told ≡ set t
     set-if (found c h) d l = ap set (kth-one b c d .0)
     set-if (too-few h g) d l = absurd (omega (arith, kth-count b d))
     set-if (too-long n h) d l = absurd (omega (arith, needs-one b n (to-reading d)))
     set-if (no-number h) d l = absurd (omega arith)
     set-if (no-room h g) d l = absurd (omega arith)
 
-    stopped-if : {A : Answered} → Outcome b k limit answer A → {n : ℕ} → Needs b k n → limit < n → A .told ≡ stopped limit
+    stopped-if : {A : Answered ℕ} → Outcome b k limit answer A → {n : ℕ} → Needs b k n → limit < n → A .told ≡ stopped limit
     stopped-if (found c h) m l = absurd (omega (arith, needs-one b m (to-reading c)))
     stopped-if (too-few h g) m l = absurd (omega (arith, needs-one b m (to-end h)))
     stopped-if (too-long n h) m l = refl
     stopped-if (no-number h) m l = absurd (omega arith)
     stopped-if (no-room h g) m l = absurd (omega arith)
 
-    fewer-if : {A : Answered} → Outcome b k limit answer A → length (readings b) < k → length (events b nothing) ≤ limit
+    fewer-if : {A : Answered ℕ} → Outcome b k limit answer A → length (readings b) < k → length (events b nothing) ≤ limit
         → A .told ≡ fewer (length (events b nothing)) (length (readings b))
     fewer-if (found c h) m l = absurd (omega (arith, kth-count b c))
     fewer-if (too-few h g) m l = refl

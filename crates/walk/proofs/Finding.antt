@@ -9,6 +9,7 @@ use native.Mathlib.Omega.{arith}
 use lib.ListN.{length, drop, length-append}
 use Rattle.meaning.specs.declared.colouring.Colouring.{Colouring}
 use Rattle.meaning.specs.Books.{Atoms, Book}
+use Rattle.meaning.specs.Told.{fewer, stopped, refused, Answered}
 use Rattle.meaning.specs.Written.{nothing}
 use Rattle.meaning.proofs.Tests.{lt-or-le}
 use Rattle.meaning.proofs.Choice.{lt-no, lt-either, eq-either}
@@ -16,7 +17,7 @@ use Rattle.walk.specs.Events.{Event, reading, events}
 use Rattle.walk.specs.Readings.{readingOf, readings}
 use Rattle.walk.specs.Tries.{Kth, Needs, to-reading, to-end}
 use Rattle.walk.specs.Run.{rowOf, Wanted, State}
-use Rattle.walk.specs.Find.{set, fewer, stopped, refused, Answered, startOf, toldBy, answeredBy, findIn}
+use Rattle.walk.specs.Find.{set, startOf, toldBy, answeredBy, findIn}
 use Rattle.walk.proofs.Rows.{row-length, write-front}
 use Rattle.walk.proofs.Way.{step, gone, gone-tries, gone-sets, gone-passes, Way, to-full, to-limit, way}
 use Rattle.walk.proofs.Way.{to-end as all-met}
@@ -24,7 +25,7 @@ use Rattle.walk.proofs.Needs.{amount, parted-more, kth-or-fewer}
 
 module _ (b : Book) (k limit : ℕ) (answer : List ℕ) where
   -- how a call may end, with what it answers
-  pub data Outcome : Answered → Type 0 where
+  pub data Outcome : Answered ℕ → Type 0 where
     found : {t : ℕ} {x : Atoms} → Kth b k t x → t ≤ limit
         → Outcome (record { told = set t; buffer = rowOf b x ++ drop (b .atoms) answer })
     too-few : length (readings b) < k → length (events b nothing) ≤ limit

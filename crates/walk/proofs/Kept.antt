@@ -6,11 +6,12 @@ use mathlib.Core.List.{List}
 use Prim.Native.Nat.{ℕ, _-_, _≤_}
 use native.Mathlib.Omega.{arith}
 use Rattle.meaning.specs.Books.{Book}
+use Rattle.meaning.specs.Told.{Answered}
 use Rattle.meaning.specs.Written.{nothing}
 use Rattle.meaning.proofs.Choice.{lt-either, eq-yes, eq-either}
 use Rattle.walk.specs.Events.{Event, clash, fork, reading, events}
 use Rattle.walk.specs.Run.{Wanted, State, readingMet, tried, met, run}
-use Rattle.walk.specs.Find.{set, Answered, startOf, toldBy, findIn}
+use Rattle.walk.specs.Find.{set, startOf, toldBy, findIn}
 use Rattle.walk.specs.declared.tally.Halt.the-variants.{Going, Full}
 use Rattle.walk.proofs.Run.{apart, run-keeps}
 
@@ -46,5 +47,5 @@ module _ (b : Book) (k limit : ℕ) (answer : List ℕ) where
   pub find-keeps : ((t : ℕ) → findIn b k limit answer .told ≡ set t → ⊥) → findIn b k limit answer .buffer ≡ answer
   unfolding findIn
   find-keeps =
-      let P : Answered → Type 0 = λ a. ((t : ℕ) → a .told ≡ set t → ⊥) → a .buffer ≡ answer in
+      let P : Answered ℕ → Type 0 = λ a. ((t : ℕ) → a .told ≡ set t → ⊥) → a .buffer ≡ answer in
       eq-either P _ _ _ _ (λ e f. refl) λ n. lt-either P _ _ _ _ (λ h f. refl) λ h. kept-out _ walk-kept

@@ -8,12 +8,13 @@ use lib.ListN.{length, take, drop, length-append}
 use lib.Seq.{append-snoc}
 use Rattle.meaning.specs.declared.colouring.Colouring.{Colouring}
 use Rattle.meaning.specs.Books.{Atoms, Book, count}
+use Rattle.meaning.specs.Told.{success, Answered}
 use Rattle.meaning.specs.Written.{nothing}
 use Rattle.meaning.proofs.LeastModel.{Proper}
 use Rattle.walk.specs.Events.{Event, reading, events, rest}
 use Rattle.walk.specs.Readings.{readingOf, readingsIn, readings}
 use Rattle.walk.specs.Run.{rowOf}
-use Rattle.walk.specs.Page.{whole, last, stopped, Paged, setIn, eventsFrom, roomIn, pageIn}
+use Rattle.walk.specs.Page.{PageEnd, whole, last, cut, setIn, eventsFrom, roomIn, pageIn}
 use Rattle.walk.proofs.Rows.{last-row}
 use Rattle.walk.proofs.Readings.{readings-append}
 use Rattle.walk.proofs.Run.{apart}
@@ -90,7 +91,7 @@ module _ (b : Book) (fits : count b ≤ 255) (limit n : ℕ) (row out : List ℕ
             ∙ sym (later-events b _ _ (omega arith));
       }
 
-    whole-joins : {A : Paged} → Outcome b limit n row out todo A → Proper b → (t : ℕ) → A .told ≡ whole t
+    whole-joins : {A : Answered PageEnd} → Outcome b limit n row out todo A → Proper b → (t : ℕ) → A .told ≡ success (whole t)
         → Joined b (roomIn b (length out)) out done todo t (A .buffer) × (t ≤ limit)
     whole-joins (all-rows h k) proper t e = apart (cc)
     whole-joins (full-page more d later q h k) proper t e =
@@ -108,7 +109,7 @@ module _ (b : Book) (fits : count b ≤ 255) (limit n : ℕ) (row out : List ℕ
     whole-joins (limit-met more f later q h k) proper t e = apart (cc)
     whole-joins (no-room h) proper t e = apart (cc)
 
-    last-ends : {A : Paged} → Outcome b limit n row out todo A → (t m : ℕ) → A .told ≡ last t m
+    last-ends : {A : Answered PageEnd} → Outcome b limit n row out todo A → (t m : ℕ) → A .told ≡ success (last t m)
         → (t ≡ length (events b nothing)) × (t ≤ limit) × (m ≡ amount b todo) × (A .buffer ≡ filled b out (readingsIn b todo))
     last-ends (all-rows h k) t m e =
         let u : n + length todo ≡ t = cc in let v : amount b todo ≡ m = cc in
@@ -117,11 +118,11 @@ module _ (b : Book) (fits : count b ≤ 255) (limit n : ℕ) (row out : List ℕ
     last-ends (limit-met more f later q h k) t m e = apart (cc)
     last-ends (no-room h) t m e = apart (cc)
 
-    stopped-cuts : {A : Paged} → Outcome b limit n row out todo A → (m : ℕ) → A .told ≡ stopped m
+    limit-cuts : {A : Answered PageEnd} → Outcome b limit n row out todo A → (m : ℕ) → A .told ≡ success (cut m)
         → Cut b limit out done todo m (A .buffer)
-    stopped-cuts (all-rows h k) m e = apart (cc)
-    stopped-cuts (full-page more d later q h k) m e = apart (cc)
-    stopped-cuts (limit-met more f later q h k) m e =
+    limit-cuts (all-rows h k) m e = apart (cc)
+    limit-cuts (full-page more d later q h k) m e = apart (cc)
+    limit-cuts (limit-met more f later q h k) m e =
         let v : amount b more ≡ m = cc in
         record {
           more = more;
@@ -132,7 +133,7 @@ module _ (b : Book) (fits : count b ≤ 255) (limit n : ℕ) (row out : List ℕ
           rows = sym v;
           written = refl;
         }
-    stopped-cuts (no-room h) m e = apart (cc)
+    limit-cuts (no-room h) m e = apart (cc)
 
   -- ---- the pages of a listing
 
@@ -142,17 +143,17 @@ module _ (b : Book) (fits : count b ≤ 255) (limit n : ℕ) (row out : List ℕ
         (page-outcome b limit n row out within)
 
     -- a full page: the next readings, and the listing goes on behind them, within the limit
-    pub pages-join : Proper b → (t : ℕ) → pageIn b limit n row out .told ≡ whole t
+    pub pages-join : Proper b → (t : ℕ) → pageIn b limit n row out .told ≡ success (whole t)
         → Joined b (roomIn b (length out)) out done todo t (pageIn b limit n row out .buffer) × (t ≤ limit)
     pages-join = whole-joins l outcome
 
     -- the last page: the readings that were to come, and the tries of the whole walk
-    pub pages-end : (t m : ℕ) → pageIn b limit n row out .told ≡ last t m
+    pub pages-end : (t m : ℕ) → pageIn b limit n row out .told ≡ success (last t m)
         → (t ≡ length (events b nothing)) × (t ≤ limit) × (m ≡ amount b todo)
         × (pageIn b limit n row out .buffer ≡ filled b out (readingsIn b todo))
     pages-end = last-ends l outcome
 
     -- the limit: the readings up to it, of a walk that has more tries
-    pub pages-stop : (m : ℕ) → pageIn b limit n row out .told ≡ stopped m
+    pub pages-stop : (m : ℕ) → pageIn b limit n row out .told ≡ success (cut m)
         → Cut b limit out done todo m (pageIn b limit n row out .buffer)
-    pages-stop = stopped-cuts l outcome
+    pages-stop = limit-cuts l outcome

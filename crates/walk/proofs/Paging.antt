@@ -10,14 +10,14 @@ use native.Mathlib.Omega.{arith}
 use lib.ListN.{length, drop}
 use Rattle.meaning.specs.declared.colouring.Colouring.{Colouring}
 use Rattle.meaning.specs.Books.{Atoms, Book}
+use Rattle.meaning.specs.Told.{success, refusedAt, refused, Answered}
 use Rattle.meaning.proofs.Choice.{lt-either, eq-either}
 use Rattle.book.specs.Format.{BookRead, good, bad, readOf}
 use Rattle.walk.specs.Events.{Event, reading}
 use Rattle.walk.specs.Readings.{readingsIn}
 use Rattle.walk.specs.Run.{writeAt, Wanted, State}
-use Rattle.walk.specs.declared.tally.Halt.{Halt}
-use Rattle.walk.specs.declared.tally.Halt.the-variants.{Going, Full, Limit}
-use Rattle.walk.specs.Page.{whole, last, stopped, refusedAt, refused, Paged, setIn, eventsFrom, roomIn, toldBy, pagedBy}
+use Rattle.walk.specs.declared.tally.Halt.the-variants.{Going}
+use Rattle.walk.specs.Page.{PageEnd, whole, last, cut, setIn, eventsFrom, roomIn, endedBy, pagedBy}
 use Rattle.walk.specs.Page.{pageIn, pageRead, pageOf}
 use Rattle.walk.proofs.Rows.{rowsOf, rows-length, write-front}
 use Rattle.walk.proofs.Run.{apart}
@@ -41,15 +41,15 @@ filled b out l = rowsOf b l ++ drop (length (rowsOf b l)) out
 
 module _ (b : Book) (limit n : ℕ) (row out : List ℕ) where
   -- how a call may end, with what it answers, by the events that are to come
-  pub data Outcome (todo : List Event) : Paged → Type 0 where
+  pub data Outcome (todo : List Event) : Answered PageEnd → Type 0 where
     all-rows : n + length todo ≤ limit → amount b todo < roomIn b (length out)
-        → Outcome todo (record { told = last (n + length todo) (amount b todo); buffer = filled b out (readingsIn b todo) })
+        → Outcome todo (record { told = success (last (n + length todo) (amount b todo)); buffer = filled b out (readingsIn b todo) })
     full-page : (more : List Event) (d : Colouring) (later : List Event) → todo ≡ more ++ (reading d ∷ later)
         → n + length more < limit → amount b more + 1 ≡ roomIn b (length out)
-        → Outcome todo (record { told = whole (n + length more + 1); buffer = filled b out (readingsIn b (more ++ (reading d ∷ []))) })
+        → Outcome todo (record { told = success (whole (n + length more + 1)); buffer = filled b out (readingsIn b (more ++ (reading d ∷ []))) })
     limit-met : (more : List Event) (e : Event) (later : List Event) → todo ≡ more ++ (e ∷ later)
         → limit ≡ n + length more → amount b more < roomIn b (length out)
-        → Outcome todo (record { told = stopped (amount b more); buffer = filled b out (readingsIn b more) })
+        → Outcome todo (record { told = success (cut (amount b more)); buffer = filled b out (readingsIn b more) })
     no-room : length out < b .atoms → Outcome todo (record { told = refused 8; buffer = out })
 
   abbrev wanted : Wanted
@@ -72,20 +72,20 @@ module _ (b : Book) (limit n : ℕ) (row out : List ℕ) where
   full-filled more d h = ap (λ (s : State). s .out) (sym (gone-append b wanted start more (reading d ∷ []))) ∙ gone-filled _ h
 
   outcome-of : (es : List Event) (t : State) → Way b wanted start es t → Outcome es (pagedBy t)
-  unfolding toldBy step
+  unfolding endedBy step
   outcome-of es t (to-end h o) =
       let u = gone-tries b wanted start es in let v = gone-sets b wanted start es ∙ zero-add _ in
       let f = gone-filled es (omega arith) in
-      subst (Outcome es) (λ i. record { told = last (sym u i) (sym v i); buffer = sym f i }) (all-rows (omega arith) (omega arith))
+      subst (Outcome es) (λ i. record { told = success (last (sym u i) (sym v i)); buffer = sym f i }) (all-rows (omega arith) (omega arith))
   outcome-of es t (to-full more d later h e) =
       let u = gone-tries b wanted start more in let v = gone-sets b wanted start more ∙ zero-add _ in
       let f = full-filled more d (omega (arith, amount-last b more d)) in
-      subst (Outcome (more ++ (reading d ∷ later))) (λ i. record { told = whole (sym u i + 1); buffer = sym f i })
+      subst (Outcome (more ++ (reading d ∷ later))) (λ i. record { told = success (whole (sym u i + 1)); buffer = sym f i })
       (full-page more d later refl (omega arith) (omega arith))
   outcome-of es t (to-limit more e later h o) =
       let u = gone-tries b wanted start more in let v = gone-sets b wanted start more ∙ zero-add _ in
       let f = gone-filled more (omega arith) in
-      subst (Outcome (more ++ (e ∷ later))) (λ i. record { told = stopped (sym v i); buffer = sym f i })
+      subst (Outcome (more ++ (e ∷ later))) (λ i. record { told = success (cut (sym v i)); buffer = sym f i })
       (limit-met more e later refl (omega arith) (omega arith))
 
   pub page-outcome : n ≤ limit → Outcome (eventsFrom b n (setIn row)) (pageIn b limit n row out)
@@ -98,19 +98,16 @@ module _ (b : Book) (limit n : ℕ) (row out : List ℕ) where
 
 module _ (i at : ℕ) where
   -- the number i is told, with a place or without one
-  abbrev Refuses : Paged → Type 0
+  abbrev Refuses : Answered PageEnd → Type 0
   Refuses a = (a .told ≡ refusedAt i at) ⊎ (a .told ≡ refused i)
 
-  walked : {A : Type 0} (h : Halt) (s : State) → (toldBy h s ≡ refusedAt i at) ⊎ (toldBy h s ≡ refused i) → A
-  unfolding toldBy
-  walked Going s = ⊎-elim (λ e. apart (cc)) (λ e. apart (cc))
-  walked Full s = ⊎-elim (λ e. apart (cc)) (λ e. apart (cc))
-  walked Limit s = ⊎-elim (λ e. apart (cc)) (λ e. apart (cc))
+  walked : {A : Type 0} (s : State) → Refuses (pagedBy s) → A
+  walked s = ⊎-elim (λ e. apart (cc)) (λ e. apart (cc))
 
   module _ (limit n : ℕ) (row out : List ℕ) where
     keeps-in : (b : Book) → Refuses (pageIn b limit n row out) → pageIn b limit n row out .buffer ≡ out
     unfolding pageIn
-    keeps-in b = lt-either (λ (a : Paged). Refuses a → a .buffer ≡ out) _ _ _ _ (λ h r. refl) (λ h r. walked _ _ r)
+    keeps-in b = lt-either (λ (a : Answered PageEnd). Refuses a → a .buffer ≡ out) _ _ _ _ (λ h r. refl) (λ h r. walked _ r)
 
     -- 1 to 7 and 8: the buffer is as it was
     pub page-keeps : (book : List ℕ)

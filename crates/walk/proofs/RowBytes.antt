@@ -8,8 +8,8 @@ use native.Mathlib.Numerals.{add-one}
 use native.Mathlib.Omega.{arith}
 use lib.ListN.{length, getD, take, set, List·getD-eq-default}
 use lib.Seq.{paste, paste-suc, take-length}
+use Rattle.meaning.specs.declared.AtomNo.{AtomNo}
 use Rattle.meaning.specs.Choice.{ifb}
-use Rattle.meaning.specs.Books.{atomNo}
 use Rattle.book.specs.Tables.{atomsIn}
 use Rattle.walk.specs.Run.{rowFrom, writeAt}
 use Rattle.walk.specs.Page.{setIn}
@@ -35,6 +35,6 @@ module _ (l : List Bool) (n at : ℕ) (out : List ℕ) where
       e ∙ rw (m, take-length) (append-assoc (take at out) (tableRow n l) _)
 
 -- a byte past the row's end says no
-pub row-past : (row : List ℕ) (a : ℕ) → length row ≤ a → false ≡ setIn row (atomNo a)
+pub row-past : (row : List ℕ) (a : AtomNo) → length row ≤ a .0 → false ≡ setIn row a
 unfolding setIn
 row-past row a h = rw (List·getD-eq-default row 0 h)

@@ -1,32 +1,27 @@
--- What is told of an answer tells all of it: two answers of find, of page, or of a search for a rule, told alike are equal, so that a
--- promise in these terms determines the answer. Each answer is found again from what is told of it.
-use mathlib.Core.Path.{_≡_, refl, sym, _∙_, ap}
-use mathlib.Core.List.{[], _∷_}
+-- What is told of an answer tells all of it: two answers of find, of page, or of a search for a rule, told alike are equal. Each answer is
+-- found again from what is told of it.
+use mathlib.Core.Path.{_≡_, refl, ap}
+use Prim.Native.Nat.{ℕ}
 use Rattle.meaning.specs.Lowest.{Pick, none, one}
 use Rattle.meaning.specs.Choice.{ifb, ifEq}
+use Rattle.meaning.specs.Told.{Told}
+use Rattle.meaning.proofs.Told.{valuesAgain, again, one-again}
 use Rattle.book.proofs.Told.{refusalAt, refusal-again}
 use Rattle.walk.specs.declared.kth.Found.{Found}
 use Rattle.walk.specs.declared.kth.Found.the-variants.{Set, Fewer, Stopped, Book, NoRoom, NoNumber}
 use Rattle.walk.specs.declared.page_answer.Page.{Page}
-use Rattle.walk.specs.declared.page_answer.Page.the-variants.{Whole, Last, Stopped as Cut}
+use Rattle.walk.specs.declared.page_answer.Page.the-variants.{Whole, Last, Cut}
 use Rattle.walk.specs.declared.page_answer.Page.the-variants.{Book as BadBook, NoRoom as TooSmall}
 use Rattle.walk.specs.declared.colours.Picked.{Picked}
 use Rattle.walk.specs.declared.colours.Picked.the-variants.{Nothing, Rule}
-use Rattle.walk.specs.Find.{Told, set, refusedWith, refusedAt, refused, told}
-use Rattle.walk.specs.Page.{Told as PageTold, whole, last, endsBy, refusedAt as badAt, refused as small}
+use Rattle.walk.specs.Find.{told}
+use Rattle.walk.specs.Page.{PageEnd, whole, last, cut}
 use Rattle.walk.specs.Page.{told as pageTold}
 use Rattle.walk.specs.Picked.{picked}
 
-one-again : {A B : Type 0} (tell : A → B) (find : B → A) → ((a : A) → find (tell a) ≡ a) → (x y : A) → tell x ≡ tell y → x ≡ y
-one-again tell find again x y e = sym (again x) ∙ ap find e ∙ again y
-
-abbrev foundAt : Told → Found
-foundAt (set tries) = Set tries
-foundAt (refusedWith number []) = NoNumber
-foundAt (refusedWith number (limit ∷ [])) = Stopped limit
-foundAt (refusedWith number (tries ∷ (sets ∷ l))) = Fewer tries sets
-foundAt (refusedAt number at) = Book (refusalAt number at)
-foundAt (refused number) = ifEq number 8 NoRoom NoNumber
+abbrev foundAt : Told ℕ → Found
+foundAt = again Set (valuesAgain NoNumber Stopped Fewer) (λ number at. Book (refusalAt number at))
+    (λ number. ifEq number 8 NoRoom NoNumber)
 
 found-again : (f : Found) → foundAt (told f) ≡ f
 unfolding ifEq ifb
@@ -40,15 +35,15 @@ found-again NoNumber = refl
 pub found-one : (f g : Found) → told f ≡ told g → f ≡ g
 found-one = one-again told foundAt found-again
 
-abbrev pageAt : PageTold → Page
-pageAt (whole tries) = Whole tries
-pageAt (last tries rows) = Last tries rows
-pageAt (endsBy number rows) = Cut rows
-pageAt (badAt number at) = BadBook (refusalAt number at)
-pageAt (small number) = TooSmall
+abbrev pageEndedBy : PageEnd → Page
+pageEndedBy (whole tries) = Whole tries
+pageEndedBy (last tries rows) = Last tries rows
+pageEndedBy (cut rows) = Cut rows
+
+abbrev pageAt : Told PageEnd → Page
+pageAt = again pageEndedBy (λ values. TooSmall) (λ number at. BadBook (refusalAt number at)) (λ number. TooSmall)
 
 page-again : (p : Page) → pageAt (pageTold p) ≡ p
-unfolding ifEq ifb
 page-again (Whole tries) = refl
 page-again (Last tries rows) = refl
 page-again (Cut rows) = refl

@@ -3,12 +3,13 @@
 --
 --   told             an answer's number and values, case by case
 --   findOf book k limit answer   the answer and the buffer, of the bytes of the book and of the buffer before
-use mathlib.Core.List.{List, [], _∷_}
+use mathlib.Core.List.{List}
 use Prim.Native.Nat.{ℕ, _-_}
 use lib.ListN.{length}
 use Rattle.meaning.specs.Books.{Book}
 use Rattle.meaning.specs.Written.{nothing}
 use Rattle.meaning.specs.Choice.{ifLt, ifEq}
+use Rattle.meaning.specs.Told.{Told, success, refusedAt, refused, fewer, stopped, Answered}
 use Rattle.book.specs.Numbers.{numberOf, placeOf}
 use Rattle.book.specs.Format.{BookRead, good, bad, readOf}
 use Rattle.walk.specs.Events.{events}
@@ -18,22 +19,11 @@ use Rattle.walk.specs.declared.tally.Halt.the-variants.{Going, Full, Lim
 use Rattle.walk.specs.declared.kth.Found.{Found}
 use Rattle.walk.specs.declared.kth.Found.the-variants.{Set, Fewer, Stopped, Book as BadBook, NoRoom, NoNumber}
 
--- success tells the tries; a refusal tells its number, and its values or its place where it has them
-pub data Told : Type 0 where
-  set : ℕ → Told
-  refusedWith : ℕ → List ℕ → Told
-  refusedAt : ℕ → ℕ → Told
-  refused : ℕ → Told
+-- success tells the tries
+abbrev pub set : ℕ → Told ℕ
+set tries = success tries
 
--- "Refusal 11 tells all tries and how many answer sets there are."
-abbrev pub fewer : ℕ → ℕ → Told
-fewer tries sets = refusedWith 11 (tries ∷ (sets ∷ []))
-
--- "Refusal 9 tells L."
-abbrev pub stopped : ℕ → Told
-stopped limit = refusedWith 9 (limit ∷ [])
-
-abbrev pub told : Found → Told
+abbrev pub told : Found → Told ℕ
 told (Set tries) = set tries
 told (Fewer tries sets) = fewer tries sets
 told (Stopped limit) = stopped limit
@@ -41,31 +31,27 @@ told (BadBook f) = refusedAt (numberOf f) (placeOf f)
 told NoRoom = refused 8
 told NoNumber = refused 15
 
-pub record Answered : Type 0 where
-  pub told : Told
-  pub buffer : List ℕ
-
 abbrev pub startOf : List ℕ → State
 startOf answer = record { tally = record { tries = 0; sets = 0; halt = Going }; out = answer }
 
-unfoldable pub toldBy : Halt → State → ℕ → Told
+unfoldable pub toldBy : Halt → State → ℕ → Told ℕ
 toldBy Going s limit = fewer (s .tally .tries) (s .tally .sets)
 toldBy Full s limit = set (s .tally .tries)
 toldBy Limit s limit = stopped limit
 
-abbrev pub answeredBy : State → ℕ → Answered
+abbrev pub answeredBy : State → ℕ → Answered ℕ
 answeredBy s limit = record { told = toldBy (s .tally .halt) s limit; buffer = s .out }
 
 -- the k-th reading: pass over one less, then write one row
-unfoldable pub findIn : Book → ℕ → ℕ → List ℕ → Answered
+unfoldable pub findIn : Book → ℕ → ℕ → List ℕ → Answered ℕ
 findIn b k limit answer =
     ifEq k 0 (record { told = refused 15; buffer = answer })
     (ifLt (length answer) (b .atoms) (record { told = refused 8; buffer = answer })
     (answeredBy (run b (record { pass = k - 1; room = 1; limit = limit }) (startOf answer) (events b nothing)) limit))
 
-unfoldable pub findRead : BookRead → ℕ → ℕ → List ℕ → Answered
+unfoldable pub findRead : BookRead → ℕ → ℕ → List ℕ → Answered ℕ
 findRead (good n r index l) k limit answer = findIn (record { atoms = n; rules = l }) k limit answer
 findRead (bad i at) k limit answer = record { told = refusedAt i at; buffer = answer }
 
-unfoldable pub findOf : List ℕ → ℕ → ℕ → List ℕ → Answered
+unfoldable pub findOf : List ℕ → ℕ → ℕ → List ℕ → Answered ℕ
 findOf book k limit answer = findRead (readOf book) k limit answer

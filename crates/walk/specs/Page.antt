@@ -14,6 +14,7 @@ use lib.ListN.{length, getD}
 use Rattle.meaning.specs.Books.{Atoms, Book}
 use Rattle.meaning.specs.Written.{nothing}
 use Rattle.meaning.specs.Choice.{ifLt, ifEq}
+use Rattle.meaning.specs.Told.{Told, success, refusedAt, refused, Answered}
 use Rattle.book.specs.Numbers.{numberOf, placeOf}
 use Rattle.book.specs.Format.{BookRead, good, bad, readOf}
 use Rattle.walk.specs.Events.{Event, events, rest}
@@ -21,31 +22,21 @@ use Rattle.walk.specs.Run.{State, run}
 use Rattle.walk.specs.declared.tally.Halt.{Halt}
 use Rattle.walk.specs.declared.tally.Halt.the-variants.{Going, Full, Limit}
 use Rattle.walk.specs.declared.page_answer.Page.{Page}
-use Rattle.walk.specs.declared.page_answer.Page.the-variants.{Whole, Last, Stopped, Book as BadBook, NoRoom}
+use Rattle.walk.specs.declared.page_answer.Page.the-variants.{Whole, Last, Cut, Book as BadBook, NoRoom}
 
--- a full page: all tries so far; the last page: all tries, its rows; a page that ends early: the number that finding tells of it, its rows;
--- a refusal
-pub data Told : Type 0 where
-  whole : ℕ → Told
-  last : ℕ → ℕ → Told
-  endsBy : ℕ → ℕ → Told
-  refusedAt : ℕ → ℕ → Told
-  refused : ℕ → Told
+-- success tells how the page ended: it is full, and all tries so far; it is the last one, all tries and its rows; or the limit cut it, and
+-- its rows
+pub data PageEnd : Type 0 where
+  whole : ℕ → PageEnd
+  last : ℕ → ℕ → PageEnd
+  cut : ℕ → PageEnd
 
--- 9: the limit was met
-abbrev pub stopped : ℕ → Told
-stopped rows = endsBy 9 rows
-
-abbrev pub told : Page → Told
-told (Whole tries) = whole tries
-told (Last tries rows) = last tries rows
-told (Stopped rows) = stopped rows
+abbrev pub told : Page → Told PageEnd
+told (Whole tries) = success (whole tries)
+told (Last tries rows) = success (last tries rows)
+told (Cut rows) = success (cut rows)
 told (BadBook f) = refusedAt (numberOf f) (placeOf f)
 told NoRoom = refused 8
-
-pub record Paged : Type 0 where
-  pub told : Told
-  pub buffer : List ℕ
 
 unfoldable pub setIn : List ℕ → Atoms
 setIn row a = eqb (getD row (a .0) 0) 1
@@ -58,23 +49,23 @@ eventsFrom b (suc n) x = rest b nothing x
 unfoldable pub roomIn : Book → ℕ → ℕ
 roomIn b n = ifEq (b .atoms) 0 1 (n / b .atoms)
 
-unfoldable pub toldBy : Halt → State → Told
-toldBy Going s = last (s .tally .tries) (s .tally .sets)
-toldBy Full s = whole (s .tally .tries)
-toldBy Limit s = stopped (s .tally .sets)
+unfoldable pub endedBy : Halt → State → PageEnd
+endedBy Going s = last (s .tally .tries) (s .tally .sets)
+endedBy Full s = whole (s .tally .tries)
+endedBy Limit s = cut (s .tally .sets)
 
-abbrev pub pagedBy : State → Paged
-pagedBy s = record { told = toldBy (s .tally .halt) s; buffer = s .out }
+abbrev pub pagedBy : State → Answered PageEnd
+pagedBy s = record { told = success (endedBy (s .tally .halt) s); buffer = s .out }
 
-unfoldable pub pageIn : Book → ℕ → ℕ → List ℕ → List ℕ → Paged
+unfoldable pub pageIn : Book → ℕ → ℕ → List ℕ → List ℕ → Answered PageEnd
 pageIn b limit tries row out =
     ifLt (length out) (b .atoms) (record { told = refused 8; buffer = out })
     (pagedBy (run b (record { pass = 0; room = roomIn b (length out); limit = limit })
     (record { tally = record { tries = tries; sets = 0; halt = Going }; out = out }) (eventsFrom b tries (setIn row))))
 
-unfoldable pub pageRead : BookRead → ℕ → ℕ → List ℕ → List ℕ → Paged
+unfoldable pub pageRead : BookRead → ℕ → ℕ → List ℕ → List ℕ → Answered PageEnd
 pageRead (good n r index l) limit tries row out = pageIn (record { atoms = n; rules = l }) limit tries row out
 pageRead (bad i at) limit tries row out = record { told = refusedAt i at; buffer = out }
 
-unfoldable pub pageOf : List ℕ → ℕ → ℕ → List ℕ → List ℕ → Paged
+unfoldable pub pageOf : List ℕ → ℕ → ℕ → List ℕ → List ℕ → Answered PageEnd
 pageOf book limit tries row out = pageRead (readOf book) limit tries row out

@@ -3,10 +3,10 @@ ghost use mathlib.Core.Path.{_≡_};
 ghost use Prim.Native.Nat.{_+_, _≤_};
 ghost use lib.ListN.{length};
 ghost use Rattle.meaning.specs.Choice.{ifb};
-ghost use Rattle.meaning.specs.Books.{atomNo};
 ghost use Rattle.book.specs.Tables.{atomsIn};
 ghost use Rattle.walk.specs.Run.{rowFrom, writeAt};
 ghost use Rattle.walk.specs.Page.{setIn};
+use meaning::AtomNo;
 
 // The byte of one atom.
 fn byte(inside: bool) -> u8
@@ -33,10 +33,10 @@ pub fn write_row(atoms: u8, set: &[bool; 255], at: usize, out: &mut [u8])
 }
 
 // The atom is in the set that the row stands for. One past the row's end isn't.
-pub fn in_row(row: &[u8], atom: u8) -> bool
-    ensures { λ r. ⌜ r ≡ setIn (now (row .entry)) (atomNo atom) ⌝ }
+pub fn in_row(row: &[u8], atom: AtomNo) -> bool
+    ensures { λ r. ⌜ r ≡ setIn (now (row .entry)) atom ⌝ }
 {
-    let i = atom as usize;
+    let i = atom.0 as usize;
     if row.len() <= i {
         return false;
     }

@@ -1,13 +1,14 @@
 // The k-th reading of a book.
 ghost use mathlib.Core.Path.{_≡_};
 ghost use mathlib.Core.List.{[]};
-ghost use Prim.Native.Nat.{_-_, _<_, _≤_};
+ghost use Prim.Native.Nat.{ℕ, _-_, _<_, _≤_};
 ghost use lib.ListN.{length};
+ghost use Rattle.meaning.specs.Told.{Answered};
 ghost use Rattle.meaning.specs.Written.{nothing};
 ghost use Rattle.book.specs.Format.{bookIn, ReadAs};
 ghost use Rattle.walk.specs.Events.{events};
 ghost use Rattle.walk.specs.Run.{State, run};
-ghost use Rattle.walk.specs.Find.{Answered, told, toldBy, startOf, findOf};
+ghost use Rattle.walk.specs.Find.{told, toldBy, startOf, findOf};
 use crate::tally::Halt;
 use crate::tally::Tally;
 use crate::walk::walk;
@@ -81,7 +82,7 @@ fn tell(t: Tally, limit: u32) -> Found
 
 // Writes the k-th reading's row to the front of the answer buffer, or says why not.
 pub fn find(book: &[u8], k: u32, limit: u32, answer: &mut [u8]) -> Found
-    ensures { λ r. ⌜ _≡_ {A = Answered} (record { told = told r; buffer = now (answer .exit) })
+    ensures { λ r. ⌜ _≡_ {A = Answered ℕ} (record { told = told r; buffer = now (answer .exit) })
         (findOf (now (book .entry)) k limit (now (answer .entry))) ⌝ }
 {
     match read_book(book) {

@@ -6,9 +6,8 @@ pub enum Page {
     Whole(u32),
     // The walk has come to its end: all tries, and the rows of this last page.
     Last(u32, u32),
-    // Where finding would tell 9: one more try would pass the limit; so many rows stand in
-    // the buffer.
-    Stopped(u32),
+    // One more try would pass the limit: so many rows stand in the buffer.
+    Cut(u32),
     // 1 to 7: the book is refused.
     Book(Refusal),
     // 8: the buffer has fewer bytes than the book has atoms.

@@ -3,8 +3,9 @@ ghost use mathlib.Core.Path.{_≡_};
 ghost use mathlib.Core.List.{[]};
 ghost use Prim.Native.Nat.{_/_};
 ghost use Rattle.meaning.specs.Choice.{ifEq};
+ghost use Rattle.meaning.specs.Told.{success, Answered};
 ghost use Rattle.book.specs.Format.{bookIn, ReadAs};
-ghost use Rattle.walk.specs.Page.{Paged, told, toldBy, pageIn, pageOf};
+ghost use Rattle.walk.specs.Page.{PageEnd, told, endedBy, pageIn, pageOf};
 use crate::page_answer::Page;
 use crate::resume::resume;
 use crate::tally::Halt;
@@ -27,20 +28,20 @@ fn rows_in(atoms: u8, bytes: usize) -> usize
 
 // What a call's tally tells.
 fn tell(t: Tally) -> Page
-    ensures { λ r. ⌜ told r ≡ toldBy (t .halt) (record { tally = t; out = [] }) ⌝ }
+    ensures { λ r. ⌜ told r ≡ success (endedBy (t .halt) (record { tally = t; out = [] })) ⌝ }
 {
     let halt = t.halt;
     match halt {
         Halt::Going => Page::Last(t.tries, t.sets),
         Halt::Full => Page::Whole(t.tries),
-        Halt::Limit => Page::Stopped(t.sets),
+        Halt::Limit => Page::Cut(t.sets),
     }
 }
 
 // The next page of a good book.
 fn page_in(book: &[u8], shape: Shape, limit: u32, tries: u32, last: &[u8], out: &mut [u8]) -> Page
     requires { ⌜ ReadAs (now book) shape ⌝ }
-    ensures { λ r. ⌜ _≡_ {A = Paged} (record { told = told r; buffer = now (out .exit) })
+    ensures { λ r. ⌜ _≡_ {A = Answered PageEnd} (record { told = told r; buffer = now (out .exit) })
         (pageIn (bookIn (now (book .entry))) limit tries (now (last .entry)) (now (out .entry))) ⌝ }
 {
     if out.len() < shape.atoms as usize {
@@ -71,7 +72,7 @@ fn page_in(book: &[u8], shape: Shape, limit: u32, tries: u32, last: &[u8], out: 
 // Writes the rows of the next readings to the buffer, as many as it has room for: the first ones
 // where no try was made yet, else those behind the last row of the page before.
 pub fn page(book: &[u8], limit: u32, tries: u32, last: &[u8], out: &mut [u8]) -> Page
-    ensures { λ r. ⌜ _≡_ {A = Paged} (record { told = told r; buffer = now (out .exit) })
+    ensures { λ r. ⌜ _≡_ {A = Answered PageEnd} (record { told = told r; buffer = now (out .exit) })
         (pageOf (now (book .entry)) limit tries (now (last .entry)) (now (out .entry))) ⌝ }
 {
     match read_book(book) {

@@ -22,6 +22,7 @@ use book::Shape;
 use book::negatives;
 use book::positives;
 use closing::close;
+use meaning::AtomNo;
 use meaning::Colouring;
 use meaning::RuleNo;
 
@@ -42,7 +43,7 @@ fn all_so(part: &[u8], row: &[u8], inside: bool) -> bool
 {
     let mut i = 0;
     while i < part.len() {
-        if !agrees(inside, in_row(row, part[i])) {
+        if !agrees(inside, in_row(row, AtomNo(part[i]))) {
             return false;
         }
         i += 1;

@@ -9,6 +9,7 @@ use Rattle.meaning.specs.declared.AtomNo.{AtomNo}
 use Rattle.meaning.specs.declared.colouring.Colouring.{Colouring}
 use Rattle.meaning.specs.Books.{Book}
 use Rattle.meaning.specs.Claim.{Claim, named, claimed}
+use Rattle.meaning.specs.Told.{refusedAt, refused, fewer, stopped, Answered}
 use Rattle.meaning.specs.Written.{nothing, pair}
 use Rattle.meaning.proofs.Choice.{lt-yes, lt-no}
 use Rattle.meaning.proofs.Written.{pair-nothing}
@@ -16,7 +17,7 @@ use Rattle.book.specs.declared.refusal.Refusal.{Refusal}
 use Rattle.book.specs.declared.reader.Shape.{Shape}
 use Rattle.book.specs.declared.reader.Read.{Read}
 use Rattle.book.specs.declared.reader.Read.the-variants.{Good, Refused}
-use Rattle.book.specs.Numbers.{shape, numberOf, placeOf, refused as badly, told as bookTold}
+use Rattle.book.specs.Numbers.{shape, numberOf, placeOf, told as bookTold}
 use Rattle.book.specs.Format.{BookRead, good, bad, readOf, toldOf, bookOf, bookIn, ReadAs}
 use Rattle.book.proofs.Places.{shape-atoms}
 use Rattle.walk.specs.Run.{State}
@@ -26,8 +27,8 @@ use Rattle.walk.specs.declared.tally.Halt.the-variants.{Going, Full, Limit}
 use Rattle.writer.specs.Branches.{branches}
 use Rattle.writer.specs.Scan.{Progress, writing, scan}
 use Rattle.writer.specs.Needs.{wholePaper}
-use Rattle.writer.specs.Name.{fewer, stopped, refused, Answered, firstWalk, paperWalk, handOver, afterPaperWalk}
-use Rattle.writer.specs.Name.{refusedAt, afterFirstWalk, nameIn, nameRead, nameOf}
+use Rattle.writer.specs.Name.{Handed, firstWalk, paperWalk, handOver, afterPaperWalk}
+use Rattle.writer.specs.Name.{afterFirstWalk, nameIn, nameRead, nameOf}
 use Rattle.writer.specs.Draft.{whole, courseOf, Stage}
 use Rattle.writer.specs.declared.split.Course.the-variants.{Writing, Limited, Refuted}
 use Rattle.writer.specs.declared.split.Drafted.{Drafted}
@@ -76,7 +77,7 @@ module _ (b : Book) (k : Claim) (limit : ℕ) (buffer : List ℕ) (below : claim
     unfolding afterPaperWalk
     name-refuted f = sym (name-paper ∙ rw f)
 
-    pub name-handed : q .course ≡ Writing → {a : Answered}
+    pub name-handed : q .course ≡ Writing → {a : Answered Handed}
         → a ≡ handOver (q .tries) (wholePaper b k (paperWalk b k limit .bytes) (setIn row)) buffer → a ≡ nameIn b k limit buffer
     unfolding afterPaperWalk
     name-handed f g = g ∙ rw (d .tries) (sym (name-paper ∙ rw f))
@@ -94,7 +95,7 @@ module _ (a : AtomNo) (limit : ℕ) (buffer : List ℕ) where
   read-good (good n k index l) e = refl
   read-good (bad i at) e = apart (cc)
 
-  read-bad : (x : BookRead) {i at : ℕ} → toldOf x ≡ badly i at
+  read-bad : (x : BookRead) {i at : ℕ} → toldOf x ≡ refusedAt i at
       → only buffer (refusedAt i at) ≡ nameRead x a limit buffer
   unfolding toldOf nameRead
   read-bad (good n k index l) e = apart (cc)
@@ -114,7 +115,7 @@ module _ (a : AtomNo) (limit : ℕ) (buffer : List ℕ) where
       unfolding nameOf bookIn
       name-book = read-good (readOf s) read-as
 
-      pub name-good : {r : Answered} → r ≡ nameIn (bookIn s) (named a) limit buffer → r ≡ nameOf s a limit buffer
+      pub name-good : {r : Answered Handed} → r ≡ nameIn (bookIn s) (named a) limit buffer → r ≡ nameOf s a limit buffer
       name-good f = f ∙ sym name-book
 
       pub name-no-atom : h .atoms ≤ a .0 → only buffer (refused 13) ≡ nameOf s a limit buffer

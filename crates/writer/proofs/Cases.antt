@@ -15,6 +15,7 @@ use Rattle.meaning.specs.Computed.{iterate, upheld, supportMore, support, goesO
 use Rattle.meaning.specs.Lowest.{onPick, oneOr, lowestFrom, lowest, listedIf, rulesFrom, rulesIn}
 use Rattle.meaning.specs.Engine.{firstOf, unsupported, next, listable, listing, witnessOf}
 use Rattle.meaning.specs.Choice.{ifb, ifLt, ifEq}
+use Rattle.meaning.specs.Told.{refused, fewer, stopped}
 use Rattle.book.specs.Format.{u16At, partOf, andThen, bytesOf, recordOf, lengthOf, ruleOf, recordsOf, rulesOf, ifFine, bodyOf, readOf}
 use Rattle.walk.specs.Events.{after, eventsIn, events}
 use Rattle.walk.specs.Run.{rowFrom, rowOf, writeAt, readingMet, tried, met as eventMet, run}
@@ -22,7 +23,7 @@ use Rattle.walk.specs.Page.{setIn}
 use Rattle.writer.specs.Branches.{behind, branchBy, branchIn, branch, below, branchesIn, branches}
 use Rattle.writer.specs.Scan.{courseAt, met, scan}
 use Rattle.writer.specs.Needs.{wholePaper}
-use Rattle.writer.specs.Name.{paper, fewer, stopped, refused, firstWalk, paperWalk, handOver, afterPaperWalk}
+use Rattle.writer.specs.Name.{paper, firstWalk, paperWalk, handOver, afterPaperWalk}
 use Rattle.writer.specs.Name.{afterFirstWalk, nameIn, nameRead, nameOf}
 
 -- "Fact 0: 00 00 00 | 00 00 | 01 01 03 00 52 42"

@@ -8,6 +8,7 @@ use lib.Dec.{eqb}
 use lib.ListN.{length, getD, drop, replicate}
 use Rattle.meaning.specs.Books.{Atoms, Book, count}
 use Rattle.meaning.specs.AnswerSet.{AnswerSet}
+use Rattle.meaning.specs.Told.{Told, fewer, stopped, Answered}
 use Rattle.meaning.specs.Written.{nothing}
 use Rattle.meaning.proofs.Choice.{lt-no, eq-no}
 use Rattle.meaning.proofs.LeastModel.{Inside}
@@ -15,7 +16,7 @@ use Rattle.walk.specs.Events.{events}
 use Rattle.walk.specs.Readings.{readingsIn, readings}
 use Rattle.walk.specs.Tries.{Kth, Needs}
 use Rattle.walk.specs.Run.{rowOf, State}
-use Rattle.walk.specs.Find.{Told, set, fewer, stopped, Answered, toldBy, answeredBy, findIn}
+use Rattle.walk.specs.Find.{set, toldBy, answeredBy, findIn}
 use Rattle.walk.specs.Page.{setIn}
 use Rattle.walk.specs.declared.tally.Halt.{Halt}
 use Rattle.walk.specs.declared.tally.Halt.the-variants.{Going, Full, Limit}
@@ -97,8 +98,8 @@ module _ (b : Book) where
       unfolding findIn firstWalk
       as-found = eq-no _ _ _ _ (λ (e : _≡_ {A = ℕ} 1 0). absurd (omega arith)) ∙ lt-no _ _ _ _ few
 
-      told-as : {t : Told} → findIn b 1 limit (zeros 255) .told ≡ t → toldBy (walked .tally .halt) walked limit ≡ t
-      told-as e = ap (λ (a : Answered). a .told) (sym as-found) ∙ e
+      told-as : {t : Told ℕ} → findIn b 1 limit (zeros 255) .told ≡ t → toldBy (walked .tally .halt) walked limit ≡ t
+      told-as e = ap (λ (a : Answered ℕ). a .told) (sym as-found) ∙ e
 
       pub first-limited : {n : ℕ} → Needs b 1 n → limit < n → firstWalk b limit .tally .halt ≡ Limit
       first-limited p h = told-limit _ walked (told-as (find-stopped b 1 limit (zeros 255) (omega arith) few .1 (_, p, h)))
@@ -113,5 +114,5 @@ module _ (b : Book) where
       first-found {t} {x} p h =
           let e = find-set b 1 limit (zeros 255) (omega arith) few t .1 (x, p, h) in (
             told-full _ walked t (told-as e),
-            ap (λ (a : Answered). a .buffer) (sym as-found) ∙ find-row b 1 limit (zeros 255) t x e p,
+            ap (λ (a : Answered ℕ). a .buffer) (sym as-found) ∙ find-row b 1 limit (zeros 255) t x e p,
           )

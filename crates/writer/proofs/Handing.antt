@@ -12,9 +12,10 @@ use Rattle.meaning.specs.Books.{Atoms, Book}
 use Rattle.meaning.specs.Claim.{Claim}
 use Rattle.meaning.specs.Paper.{numbers, trailer}
 use Rattle.meaning.specs.Engine.{witnessOf}
+use Rattle.meaning.specs.Told.{refused}
 use Rattle.walk.specs.Run.{writeAt}
 use Rattle.writer.specs.Needs.{wholePaper}
-use Rattle.writer.specs.Name.{paper, refused, handOver}
+use Rattle.writer.specs.Name.{paper, handOver}
 use Rattle.writer.specs.Draft.{Stands, whole, passed, Writes}
 use Rattle.writer.proofs.Stages.{only, hand-no-room, hand-long, hand-over}
 

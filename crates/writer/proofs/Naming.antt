@@ -15,6 +15,7 @@ use Rattle.meaning.specs.AnswerSet.{AnswerSet, Throughout}
 use Rattle.meaning.specs.Colours.{start}
 use Rattle.meaning.specs.Claim.{Claim, meant}
 use Rattle.meaning.specs.Paper.{Keeps}
+use Rattle.meaning.specs.Told.{Told, success, refusedWith, refusedAt, refused, fewer, stopped, Answered}
 use Rattle.meaning.proofs.Tests.{clash}
 use Rattle.walk.specs.Readings.{readings}
 use Rattle.walk.specs.Tries.{Kth, to-reading, to-end}
@@ -24,7 +25,7 @@ use Rattle.walk.proofs.Needs.{needs-one as tries-one}
 use Rattle.writer.specs.Branches.{branches}
 use Rattle.writer.specs.Needs.{settled, Stuck, Needs, to-stuck, paperFor}
 use Rattle.writer.specs.Needs.{to-end as to-last}
-use Rattle.writer.specs.Name.{Told, paper, refusedWith, fewer, stopped, refusedAt, refused, Answered, nameIn}
+use Rattle.writer.specs.Name.{Handed, paper, nameIn}
 use Rattle.writer.proofs.Needs.{stuck-unsettled, needs-one}
 use Rattle.writer.proofs.Papers.{settled-each, unsettled-one, certain-settled, paper-keeps}
 use Rattle.writer.proofs.First.{kth-answer, fewer-none}
@@ -34,9 +35,10 @@ use Rattle.writer.proofs.Ways.{way-too-long, way-paper, name-outcome}
 
 module _ (b : Book) (k : Claim) (limit : ℕ) (buffer : List ℕ) where
   -- what is told, and the buffer afterwards, say which way the call went
-  Says : Told → List ℕ → Type 0
-  Says (paper t n) after = (x : Atoms) × Found b limit x × Settled b k limit × (t ≡ length (branches b k start))
-      × (n ≡ length (paperFor b k x)) × (n ≤ length buffer) × (n ≤ 60000) × (after ≡ paperFor b k x ++ drop n buffer)
+  Says : Told Handed → List ℕ → Type 0
+  Says (success s) after = (x : Atoms) × Found b limit x × Settled b k limit × (s .tries ≡ length (branches b k start))
+      × (s .size ≡ length (paperFor b k x)) × (s .size ≤ length buffer) × (s .size ≤ 60000)
+      × (after ≡ paperFor b k x ++ drop (s .size) buffer)
   Says (refusedWith i []) after = ⊥
   Says (refusedWith i (l ∷ [])) after =
       ((n : ℕ) × NeedsTries b 1 n × (limit < n)) ⊎ ((n : ℕ) × Needs b k n × (limit < n) × (x : Atoms) × Found b limit x)
@@ -44,7 +46,7 @@ module _ (b : Book) (k : Claim) (limit : ℕ) (buffer : List ℕ) where
   Says (refusedAt i at) after = ⊥
   Says (refused i) after = ((n : ℕ) × Stuck b k n × (i ≡ 12)) ⊎ ((x : Atoms) × Found b limit x × TooLong b k buffer x × (i ≡ 14))
 
-  outcome-says : {a : Answered} → Outcome b k limit buffer a → Says (a .told) (a .buffer)
+  outcome-says : {a : Answered Handed} → Outcome b k limit buffer a → Says (a .told) (a .buffer)
   unfolding Says
   outcome-says (first-stopped {n} p h) = inl (n, p, h)
   outcome-says (no-reading h l) = h
@@ -54,11 +56,11 @@ module _ (b : Book) (k : Claim) (limit : ℕ) (buffer : List ℕ) where
   outcome-says (handed-over {x} f s h l) = (x, f, s, refl, refl, h, l, refl)
 
   module _ (good : Nameable b k) where
-    says : {t : Told} → nameIn b k limit buffer .told ≡ t → Says t (nameIn b k limit buffer .buffer)
-    says e = subst (λ (t : Told). Says t (nameIn b k limit buffer .buffer)) e (outcome-says (name-outcome b k limit buffer good))
+    says : {t : Told Handed} → nameIn b k limit buffer .told ≡ t → Says t (nameIn b k limit buffer .buffer)
+    says e = subst (λ (t : Told Handed). Says t (nameIn b k limit buffer .buffer)) e (outcome-says (name-outcome b k limit buffer good))
 
-    told-by : {a : Answered} → nameIn b k limit buffer ≡ a → nameIn b k limit buffer .told ≡ a .told
-    told-by e = ap (λ (a : Answered). a .told) e
+    told-by : {a : Answered Handed} → nameIn b k limit buffer ≡ a → nameIn b k limit buffer .told ≡ a .told
+    told-by e = ap (λ (a : Answered Handed). a .told) e
 
     -- ---- in document 01's order
 
@@ -171,7 +173,7 @@ module _ (b : Book) (k : Claim) (limit : ℕ) (buffer : List ℕ) where
         ⊎ ((nameIn b k limit buffer .told ≡ stopped limit) ⊎ (nameIn b k limit buffer .told ≡ refused 14))
     name-certain-told c = by (name-outcome b k limit buffer good)
       where
-        by : {a : Answered} → Outcome b k limit buffer a
+        by : {a : Answered Handed} → Outcome b k limit buffer a
             → ((t : ℕ) × (n : ℕ) × (a .told ≡ paper t n)) ⊎ ((a .told ≡ stopped limit) ⊎ (a .told ≡ refused 14))
         by (first-stopped p h) = inr (inl refl)
         by (no-reading h l) = absurd (fewer-none b (good .few-rules) h (c .one .0) (c .one .1))
@@ -199,7 +201,7 @@ module _ (b : Book) (k : Claim) (limit : ℕ) (buffer : List ℕ) where
         open-branch : {A : Type 0} → Settled b k limit → A
         open-branch s = absurd (not (record { one = some; each = settled-each b k (good .few-rules) (s .0) }))
 
-        by : {a : Answered} → Outcome b k limit buffer a → (a .told ≡ refused 12) ⊎ (a .told ≡ stopped limit)
+        by : {a : Answered Handed} → Outcome b k limit buffer a → (a .told ≡ refused 12) ⊎ (a .told ≡ stopped limit)
         by (first-stopped p h) = inr refl
         by (no-reading h l) = absurd (fewer-none b (good .few-rules) h (some .0) (some .1))
         by (paper-stopped f p h) = inr refl

@@ -9,17 +9,18 @@ use lib.ListN.{length, drop}
 use Rattle.meaning.specs.declared.AtomNo.{AtomNo}
 use Rattle.meaning.specs.Books.{Rule, Book}
 use Rattle.meaning.specs.Claim.{Claim, named, claimed}
+use Rattle.meaning.specs.Told.{Told, refusedAt, refused, Answered}
 use Rattle.meaning.proofs.Choice.{lt-yes, lt-no, lt-either}
 use Rattle.book.specs.Format.{BookRead, good, bad, readOf}
 use Rattle.walk.specs.Run.{State, writeAt}
 use Rattle.walk.specs.declared.tally.Halt.{Halt}
 use Rattle.walk.specs.declared.tally.Halt.the-variants.{Going, Full, Limit}
 use Rattle.writer.specs.Scan.{Course, writing, limited, refuted, Progress}
-use Rattle.writer.specs.Name.{Told, paper, refusedAt, refused, Answered, handOver, afterPaperWalk, afterFirstWalk}
+use Rattle.writer.specs.Name.{Handed, paper, handOver, afterPaperWalk, afterFirstWalk}
 use Rattle.writer.specs.Name.{nameIn, nameRead, nameOf}
 
 -- an answer that leaves the buffer
-abbrev pub only : List ℕ → Told → Answered
+abbrev pub only : List ℕ → Told Handed → Answered Handed
 only buffer t = record { told = t; buffer = buffer }
 
 -- ---- the paper is handed over
@@ -41,7 +42,7 @@ module _ (tries : ℕ) (whole buffer : List ℕ) where
 -- ---- where the buffer stays
 
 -- the answer tells a paper, or the buffer is as before
-abbrev Keeping : List ℕ → Answered → Type 0
+abbrev Keeping : List ℕ → Answered Handed → Type 0
 Keeping buffer a = ((tries : ℕ) × (n : ℕ) × (a .told ≡ paper tries n)) ⊎ (a .buffer ≡ buffer)
 
 module _ (b : Book) (k : Claim) (limit : ℕ) (buffer : List ℕ) where

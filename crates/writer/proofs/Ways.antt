@@ -11,6 +11,7 @@ use Rattle.meaning.specs.Sets.{every}
 use Rattle.meaning.specs.Books.{Atoms, Book, count, rule}
 use Rattle.meaning.specs.Colours.{start}
 use Rattle.meaning.specs.Claim.{Claim, claimed}
+use Rattle.meaning.specs.Told.{refused, fewer, stopped, Answered}
 use Rattle.meaning.specs.Written.{nothing}
 use Rattle.meaning.proofs.Tests.{decided, lt-or-le}
 use Rattle.meaning.proofs.Rules.{rule-member}
@@ -27,7 +28,7 @@ use Rattle.walk.proofs.Needs.{kth-or-fewer}
 use Rattle.writer.specs.Branches.{branches}
 use Rattle.writer.specs.Needs.{settled, Stuck, Needs, to-stuck, paperFor}
 use Rattle.writer.specs.Needs.{to-end as to-last}
-use Rattle.writer.specs.Name.{paper, fewer, stopped, refused, Answered, firstWalk, paperWalk, handOver}
+use Rattle.writer.specs.Name.{Handed, paper, firstWalk, paperWalk, handOver}
 use Rattle.writer.specs.Name.{afterPaperWalk, afterFirstWalk, nameIn}
 use Rattle.writer.proofs.Needs.{stuck-some, paper-limited, paper-stuck, paper-written}
 use Rattle.writer.proofs.Stages.{only, hand-no-room, hand-long, hand-over}
@@ -49,7 +50,7 @@ fits-nameable b k fits h = record {
 }
 
 -- the answer where the paper with the witness of x stands in the buffer; its tries are the branches
-abbrev pub written : Book → Claim → List ℕ → Atoms → Answered
+abbrev pub written : Book → Claim → List ℕ → Atoms → Answered Handed
 written b k buffer x = record {
   told = paper (length (branches b k start)) (length (paperFor b k x));
   buffer = paperFor b k x ++ drop (length (paperFor b k x)) buffer;
@@ -68,7 +69,7 @@ abbrev pub TooLong : Book → Claim → List ℕ → Atoms → Type 0
 TooLong b k buffer x = (length buffer < length (paperFor b k x)) ⊎ (60000 < length (paperFor b k x))
 
 module _ (b : Book) (k : Claim) (limit : ℕ) (buffer : List ℕ) where
-  pub data Outcome : Answered → Type 0 where
+  pub data Outcome : Answered Handed → Type 0 where
     first-stopped : {n : ℕ} → NeedsTries b 1 n → limit < n → Outcome (only buffer (stopped limit))
     no-reading : length (readings b) < 1 → length (events b nothing) ≤ limit → Outcome (only buffer (fewer (length (events b nothing)) 0))
     paper-stopped : {x : Atoms} {n : ℕ} → Found b limit x → Needs b k n → limit < n → Outcome (only buffer (stopped limit))
@@ -78,7 +79,7 @@ module _ (b : Book) (k : Claim) (limit : ℕ) (buffer : List ℕ) where
         → length (paperFor b k x) ≤ 60000 → Outcome (written b k buffer x)
 
   module _ (good : Nameable b k) where
-    abbrev answer : Answered
+    abbrev answer : Answered Handed
     answer = nameIn b k limit buffer
 
     -- ---- what each way answers

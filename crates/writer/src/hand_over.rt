@@ -3,13 +3,14 @@ ghost use mathlib.Core.Path.{_≡_};
 ghost use mathlib.Core.List.{List};
 ghost use Prim.Native.Nat.{ℕ, _<_, _≤_};
 ghost use lib.ListN.{length, take};
+ghost use Rattle.meaning.specs.Told.{Answered};
 ghost use Rattle.meaning.specs.Claim.{named};
 ghost use Rattle.book.specs.Format.{bookIn, ReadAs};
 ghost use Rattle.walk.specs.Run.{writeAt};
 ghost use Rattle.walk.specs.Page.{setIn};
 ghost use Rattle.writer.specs.Draft.{Stands};
 ghost use Rattle.writer.specs.Needs.{wholePaper};
-ghost use Rattle.writer.specs.Name.{told, Answered, handOver};
+ghost use Rattle.writer.specs.Name.{Handed, told, handOver};
 use crate::answer::Named;
 use crate::draft::write_trailer;
 use crate::witness::write_witness;
@@ -52,7 +53,7 @@ fn copy(draft: &[u8; 60000], n: usize, paper: &mut [u8])
 pub fn hand_over(tries: u32, draft: &[u8; 60000], n: usize, paper: &mut [u8]) -> Named
     requires { ⌜ length (now draft) ≡ 60000 ⌝ }
     ensures { λ r. ⌜ ((whole : List ℕ) → Stands whole n (now (draft .entry)) →
-        _≡_ {A = Answered} (record { told = told r; buffer = now (paper .exit) })
+        _≡_ {A = Answered Handed} (record { told = told r; buffer = now (paper .exit) })
         (handOver tries whole (now (paper .entry)))) ⌝ }
 {
     if paper.len() < n {

@@ -1,9 +1,10 @@
 // Names an atom: the book first, then the walk to the first reading, then the paper.
 ghost use mathlib.Core.Path.{_≡_};
 ghost use Prim.Native.Nat.{_<_};
+ghost use Rattle.meaning.specs.Told.{Answered};
 ghost use Rattle.meaning.specs.Claim.{named};
 ghost use Rattle.book.specs.Format.{bookIn, ReadAs};
-ghost use Rattle.writer.specs.Name.{told, Answered, nameIn, nameOf};
+ghost use Rattle.writer.specs.Name.{Handed, told, nameIn, nameOf};
 use crate::answer::Named;
 use crate::hand_over::finish;
 use crate::hand_over::hand_over;
@@ -22,7 +23,8 @@ use walk::first;
 // walk, and the witness of that reading, in a draft that is handed over when it is whole.
 fn name_in(book: &[u8], shape: Shape, atom: AtomNo, limit: u32, paper: &mut [u8]) -> Named
     requires { ⌜ ReadAs (now book) shape × (atom .0 < shape .atoms) ⌝ }
-    ensures { λ r. ⌜ _≡_ {A = Answered} (record { told = told r; buffer = now (paper .exit) })
+    ensures { λ r. ⌜ _≡_ {A = Answered Handed}
+        (record { told = told r; buffer = now (paper .exit) })
         (nameIn (bookIn (now (book .entry))) (named atom) limit (now (paper .entry))) ⌝ }
 {
     let mut row = [0u8; Colouring::ATOMS];
@@ -62,7 +64,8 @@ fn name_in(book: &[u8], shape: Shape, atom: AtomNo, limit: u32, paper: &mut [u8]
 // Writes the engine's own paper that the atom is certain to the front of the buffer, or says why
 // not.
 pub fn name(book: &[u8], atom: AtomNo, limit: u32, paper: &mut [u8]) -> Named
-    ensures { λ r. ⌜ _≡_ {A = Answered} (record { told = told r; buffer = now (paper .exit) })
+    ensures { λ r. ⌜ _≡_ {A = Answered Handed}
+        (record { told = told r; buffer = now (paper .exit) })
         (nameOf (now (book .entry)) atom limit (now (paper .entry))) ⌝ }
 {
     match read_book(book) {

@@ -16,8 +16,8 @@ module _ (c : tie.After-branch) where
   start = c .before .before .before .before .before
 
   came : (x : Walked) → walked (c .branch .result) ≡ x → let s = start .args in let t = s .trailer in
-      branchTold (bookIn (s .book .now)) (s .paper .now) (t .atom .0) (t .count) (t .from) x
-      ≡ stepsTold (bookIn (s .book .now)) (named (t .atom)) (s .paper .now) (t .atom .0) (t .count) (t .from)
+      branchTold (bookIn (s .book .now)) (s .paper .now) (t .atom) (t .count) (t .from) x
+      ≡ stepsTold (bookIn (s .book .now)) (named (t .atom)) (s .paper .now) (t .atom) (t .count) (t .from)
   came x e = steps-are _ _ _ _ _ _ (c .before .empty .ensures) (c .branch .ensures .0) e
 
 returns : tie.Need-returns

@@ -8,4 +8,6 @@ use Rattle.walk.proofs.bytes.in_row.Tie as tie
 
 pub in-row-spec : {M : Type 1} → statement M
 unfolding setIn
-in-row-spec = tie.close (tie.spec (λ c. search (needs, row-past)) (λ c. search needs) (λ c. refl))
+in-row-spec =
+    tie.close (tie.spec (λ c. search needs)
+    (λ c. let a = c .before .before .args in row-past (a .row .now) (a .atom) (c .if1 .taken)) (λ c. search needs) (λ c. refl))
