@@ -54,11 +54,14 @@ fn answer_find(words: &[&[u8]]) -> Option<Answer> {
     let limit = decimal(words[2], MOST_NUMBER)?;
     let room = decimal(words[3], MOST_ROOM)? as usize;
     let bytes = hexadecimal(words[4], MOST_BOOK)?;
-    let finding = match Book::read(&bytes) {
-        Ok(book) => find(&book, k, limit, room),
-        Err(refusal) => Finding::Refused(refusal),
-    };
-    Some(match finding {
+    Some(match Book::read(&bytes).and_then(|book| find(&book, k, limit, room)) {
+        Err(refusal) => refused(refusal, 0),
+        Ok(finding) => found_answer(finding, limit),
+    })
+}
+
+fn found_answer(finding: Finding, limit: u64) -> Answer {
+    match finding {
         Finding::Set(found) => {
             let mut text = format!("set {}", found.tries);
             for atom in found.set.members() {
@@ -70,8 +73,7 @@ fn answer_find(words: &[&[u8]]) -> Option<Answer> {
             Answer { text: format!("fewer {} {}", tries, sets), tries }
         }
         Finding::Limit => Answer { text: format!("limit {}", limit), tries: limit },
-        Finding::Refused(refusal) => refused(refusal, 0),
-    })
+    }
 }
 
 fn answer_name(words: &[&[u8]]) -> Option<Answer> {

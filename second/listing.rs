@@ -2,7 +2,6 @@
 
 use crate::book::Book;
 use crate::closing::Support;
-use crate::meaning::is_answer_set;
 use crate::numbers::AtomSet;
 use crate::walk::{walk, Visit, WalkEnd};
 use std::io::{Result, Write};
@@ -22,15 +21,10 @@ pub fn write_readings(bytes: &[u8], limit: u64, out: &mut dyn Write) -> Result<u
     writeln!(out, "rules {} atoms {}", book.rules.len(), book.atoms)?;
     let mut sets = 0u64;
     let mut trouble = Ok(());
-    let mut least = true;
     let (end, tries) = walk(&book, limit, Support::Kept, &mut |colouring, _| {
-        let set = book.heads(&colouring.on);
-        least = is_answer_set(&book, &set);
-        if least {
-            sets += 1;
-            trouble = write_set(sets, &set, out);
-        }
-        if least && trouble.is_ok() {
+        sets += 1;
+        trouble = write_set(sets, &book.heads(&colouring.on), out);
+        if trouble.is_ok() {
             Visit::GoOn
         } else {
             Visit::Stop
@@ -38,9 +32,8 @@ pub fn write_readings(bytes: &[u8], limit: u64, out: &mut dyn Write) -> Result<u
     });
     trouble?;
     match end {
-        WalkEnd::Whole => writeln!(out, "end {} tries {}", sets, tries)?,
         WalkEnd::Limit => writeln!(out, "stopped {} tries {}", sets, limit)?,
-        WalkEnd::Stopped => writeln!(out, "refused 10 0")?,
+        _ => writeln!(out, "end {} tries {}", sets, tries)?,
     }
     Ok(tries)
 }

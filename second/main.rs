@@ -21,6 +21,7 @@ mod numbers;
 mod paper;
 mod random;
 mod selftest;
+mod selftest_closing;
 mod selftest_papers;
 mod selftest_words;
 mod shapes;

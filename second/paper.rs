@@ -151,7 +151,6 @@ pub fn name(book: &Book, claimed: u8, limit: u64, room: usize) -> (Naming, u64) 
         Finding::Set(found) => found,
         Finding::Fewer { tries, .. } => return (Naming::NoReading { tries }, tries),
         Finding::Limit => return (Naming::Limit, limit),
-        Finding::Refused(refusal) => return (Naming::Refused(refusal), 0),
     };
     let claimed = Atom(claimed);
     let mut writer = Writer { book, claimed, limit, tries: 0, steps: Vec::new(), length: 0 };

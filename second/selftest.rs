@@ -6,6 +6,7 @@ use crate::closing::{close, Colouring, Support};
 use crate::meaning::{answer_sets, comes_before};
 use crate::numbers::AtomSet;
 use crate::random::Random;
+use crate::selftest_closing::{closings, ClosingCounts};
 use crate::selftest_papers::{papers, PaperCounts};
 use crate::selftest_words::{steps_back, words_back};
 use crate::shapes::{random_book, SHAPES};
@@ -31,13 +32,16 @@ pub fn run() -> Result<(), String> {
     println!("worked books: {} lines as document 01 prints them", assert_worked());
     let mut random = Random::new(SEED);
     let mut counts = BookCounts::default();
+    let mut closing_counts = ClosingCounts::default();
     let mut paper_counts = PaperCounts::default();
     for number in 0..BOOKS {
         let book = drawn_book(&mut random, number);
         let sets = compare(&book, &mut counts);
+        closings(&book, &sets, &mut closing_counts);
         papers(&book, &sets, &mut random, &mut paper_counts);
     }
     report(&counts);
+    closing_counts.report();
     paper_counts.report();
     println!("damaged bytes: {} books and papers read to an end", damaged(&mut random));
     println!("words: {} books to words and back", words_back(&mut random, drawn_book));
@@ -94,14 +98,14 @@ fn compare_finding(book: &Book, walked: &[(AtomSet, u64)], tries: u64, counts: &
     for (number, (set, at)) in walked.iter().enumerate() {
         let k = number as u64 + 1;
         match find(book, k, *at, book.atoms) {
-            Finding::Set(found) => assert_eq!((found.set, found.tries), (*set, *at)),
+            Ok(Finding::Set(found)) => assert_eq!((found.set, found.tries), (*set, *at)),
             other => panic!("{:?} for reading {} of {:?}", other, k, book),
         }
-        assert_eq!(find(book, k, at - 1, book.atoms), Finding::Limit);
+        assert_eq!(find(book, k, at - 1, book.atoms), Ok(Finding::Limit));
     }
     let sets = walked.len() as u64;
-    assert_eq!(find(book, sets + 1, tries, book.atoms), Finding::Fewer { tries, sets });
-    assert_eq!(find(book, sets + 1, tries - 1, book.atoms), Finding::Limit);
+    assert_eq!(find(book, sets + 1, tries, book.atoms), Ok(Finding::Fewer { tries, sets }));
+    assert_eq!(find(book, sets + 1, tries - 1, book.atoms), Ok(Finding::Limit));
     counts.finds += 2 * walked.len() + 2;
 }
 

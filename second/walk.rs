@@ -2,7 +2,6 @@
 
 use crate::book::{Book, Refusal};
 use crate::closing::{close, Colouring, Support};
-use crate::meaning::is_answer_set;
 use crate::numbers::{AtomSet, RuleSet};
 
 /// How a walk came to its end.
@@ -80,7 +79,6 @@ pub enum Finding {
     Set(Found),
     Fewer { tries: u64, sets: u64 },
     Limit,
-    Refused(Refusal),
 }
 
 /// The walk for the k-th answer set; k is at least 1.
@@ -99,25 +97,19 @@ pub fn find_set(book: &Book, k: u64, limit: u64) -> Finding {
     match end {
         WalkEnd::Limit => Finding::Limit,
         WalkEnd::Whole => Finding::Fewer { tries, sets },
-        WalkEnd::Stopped => {
-            let set = book.heads(&on);
-            if !is_answer_set(book, &set) {
-                return Finding::Refused(Refusal::placeless(10));
-            }
-            Finding::Set(Found { set, on, tries })
-        }
+        WalkEnd::Stopped => Finding::Set(Found { set: book.heads(&on), on, tries }),
     }
 }
 
 /// Finding as a caller sees it: 15 and 8 come before the walk.
-pub fn find(book: &Book, k: u64, limit: u64, room: usize) -> Finding {
+pub fn find(book: &Book, k: u64, limit: u64, room: usize) -> Result<Finding, Refusal> {
     if k == 0 {
-        return Finding::Refused(Refusal::placeless(15));
+        return Err(Refusal::placeless(15));
     }
     if room < book.atoms {
-        return Finding::Refused(Refusal::placeless(8));
+        return Err(Refusal::placeless(8));
     }
-    find_set(book, k, limit)
+    Ok(find_set(book, k, limit))
 }
 
 /// All readings in the walk's order, with the tries after which each came, or None past the limit.

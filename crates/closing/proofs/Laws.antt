@@ -4,6 +4,7 @@
 use mathlib.Core.Path.{_≡_}
 use mathlib.Core.Bool.{true, false}
 use Prim.Native.Nat.{_≤_}
+use Rattle.meaning.specs.declared.AtomNo.{AtomNo}
 use Rattle.meaning.specs.declared.RuleNo.{RuleNo}
 use Rattle.meaning.specs.declared.colouring.Colouring.{Colouring}
 use Rattle.meaning.specs.Books.{Atoms, Book, count, InBook}
@@ -16,6 +17,7 @@ use Rattle.meaning.proofs.Rules.{clashing-no}
 use Rattle.meaning.proofs.Lowest.{lowest-total}
 use Rattle.meaning.proofs.Written.{Sized}
 use Rattle.meaning.proofs.Answers.{total-answer, total-stands, closing-keeps-answers, clash-no-answer}
+use Rattle.meaning.proofs.LeastModel.{leastModel, total-least}
 use Rattle.meaning.proofs.Closing.{close-is}
 
 module _ (b : Book) (few : count b ≤ 255) (c : Colouring) (sized : Sized c) where
@@ -26,6 +28,10 @@ module _ (b : Book) (few : count b ≤ 255) (c : Colouring) (sized : Sized c) wh
   module _ (clear : clashing b (pair (close b c)) ≡ false) (full : lowest b (uncoloured (pair (close b c))) ≡ none) where
     pub reading-answer : AnswerSet b (heads b (of (close b c .on)))
     reading-answer = total-answer b (pair (close b c)) close-closed (lowest-total b _ full) (clashing-no b _ clear)
+
+    -- the least model of its own reduct, so that whoever finds it need not ask
+    pub reading-least : (a : AtomNo) → leastModel b (heads b (of (close b c .on))) a ≡ heads b (of (close b c .on)) a
+    reading-least = total-least b (pair (close b c)) close-closed (lowest-total b _ full) (clashing-no b _ clear) few
 
     pub reading-stands : (r : RuleNo) → InBook b r
         → (of (close b c .on) r ≡ colouringOf b (heads b (of (close b c .on))) .on r)

@@ -14,7 +14,7 @@ use Rattle.meaning.proofs.Choice.{lt-yes, lt-no, lt-either, eq-yes, eq-no, eq-e
 use Rattle.walk.specs.Run.{State}
 use Rattle.walk.specs.Find.{set, toldBy, findIn, findOf}
 use Rattle.walk.specs.declared.tally.Halt.{Halt}
-use Rattle.walk.specs.declared.tally.Halt.the-variants.{Going, Full, Limit, NotLeast}
+use Rattle.walk.specs.declared.tally.Halt.the-variants.{Going, Full, Limit}
 use Rattle.walk.proofs.Run.{apart}
 use Rattle.walk.proofs.Demand.{find-bad-book}
 use Rattle.walk.proofs.Kept.{find-keeps}
@@ -34,7 +34,6 @@ use Rattle.demands.proofs.Calls.{found-as, named-as}
 data Finds (k : ℕ) (room atoms : ℕ) : Told ℕ → Type 0 where
   no-number : k ≡ 0 → Finds k room atoms (refused 15)
   no-room : 0 < k → room < atoms → Finds k room atoms (refused 8)
-  not-least : Finds k room atoms (refused 10)
   found : {t : ℕ} → Finds k room atoms (set t)
   too-few : {t n : ℕ} → Finds k room atoms (fewer t n)
   too-long : {l : ℕ} → Finds k room atoms (stopped l)
@@ -48,7 +47,6 @@ module _ (b : Book) (k limit : ℕ) (answer : List ℕ) where
   walk-tells Going s = too-few
   walk-tells Full s = found
   walk-tells Limit s = too-long
-  walk-tells NotLeast s = not-least
 
   find-tells : FindTells (findIn b k limit answer .told)
   unfolding findIn
@@ -113,7 +111,6 @@ module _ (book : List ℕ) (k limit : ℕ) (answer : List ℕ) where
 -- what naming tells, and for 13 why
 data Names (atom atoms : ℕ) : Told Handed → Type 0 where
   no-atom : atoms ≤ atom → Names atom atoms (refused 13)
-  unfit : Names atom atoms (refused 10)
   open-branch : Names atom atoms (refused 12)
   passes-room : Names atom atoms (refused 14)
   written : {t n : ℕ} → Names atom atoms (paper t n)
@@ -139,7 +136,6 @@ module _ (b : Book) (a : AtomNo) (limit : ℕ) (buffer : List ℕ) where
   first-tells Going s = none
   first-tells Full s = paper-tells _ _ (s .out)
   first-tells Limit s = limit-met
-  first-tells NotLeast s = unfit
 
   name-tells : NameTells (nameIn b (named a) limit buffer)
   unfolding nameIn claimed

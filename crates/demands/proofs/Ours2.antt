@@ -5,7 +5,7 @@ use mathlib.Core.List.{List, _++_}
 use Prim.Native.Nat.{ℕ, _-_, _≤_, _<_}
 use native.Mathlib.Omega.{arith}
 use lib.ListN.{length, getD, drop}
-use Rattle.meaning.specs.Books.{Atoms, Book, count}
+use Rattle.meaning.specs.Books.{Atoms, Book}
 use Rattle.meaning.specs.Claim.{named}
 use Rattle.meaning.specs.Written.{nothing}
 use Rattle.meaning.specs.Told.{fewer, stopped, Answered}
@@ -20,12 +20,9 @@ use Rattle.writer.specs.Name.{Handed}
 use Rattle.writer.proofs.Naming.{name-stopped, name-none}
 use Rattle.demands.specs.Engine.{ours}
 use Rattle.demands.specs.Demand2.{Call, Demand2}
-use Rattle.demands.proofs.Calls.{along, found-as, named-as, book-fits, readings-same, nameable}
+use Rattle.demands.proofs.Calls.{along, found-as, named-as, readings-same, nameable}
 
 module _ (book : List ℕ) (b : Book) (k limit : ℕ) (answer : List ℕ) (c : Call book b k answer) where
-  abbrev fits : count b ≤ 255
-  fits = book-fits (c .good-book) (c .bytes) .rules
-
   told-as : findOf book k limit answer .told ≡ findIn b k limit answer .told
   told-as = ap (λ (a : Answered ℕ). a .told) (found-as (c .good-book) k limit answer)
 
@@ -34,10 +31,10 @@ module _ (book : List ℕ) (b : Book) (k limit : ℕ) (answer : List ℕ) (c : C
       → (findOf book k limit answer .told ≡ set n)
       × ((z : Atoms) → findOf book k limit answer .buffer ≡ rowOf b (getD (readings b) (k - 1) z) ++ drop (b .atoms) answer)
   kth-given {n} {x} first h =
-      let e = find-set b fits k limit answer (c .good-number) (c .good-room) n .1 (x, first, h) in (
+      let e = find-set b k limit answer (c .good-number) (c .good-room) n .1 (x, first, h) in (
         told-as ∙ e,
         λ z. ap (λ (a : Answered ℕ). a .buffer) (found-as (c .good-book) k limit answer)
-            ∙ find-row b fits k limit answer n x e first
+            ∙ find-row b k limit answer n x e first
             ∙ ap (λ (y : Atoms). rowOf b y ++ drop (b .atoms) answer) (sym (kth-reading b first z)),
       )
 
@@ -50,8 +47,8 @@ module _ (book : List ℕ) (b : Book) (k limit : ℕ) (answer : List ℕ) (c : C
   fewer-told : {n : ℕ} → Needs b k n → n ≤ limit
       → (findOf book k limit answer .told ≡ fewer n (length (readings b))) ↔ (length (readings b) < k)
   fewer-told needs h = (
-    λ e. find-fewer b fits k limit answer (c .good-number) (c .good-room) _ _ .0 (sym told-as ∙ e) .0,
-    λ l. told-as ∙ find-fewer b fits k limit answer (c .good-number) (c .good-room) _ _ .1 (l, to-last needs l, refl, h),
+    λ e. find-fewer b k limit answer (c .good-number) (c .good-room) _ _ .0 (sym told-as ∙ e) .0,
+    λ l. told-as ∙ find-fewer b k limit answer (c .good-number) (c .good-room) _ _ .1 (l, to-last needs l, refl, h),
   )
     where
       to-last : {n : ℕ} → Needs b k n → length (readings b) < k → n ≡ length (events b nothing)
@@ -62,7 +59,7 @@ ours-2 = record {
   gives-readings = λ book b k limit answer c l all n needs h.
       rw (readings-same (c .good-book) (c .bytes) all) (given book b k limit answer c needs h);
   stops = λ book b k limit answer c. along (stopped limit) (told-as book b k limit answer c)
-      (find-stopped b (fits book b k limit answer c) k limit answer (c .good-number) (c .good-room));
+      (find-stopped b k limit answer (c .good-number) (c .good-room));
   tells-fewer = λ book b k limit answer c l all n needs h.
       rw (readings-same (c .good-book) (c .bytes) all) (fewer-told book b k limit answer c needs h);
   naming-stops = λ book b a limit buffer c n m needs paper.

@@ -38,7 +38,7 @@ use Rattle.demands.specs.Engine.{Engine}
 use Rattle.demands.specs.Demand2.{Call, GivesReadings, Stops, TellsFewer, NamingFewer}
 use Rattle.demands.specs.Demand3.{Complete, InLimit, Writes}
 use Rattle.demands.proofs.Damaged.{every-book}
-use Rattle.demands.proofs.Calls.{found-as, named-as, book-fits, readings-there, call-counts, nameable}
+use Rattle.demands.proofs.Calls.{found-as, named-as, readings-there, call-counts, nameable}
 use Rattle.demands.proofs.Ours1.{ours-1}
 use Rattle.demands.proofs.Ours2.{ours-2}
 use Rattle.demands.proofs.Ours3.{settled-certain, told-paper, told-none, naming-of, ours-3}
@@ -90,7 +90,7 @@ module _ (book : List ℕ) (bytes : Bytes book) (k limit : ℕ) (answer : List �
       let (b, c) = call-of good-set told in
       let g = c .good-book in
       let ours-told = ap (λ (a : Answered ℕ). a .told) (sym (found-as g k limit answer)) ∙ told in
-      let (x, kth, h) = find-set b (book-fits g bytes .rules) k limit answer (c .good-number) (c .good-room) t .0 ours-told in
+      let (x, kth, h) = find-set b k limit answer (c .good-number) (c .good-room) t .0 ours-told in
       let all = readings-there g bytes in
       let n = to-reading kth in
       let l = kth-count b kth in

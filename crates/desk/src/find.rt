@@ -39,7 +39,6 @@ fn tell_found(book: &[u8], k: u32, limit: u32, answer: &mut [u8]) {
         }
         Found::Book(why) => print_refusal(why.number(), why.place()),
         Found::NoRoom => print(b"refused 8"),
-        Found::NotLeast => print(b"refused 10"),
         Found::NoNumber => print(b"refused 15"),
     }
     print(b"\n");

@@ -32,7 +32,6 @@ fn tell_named(book: &[u8], atom: AtomNo, limit: u32, paper: &mut [u8]) {
             print_number(tries as u64);
         }
         Named::Book(why) => print_refusal(why.number(), why.place()),
-        Named::NotLeast => print(b"refused 10"),
         Named::NotCertain => print(b"refused 12"),
         Named::NoAtom => print(b"refused 13"),
         Named::TooLong => print(b"refused 14"),

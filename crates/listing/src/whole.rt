@@ -117,10 +117,6 @@ fn list_page(
             let sets = print_last(rows, atoms, count, before, line_end);
             print_end(b"stopped", sets, LIMIT, line_end);
         }
-        Page::NotLeast(count) => {
-            print_last(rows, atoms, count, before, line_end);
-            print_refused(10, 0, line_end);
-        }
         Page::Book(why) => print_refused(why.number(), why.place(), line_end),
         Page::NoRoom => print_refused(8, 0, line_end),
     }

@@ -12,7 +12,7 @@ use Rattle.meaning.specs.Sets.{_∈_}
 use Rattle.meaning.specs.Books.{Atoms, Rule, Book, count, rule, InBook}
 use Rattle.meaning.specs.AnswerSet.{reduct, AnswerSet}
 use Rattle.meaning.specs.Written.{of}
-use Rattle.meaning.specs.Computed.{supportMore, barred}
+use Rattle.meaning.specs.Computed.{supportMore}
 use Rattle.meaning.proofs.Tests.{either, clash}
 use Rattle.meaning.proofs.Sets.{every-at}
 use Rattle.meaning.proofs.Least.{iterate-keeps}
@@ -20,7 +20,7 @@ use Rattle.meaning.proofs.Rules.{rule-member, heads-by}
 use Rattle.meaning.proofs.Reduct.{bare, reduct-of}
 use Rattle.meaning.proofs.Written.{of-none, length-added, of-added}
 use Rattle.meaning.proofs.Support.{upheld-by, support-found}
-use Rattle.meaning.proofs.LeastModel.{supported-smallest}
+use Rattle.meaning.proofs.LeastModel.{barred, supported-smallest}
 
 module _ (b : Book) (x : Atoms) (P : AtomNo → Type 0)
     (closed : (q : Rule) → List·Memᴰ q (reduct x (b .rules)) → ((a : AtomNo) → List·Memᴰ a (q .pos) → P a) → P (q .head)) where

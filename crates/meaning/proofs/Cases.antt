@@ -8,10 +8,11 @@ use Rattle.meaning.specs.Sets.{Set, every, some, everyBelow, someBelow}
 use Rattle.meaning.specs.Books.{Atoms, atomNo, sameAtom, Rule, Book, count, rule, everyRule, someRule}
 use Rattle.meaning.specs.AnswerSet.{Throughout}
 use Rattle.meaning.specs.Colours.{heads}
-use Rattle.meaning.specs.Choice.{ifb}
+use Rattle.meaning.specs.Choice.{ifb, agree}
 use Rattle.meaning.specs.Written.{of, addFrom, added}
-use Rattle.meaning.specs.Computed.{iterate, upheld, supportMore, support, barred, leastModel, agree, isAnswerSet}
+use Rattle.meaning.specs.Computed.{iterate, upheld, supportMore, support}
 use Rattle.meaning.proofs.Answers.{nothing-certain}
+use Rattle.meaning.proofs.LeastModel.{barred, leastModel, isAnswerSet}
 use Rattle.meaning.proofs.Readings.{atomsOf, Exactly, tables, passing, readings, properly, readings-exact}
 
 -- head, positive atoms, negative atoms

@@ -1,10 +1,11 @@
 -- Laws of the choices of specs/Choice: what is chosen where the test holds and where it fails. Most proofs go by these and not by the test.
+-- And of tests that agree.
 use Prim.Native.Nat.{ℕ, _<_, _≤_}
 use mathlib.Core.Bool.{Bool, true, false}
-use mathlib.Core.Path.{_≡_, refl}
+use mathlib.Core.Path.{_≡_, refl, sym}
 use lib.Dec.{ltb, eqb}
-use borrow.Author.Tests.{lt-ltb, le-ltb, eq-eqb, ne-eqb, ltb-true, ltb-false, eqb-true, eqb-false}
-use Rattle.meaning.specs.Choice.{ifb, ifLt, ifEq}
+use borrow.Author.Tests.{not-true, lt-ltb, le-ltb, eq-eqb, ne-eqb, ltb-true, ltb-false, eqb-true, eqb-false}
+use Rattle.meaning.specs.Choice.{ifb, ifLt, ifEq, agree}
 
 module _ {A : Type 0} (t : Bool) (a b : A) where
   pub b-yes : t ≡ true → ifb t a b ≡ a
@@ -46,3 +47,13 @@ module _ {A : Type 0} (P : A → Type 0) where
   pub eq-either : (m n : ℕ) (a b : A) → (m ≡ n → P a) → ((m ≡ n → ⊥) → P b) → P (ifEq m n a b)
   unfolding ifEq
   eq-either m n a b f g = b-either (eqb m n) a b (λ e. f (eqb-true m n e)) (λ e. g (eqb-false m n e))
+
+pub agree-yes : {p q : Bool} → p ≡ q → agree p q ≡ true
+unfolding agree
+agree-yes {p = true} e = sym e
+agree-yes {p = false} e = rw (← e)
+
+pub agree-same : (p q : Bool) → agree p q ≡ true → p ≡ q
+unfolding agree
+agree-same true q e = sym e
+agree-same false q e = sym (not-true q e)

@@ -1,24 +1,28 @@
 -- The least model (blueprint M2): the heads of the rules that support each other, where just the rules with a negative atom in x are off,
--- are the smallest set closed under the reduct by x. So an answer set is its own least model, and the test of specs/Computed decides it.
+-- are the smallest set closed under the reduct by x. So an answer set is its own least model, which a test decides; and the heads of a
+-- closed pair in which every rule has one colour are the least model of their reduct, which is why finding need not ask.
 use mathlib.Core.Path.{_≡_, sym, _∙_, subst, fun-ext}
 use mathlib.Core.Logic.{_⊎_, ⊎-elim, ⊎-map}
-use mathlib.Core.Bool.{Bool, true, false}
+use mathlib.Core.Bool.{Bool, true}
 use Prim.Native.Nat.{_≤_, _<_}
 use native.Mathlib.Omega.{arith}
-use borrow.Author.Tests.{not-true}
 use Rattle.meaning.specs.declared.AtomNo.{AtomNo}
 use Rattle.meaning.specs.declared.RuleNo.{RuleNo}
-use Rattle.meaning.specs.Sets.{_∈_, _∉_, _⊆_, Smallest}
+use Rattle.meaning.specs.Sets.{_∈_, _∉_, _⊆_, some, everyBelow, Smallest}
 use Rattle.meaning.specs.Books.{Atoms, Rules, atomNo, Book, count, rule, InBook}
 use Rattle.meaning.specs.AnswerSet.{reduct, ClosedUnder, AnswerSet}
-use Rattle.meaning.specs.Colours.{heads, Under, Upheld, Support}
-use Rattle.meaning.specs.Computed.{barred, leastModel, agree, isAnswerSet}
+use Rattle.meaning.specs.Colours.{Pair, heads, Under, Upheld, Support, Closed, Total, Consistent}
+use Rattle.meaning.specs.Written.{of}
+use Rattle.meaning.specs.Computed.{support}
+use Rattle.meaning.specs.Choice.{agree}
+use Rattle.meaning.proofs.Choice.{agree-yes, agree-same}
 use Rattle.meaning.proofs.Tests.{decided, clash, refuted, same, lt-or-le}
 use Rattle.meaning.proofs.Sets.{every-mono, below-at, below-all}
 use Rattle.meaning.proofs.Least.{smallest-unique, smallest-through}
 use Rattle.meaning.proofs.Rules.{heads-of, heads-by}
 use Rattle.meaning.proofs.Reduct.{closed→by, by→closed}
 use Rattle.meaning.proofs.Support.{support-is}
+use Rattle.meaning.proofs.Answers.{total-answer}
 
 -- every head is an atom of the book
 abbrev pub Proper : Book → Type 0
@@ -28,15 +32,17 @@ Proper b = (r : RuleNo) → InBook b r → rule b r .head .0 < b .atoms
 abbrev pub Inside : Book → Atoms → Type 0
 Inside b x = (a : AtomNo) → a ∈ x → a .0 < b .atoms
 
-pub agree-yes : {p q : Bool} → p ≡ q → agree p q ≡ true
-unfolding agree
-agree-yes {p = true} e = sym e
-agree-yes {p = false} e = rw (← e)
+-- the rules with a negative atom in x
+unfoldable pub barred : Book → Atoms → Rules
+barred b x r = some x (rule b r .neg)
 
-pub agree-same : (p q : Bool) → agree p q ≡ true → p ≡ q
-unfolding agree
-agree-same true q e = sym e
-agree-same false q e = sym (not-true q e)
+-- the heads of the rules that support each other where just the barred rules are off
+unfoldable pub leastModel : Book → Atoms → Atoms
+leastModel b x = heads b (of (support b (barred b x)))
+
+-- the test that x is the least model of its reduct
+unfoldable pub isAnswerSet : Book → Atoms → Bool
+isAnswerSet b x = everyBelow (b .atoms) (λ n. agree (leastModel b x (atomNo n)) (x (atomNo n)))
 
 module _ (b : Book) (x : Atoms) where
   -- the rules whose head is in y
@@ -94,3 +100,14 @@ module _ (b : Book) (fits : count b ≤ 255) (x : Atoms) where
 
       pub answer-decided : AnswerSet b x ⊎ (AnswerSet b x → ⊥)
       answer-decided = ⊎-map test→answer (λ n answer. clash (answer→test answer) n) (decided (isAnswerSet b x))
+
+-- ---- what finding gives: a closed pair, every rule coloured, no contradiction
+
+module _ (b : Book) (c : Pair) (closed : Closed b c) (total : Total b c) (consistent : Consistent b c) where
+  -- its heads are the smallest set that is closed under their own reduct
+  pub total-smallest : Smallest (λ y z. y ⊆ z) (ClosedUnder (reduct (heads b (c .on)) (b .rules))) (heads b (c .on))
+  total-smallest = total-answer b c closed total consistent
+
+  -- so they are the least model that is computed
+  pub total-least : count b ≤ 255 → (a : AtomNo) → leastModel b (heads b (c .on)) a ≡ heads b (c .on) a
+  total-least fits = answer→least b fits _ total-smallest

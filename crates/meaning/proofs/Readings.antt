@@ -1,4 +1,4 @@
--- All readings of a small book, computed: the sets of atoms below A are written out, and the test of specs/Computed is tried on each. An
+-- All readings of a small book, computed: the sets of atoms below A are written out, and the test of LeastModel is tried on each. An
 -- answer set of a book whose heads are below A agrees with a written one that passes, and what passes is an answer set.
 use mathlib.Core.Path.{_≡_, refl, sym, _∙_, ap, subst, fun-ext}
 use mathlib.Core.Logic.{⊎-elim}
@@ -16,12 +16,11 @@ use Rattle.meaning.specs.declared.AtomNo.{AtomNo}
 use Rattle.meaning.specs.Books.{Atoms, Rules, atomNo, Book, count, rule, everyRule}
 use Rattle.meaning.specs.AnswerSet.{AnswerSet}
 use Rattle.meaning.specs.Choice.{ifb}
-use Rattle.meaning.specs.Computed.{isAnswerSet}
 use Rattle.meaning.proofs.Choice.{b-yes, b-either}
 use Rattle.meaning.proofs.Tests.{refuted, lt-or-le}
 use Rattle.meaning.proofs.Rules.{every-rule-at}
 use Rattle.meaning.proofs.Written.{place-below}
-use Rattle.meaning.proofs.LeastModel.{Proper, Inside, answer→test, answer-inside, test→answer}
+use Rattle.meaning.proofs.LeastModel.{isAnswerSet, Proper, Inside, answer→test, answer-inside, test→answer}
 
 -- the set that a list of tests stands for: place a says whether atom a is in it
 unfoldable pub atomsOf : List Bool → Atoms

@@ -1,7 +1,7 @@
--- A choice by a test, for definitions that mirror code; no sentence of document 01. Most proofs go by the laws in proofs/Choice.antt, and
--- those that compute unfold them.
+-- A choice by a test, and two tests compared, for definitions that mirror code; no sentence of document 01. Most proofs go by the laws in
+-- proofs/Choice.antt, and those that compute unfold them.
 use Prim.Native.Nat.{ℕ}
-use mathlib.Core.Bool.{Bool, true, false}
+use mathlib.Core.Bool.{Bool, true, false, not}
 use lib.Dec.{ltb, eqb}
 
 -- a where the test holds, else b
@@ -16,3 +16,8 @@ ifLt m n a b = ifb (ltb m n) a b
 -- a where m is n, else b
 unfoldable pub ifEq : {A : Type 0} → ℕ → ℕ → A → A → A
 ifEq m n a b = ifb (eqb m n) a b
+
+-- both tests hold, or both fail
+unfoldable pub agree : Bool → Bool → Bool
+agree true c = c
+agree false c = not c

@@ -1,19 +1,16 @@
--- Support, closing and the least model, computed: what is defined as the smallest set of a kind is found by adding until nothing is
--- added. Document 01: "Closing repeats these until nothing is added." That each computes what it should is proved in proofs/.
+-- Support and closing, computed: what is defined as the smallest set of a kind is found by adding until nothing is added. Document 01:
+-- "Closing repeats these until nothing is added." That each computes what it should is proved in proofs/.
 --
 --   iterate f n a    f, n times over
 --   support b off    the set V of Support, written out
 --   close b c        the closing of a colouring; its marks are the V of its off rules
---   leastModel b x   the smallest set closed under the reduct by x: the heads of the rules that support each other where just the
---                    rules with a negative atom in x are off
---   isAnswerSet b x  the test that x is the least model of its reduct
-use mathlib.Core.Bool.{Bool, true, false, not, _&&_, _||_}
+use mathlib.Core.Bool.{Bool, false, not, _&&_, _||_}
 use mathlib.Core.List.{List}
 use Prim.Native.Nat.{ℕ, zero, suc, _+_}
 use lib.ListN.{replicate}
 use Rattle.meaning.specs.declared.colouring.Colouring.{Colouring}
-use Rattle.meaning.specs.Sets.{every, some, everyBelow}
-use Rattle.meaning.specs.Books.{Atoms, Rules, atomNo, Book, count, rule}
+use Rattle.meaning.specs.Sets.{every}
+use Rattle.meaning.specs.Books.{Rules, Book, count, rule}
 use Rattle.meaning.specs.Colours.{Pair, heads, mayOn, blocked, starved}
 use Rattle.meaning.specs.Written.{of, added, pair}
 
@@ -46,16 +43,3 @@ marked b c = record { on = c .on; off = c .off; marks = support b (of (c .off)) 
 -- no more additions can be made than there are rules and sides
 unfoldable pub close : Book → Colouring → Colouring
 close b c = marked b (iterate (closeMore b) (count b + count b) c)
-
-unfoldable pub barred : Book → Atoms → Rules
-barred b x r = some x (rule b r .neg)
-
-unfoldable pub leastModel : Book → Atoms → Atoms
-leastModel b x = heads b (of (support b (barred b x)))
-
-unfoldable pub agree : Bool → Bool → Bool
-agree true c = c
-agree false c = not c
-
-unfoldable pub isAnswerSet : Book → Atoms → Bool
-isAnswerSet b x = everyBelow (b .atoms) (λ n. agree (leastModel b x (atomNo n)) (x (atomNo n)))

@@ -40,7 +40,6 @@ pub fn tell_named(book: &[u8], atom: AtomNo, limit: u32, paper: &mut [u8]) {
             b" tries: this says nothing about anyone",
         ),
         Named::Book(why) => explain_book(why),
-        Named::NotLeast => print(b"refused 10: a set was found that is no reading\n"),
         Named::NotCertain => print_line(
             b"refused 12: a reading lacks atom ",
             a,

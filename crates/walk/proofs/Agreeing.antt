@@ -1,5 +1,5 @@
--- The comparisons of src/answer.rt and src/resume.rt, turn by turn: what is kept is that all so far agree. Two tables agree at every atom
--- below a count; all atoms of a part are in a row's set, or all outside it.
+-- The comparison of src/resume.rt, turn by turn: all atoms of a part so far are in a row's set, or all outside it. And so whether a rule
+-- generates the set.
 use mathlib.Core.Path.{_≡_, refl, sym, _∙_, ap}
 use mathlib.Core.Logic.{⊎-elim}
 use mathlib.Core.Bool.{Bool, true, false, not}
@@ -8,41 +8,16 @@ use Prim.Native.Nat.{ℕ, _+_, _≤_, _<_}
 use lib.ListN.{length, getD, take, length-map, List·getD-map}
 use Rattle.meaning.specs.declared.AtomNo.{AtomNo}
 use Rattle.meaning.specs.declared.RuleNo.{RuleNo}
-use Rattle.meaning.specs.Sets.{Set, every, some, everyBelow}
+use Rattle.meaning.specs.Sets.{every, some}
 use Rattle.meaning.specs.Books.{Atoms, atomNo, Book, rule}
 use Rattle.meaning.specs.AnswerSet.{generates, generating}
-use Rattle.meaning.specs.Computed.{agree}
-use Rattle.meaning.proofs.Tests.{clash, refuted, decided, not-first}
-use Rattle.meaning.proofs.Sets.{below-at, all-next, all-end, every-here, every-all-next, every-all-end}
+use Rattle.meaning.specs.Choice.{agree}
+use Rattle.meaning.proofs.Tests.{decided, not-first}
+use Rattle.meaning.proofs.Sets.{every-here, every-all-next, every-all-end}
 use Rattle.meaning.proofs.Sets.{every-of-none, not-every-of-some}
 use Rattle.book.specs.Writing.{atomBytes}
-use Rattle.book.specs.Tables.{atomsIn}
 use Rattle.book.proofs.Bodies.{every-part}
 use Rattle.walk.specs.Page.{setIn}
-
--- the two tables say the same of atom n
-unfoldable pub agreeing : List Bool → List Bool → Set ℕ
-agreeing l m n = agree (getD l n false) (getD m n false)
-
-pub none-differ : (l m : List Bool) → everyBelow 0 (agreeing l m) ≡ true
-unfolding everyBelow
-none-differ l m = refl
-
-module _ (l m : List Bool) (i n : ℕ) where
-  pub agree-next : {v : Bool} → v ≡ agree (getD l i false) (getD m i false) → v ≡ true → everyBelow i (agreeing l m) ≡ true
-      → everyBelow (i + 1) (agreeing l m) ≡ true
-  unfolding agreeing
-  agree-next e f k = all-next i (agreeing l m) (sym e ∙ f) k
-
-  pub agree-fails : {v : Bool} → i < n → v ≡ agree (getD l i false) (getD m i false) → v ≡ false
-      → false ≡ everyBelow n (λ a. agree (atomsIn l (atomNo a)) (atomsIn m (atomNo a)))
-  unfolding atomsIn
-  agree-fails h e f = sym (refuted (λ k. clash (below-at n _ k i h) (sym e ∙ f)))
-
-  pub agree-all : i ≤ n → n ≤ i → everyBelow i (agreeing l m) ≡ true
-      → true ≡ everyBelow n (λ a. agree (atomsIn l (atomNo a)) (atomsIn m (atomNo a)))
-  unfolding atomsIn agreeing
-  agree-all h g k = sym (all-end i n (agreeing l m) h g k)
 
 -- the atom is in the row's set, or outside it, as is asked
 unfoldable pub so : Bool → List ℕ → Atoms

@@ -26,7 +26,7 @@ use Rattle.walk.specs.Room.{Room}
 use Rattle.walk.specs.Find.{toldBy, startOf, answeredBy, findIn, findOf}
 use Rattle.walk.specs.Page.{PageEnd, endedBy, setIn, eventsFrom, roomIn, pagedBy, pageIn, pageRead, pageOf}
 use Rattle.walk.specs.declared.tally.Halt.{Halt}
-use Rattle.walk.specs.declared.tally.Halt.the-variants.{Going, Full, Limit, NotLeast}
+use Rattle.walk.specs.declared.tally.Halt.the-variants.{Going, Full, Limit}
 use Rattle.walk.specs.declared.tally.Tally.{Tally}
 use Rattle.walk.proofs.Run.{apart}
 use Rattle.walk.proofs.Demand.{find-bad-book, find-good-book}
@@ -79,7 +79,6 @@ unfolding toldBy
 any-buffer Going t limit o p = refl
 any-buffer Full t limit o p = refl
 any-buffer Limit t limit o p = refl
-any-buffer NotLeast t limit o p = refl
 
 module _ (s : List ℕ) (h : Shape) (e : ReadAs s h) where
   pub one-row : (out : List ℕ) → h .atoms ≤ length out → 1 * bookIn s .atoms ≤ length out
@@ -116,7 +115,6 @@ unfolding endedBy
 page-any-buffer Going t o p = refl
 page-any-buffer Full t o p = refl
 page-any-buffer Limit t o p = refl
-page-any-buffer NotLeast t o p = refl
 
 first-events : (b : Book) (n : ℕ) (x : Atoms) → n ≡ 0 → eventsFrom b n x ≡ events b nothing
 unfolding eventsFrom

@@ -7,11 +7,11 @@ use Prim.Native.Nat.{ℕ, _≤_, _<_}
 use native.Mathlib.Omega.{arith}
 use lib.ListN.{length, drop}
 use Rattle.meaning.specs.Books.{Atoms, Rule, Book, count}
-use Rattle.meaning.specs.Told.{refusedAt, refused, fewer, stopped, Answered}
+use Rattle.meaning.specs.Told.{refusedAt, fewer, stopped, Answered}
 use Rattle.meaning.specs.Written.{nothing}
 use Rattle.meaning.proofs.Rules.{rule-member}
 use Rattle.meaning.proofs.LeastModel.{Proper}
-use Rattle.book.specs.Format.{BookRead, good, bad, readOf, bookOf, bookIn}
+use Rattle.book.specs.Format.{good, bad, readOf, bookOf, bookIn}
 use Rattle.book.specs.Rows.{Bytes}
 use Rattle.book.proofs.Shape.{good-fits}
 use Rattle.walk.specs.Events.{events}
@@ -77,9 +77,9 @@ module _ {b : Book} {k limit : ℕ} {answer : List ℕ} where
 
 -- ---- demand 2
 
-module _ (b : Book) (fits : count b ≤ 255) (k limit : ℕ) (answer : List ℕ) where
+module _ (b : Book) (k limit : ℕ) (answer : List ℕ) where
   outcome : Outcome b k limit answer (findIn b k limit answer)
-  outcome = find-outcome b k limit answer fits
+  outcome = find-outcome b k limit answer
 
   module _ (some : 1 ≤ k) (room : b .atoms ≤ length answer) where
     -- the k-th answer set is given exactly if its try is within the limit, with the tries of the fixed walk
@@ -101,17 +101,6 @@ module _ (b : Book) (fits : count b ≤ 255) (k limit : ℕ) (answer : List ℕ)
   find-row t x e c =
       let (y, d, h, l) = set-says outcome t e in l ∙ ap (λ (z : Atoms). rowOf b z ++ drop (b .atoms) answer) (kth-one b d c .1)
 
-  -- number 10 never comes
-  pub find-never-10 : findIn b k limit answer .told ≡ refused 10 → ⊥
-  find-never-10 = never outcome
-    where
-      never : {A : Answered ℕ} → Outcome b k limit answer A → A .told ≡ refused 10 → ⊥
-      never (found c h) e = apart (cc)
-      never (too-few h l) e = apart (cc)
-      never (too-long n h) e = apart (cc)
-      never (no-number h) e = let z : _≡_ {A = ℕ} 15 10 = cc in absurd (omega arith)
-      never (no-room h l) e = let z : _≡_ {A = ℕ} 8 10 = cc in absurd (omega arith)
-
 -- ---- of the bytes of a book
 
 pub read-fits : (s : List ℕ) (n r index : ℕ) (l : List Rule) → Bytes s → readOf s ≡ good n r index l
@@ -132,11 +121,3 @@ module _ (s : List ℕ) (k limit : ℕ) (answer : List ℕ) where
       → findOf s k limit answer ≡ findIn (bookIn s) k limit answer
   unfolding findOf findRead bookIn bookOf
   find-good-book n r index l e = rw e
-
-  pub find-of-never-10 : Bytes s → findOf s k limit answer .told ≡ refused 10 → ⊥
-  find-of-never-10 bytes = go (readOf s) refl
-    where
-      go : (x : BookRead) → readOf s ≡ x → findOf s k limit answer .told ≡ refused 10 → ⊥
-      go (good n r index l) e t =
-          find-never-10 (bookIn s) (read-fits s n r index l bytes e .0) k limit answer (rw (find-good-book n r index l e) at t)
-      go (bad number at) e t = let z = rw (find-bad-book number at e) at t in apart (cc)

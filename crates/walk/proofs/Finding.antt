@@ -1,5 +1,5 @@
 -- What find answers (demand 2; blueprint W6): the k-th reading exactly if its try is within the limit, 9 exactly if the fixed walk needs
--- more tries, otherwise 11 exactly if there are fewer than k readings, with the counts of the whole walk; 10 never comes.
+-- more tries, otherwise 11 exactly if there are fewer than k readings, with the counts of the whole walk.
 use mathlib.Core.Path.{_≡_, refl, sym, _∙_, ap, subst}
 use mathlib.Core.Logic.{⊎-elim}
 use mathlib.Core.List.{List, _∷_, _++_}
@@ -8,27 +8,20 @@ use native.Mathlib.Nat.{zero-add, zero-mul}
 use native.Mathlib.Omega.{arith}
 use lib.ListN.{length, drop, length-append}
 use Rattle.meaning.specs.declared.colouring.Colouring.{Colouring}
-use Rattle.meaning.specs.Books.{Atoms, Book, count}
+use Rattle.meaning.specs.Books.{Atoms, Book}
 use Rattle.meaning.specs.Told.{fewer, stopped, refused, Answered}
 use Rattle.meaning.specs.Written.{nothing}
 use Rattle.meaning.proofs.Tests.{lt-or-le}
 use Rattle.meaning.proofs.Choice.{lt-no, lt-either, eq-either}
-use Rattle.meaning.proofs.LeastModel.{answer→test}
 use Rattle.walk.specs.Events.{Event, reading, events}
 use Rattle.walk.specs.Readings.{readingOf, readings}
 use Rattle.walk.specs.Tries.{Kth, Needs, to-reading, to-end}
 use Rattle.walk.specs.Run.{rowOf, Wanted, State}
 use Rattle.walk.specs.Find.{set, startOf, toldBy, answeredBy, findIn}
 use Rattle.walk.proofs.Rows.{row-length, write-front}
-use Rattle.walk.proofs.Readings.{readings-all}
-use Rattle.walk.proofs.Way.{Tested, step, gone, gone-tries, gone-sets, gone-passes, Way, to-full, to-limit, way}
+use Rattle.walk.proofs.Way.{step, gone, gone-tries, gone-sets, gone-passes, Way, to-full, to-limit, way}
 use Rattle.walk.proofs.Way.{to-end as all-met}
 use Rattle.walk.proofs.Needs.{amount, parted-more, kth-or-fewer}
-
--- every reading passes the test of number 10
-pub readings-tested : (b : Book) → count b ≤ 255 → Tested b (events b nothing)
-unfolding readings
-readings-tested b fits x m = answer→test b fits x (readings-all b fits .sound x m)
 
 module _ (b : Book) (k limit : ℕ) (answer : List ℕ) where
   -- how a call may end, with what it answers
@@ -83,9 +76,9 @@ module _ (b : Book) (k limit : ℕ) (answer : List ℕ) where
         subst (λ (l : List ℕ). Outcome (record { told = stopped limit; buffer = l })) (sym (gone-passes b wanted s more (omega arith)))
         (limit-met more e later q (omega arith) (omega arith))
 
-  pub find-outcome : count b ≤ 255 → Outcome (findIn b k limit answer)
+  pub find-outcome : Outcome (findIn b k limit answer)
   unfolding findIn
-  find-outcome fits = eq-either Outcome _ _ _ _ no-number (λ n.
+  find-outcome = eq-either Outcome _ _ _ _ no-number (λ n.
       let some : 1 ≤ k = omega arith in
       lt-either Outcome _ _ _ _ (no-room some) (λ h.
-      outcome-of some _ _ refl (way b wanted (omega arith) (startOf answer) _ refl (omega arith) (omega arith) (readings-tested b fits))))
+      outcome-of some _ _ refl (way b wanted (omega arith) (startOf answer) _ refl (omega arith) (omega arith))))

@@ -1,25 +1,21 @@
--- A table of heads stands for the heads: in a book whose atom count is a byte every head has a place in it. So number 10's test by tables
--- (src/answer.rt) is the test of the meaning.
+-- A table of heads stands for the heads: in a book whose atom count is a byte every head has a place in it.
 use mathlib.Core.Path.{_≡_, sym, _∙_, ap, fun-ext}
 use mathlib.Core.Logic.{⊎-elim}
-use mathlib.Core.Bool.{Bool, false}
+use mathlib.Core.Bool.{false}
 use mathlib.Core.List.{List}
 use Prim.Native.Nat.{ℕ, _≤_, _<_}
 use native.Mathlib.Omega.{arith}
 use lib.ListN.{List·getD-eq-default}
 use Rattle.meaning.specs.declared.AtomNo.{AtomNo}
-use Rattle.meaning.specs.Sets.{everyBelow}
-use Rattle.meaning.specs.Books.{Atoms, Rules, atomNo}
+use Rattle.meaning.specs.Books.{Atoms, Rules}
 use Rattle.meaning.specs.Colours.{heads}
-use Rattle.meaning.specs.Written.{of}
-use Rattle.meaning.specs.Computed.{support, barred, leastModel, agree, isAnswerSet}
 use Rattle.meaning.proofs.Tests.{lt-or-le, refuted}
 use Rattle.meaning.proofs.Rules.{heads-by}
 use Rattle.book.specs.declared.reader.Shape.{Shape}
 use Rattle.book.specs.Format.{bookIn, ReadAs}
 use Rattle.book.specs.Tables.{tableFrom, atomTable, atomsIn}
 use Rattle.book.proofs.AtomSets.{table-in}
-use Rattle.book.proofs.Places.{shape-atoms, in-shape, head-below}
+use Rattle.book.proofs.Places.{in-shape, head-below}
 
 -- past its last place a table says no
 table-past : (x : Atoms) (a : AtomNo) → 255 ≤ a .0 → atomsIn (atomTable x) a ≡ false
@@ -37,13 +33,3 @@ module _ (s : List ℕ) (h : Shape) (e : ReadAs s h) (small : h .atoms < 256) wh
       (λ g. table-in (heads (bookIn s) r) a g)
       (λ g. table-past (heads (bookIn s) r) a g ∙ sym (no-head r a g))
       (lt-or-le (a .0) 255))
-
-  pub test-found : (x : Atoms) (off : List Bool) {marks least : List Bool} {v : Bool} → of off ≡ barred (bookIn s) x
-      → marks ≡ support (bookIn s) (of off) → least ≡ atomTable (heads (bookIn s) (of marks))
-      → v ≡ everyBelow (h .atoms) (λ n. agree (atomsIn least (atomNo n)) (x (atomNo n))) → v ≡ isAnswerSet (bookIn s) x
-  unfolding isAnswerSet leastModel
-  test-found x off {marks = marks} p q f g =
-      let m : marks ≡ support (bookIn s) (barred (bookIn s) x) = q ∙ ap (support (bookIn s)) p in
-      g ∙ ap (λ (y : Atoms). everyBelow (h .atoms) (λ n. agree (y (atomNo n)) (x (atomNo n))))
-      (ap atomsIn f ∙ heads-read (of marks) ∙ ap (λ (l : List Bool). heads (bookIn s) (of l)) m)
-      ∙ ap (λ (k : ℕ). everyBelow k (λ n. agree (leastModel (bookIn s) x (atomNo n)) (x (atomNo n)))) (sym (shape-atoms s h e))

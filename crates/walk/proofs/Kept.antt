@@ -8,7 +8,7 @@ use native.Mathlib.Omega.{arith}
 use Rattle.meaning.specs.Books.{Book}
 use Rattle.meaning.specs.Told.{Answered}
 use Rattle.meaning.specs.Written.{nothing}
-use Rattle.meaning.proofs.Choice.{lt-either, b-either, eq-yes, eq-either}
+use Rattle.meaning.proofs.Choice.{lt-either, eq-yes, eq-either}
 use Rattle.walk.specs.Events.{Event, clash, fork, reading, events}
 use Rattle.walk.specs.Run.{Wanted, State, readingMet, tried, met, run}
 use Rattle.walk.specs.Find.{set, startOf, toldBy, findIn}
@@ -27,8 +27,7 @@ module _ (b : Book) (k limit : ℕ) (answer : List ℕ) where
   unfolding Kept tried readingMet
   try-kept s clash h o = inr (h, o)
   try-kept s (fork r) h o = inr (h, o)
-  try-kept s (reading d) h o = lt-either Kept _ _ _ _ (λ l. inr (omega arith, o))
-      (λ l. b-either Kept _ _ _ (λ t. inl (eq-yes _ _ _ _ (omega arith))) (λ t. inr (h, o)))
+  try-kept s (reading d) h o = lt-either Kept _ _ _ _ (λ l. inr (omega arith, o)) (λ l. inl (eq-yes _ _ _ _ (omega arith)))
 
   event-kept : (s : State) (e : Event) → s .tally .halt ≡ Going → Kept s → Kept (met b one Going s e)
   unfolding Kept met

@@ -19,7 +19,6 @@ pub mod Told
 pub mod Cases
 pub mod Searches
 pub mod Agreeing
-pub mod Barring
 pub mod RowBytes
 pub mod HeadTables
 pub mod Meeting

@@ -137,7 +137,7 @@ module _ (b : Book) (fits : count b ≤ 255) (limit n : ℕ) (row out : List ℕ
   module _ (within : n ≤ limit) {done todo : List Event} (l : Listed b n row done todo) where
     outcome : Outcome b limit n row out todo (pageIn b limit n row out)
     outcome = subst (λ (es : List Event). Outcome b limit n row out es (pageIn b limit n row out)) (sym (l .next))
-        (page-outcome b limit n row out fits within)
+        (page-outcome b limit n row out within)
 
     -- a full page: the next readings, and the listing goes on behind them, within the limit
     pub pages-join : Proper b → (t : ℕ) → pageIn b limit n row out .told ≡ success (whole t)

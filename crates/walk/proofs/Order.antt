@@ -14,13 +14,13 @@ use Rattle.meaning.specs.declared.RuleNo.{RuleNo}
 use Rattle.meaning.specs.Sets.{_∉_}
 use Rattle.meaning.specs.Books.{Atoms, Rules, Book, InBook}
 use Rattle.meaning.specs.AnswerSet.{AnswerSet, generating}
-use Rattle.meaning.specs.Computed.{agree}
+use Rattle.meaning.specs.Choice.{agree}
 use Rattle.meaning.specs.Lowest.{Pick, none, one, lowest}
 use Rattle.meaning.proofs.Tests.{clash, same, lt-or-le}
 use Rattle.meaning.proofs.Rules.{heads-mono}
 use Rattle.meaning.proofs.Lowest.{lowest-one, lowest-none}
 use Rattle.meaning.proofs.Answers.{answer-heads}
-use Rattle.meaning.proofs.LeastModel.{agree-same}
+use Rattle.meaning.proofs.Choice.{agree-same}
 use Rattle.walk.specs.Readings.{Agree, Before, Ordered, no-more, comes-first, AllReadings}
 
 -- two tests that do not agree

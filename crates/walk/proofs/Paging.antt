@@ -4,32 +4,25 @@
 use mathlib.Core.Path.{_≡_, refl, sym, _∙_, ap, subst}
 use mathlib.Core.Logic.{_⊎_, ⊎-elim}
 use mathlib.Core.List.{List, [], _∷_, _++_}
-use Prim.Native.Nat.{ℕ, zero, suc, _+_, _*_, _-_, _≤_, _<_}
+use Prim.Native.Nat.{ℕ, _+_, _*_, _-_, _≤_, _<_}
 use native.Mathlib.Nat.{zero-add, zero-mul, one-mul, div-mul-le-self, le-div-iff-mul-le, mul-le-mul-right}
 use native.Mathlib.Omega.{arith}
 use lib.ListN.{length, drop}
 use Rattle.meaning.specs.declared.colouring.Colouring.{Colouring}
-use Rattle.meaning.specs.Books.{Atoms, Book, count}
+use Rattle.meaning.specs.Books.{Atoms, Book}
 use Rattle.meaning.specs.Told.{success, refusedAt, refused, Answered}
-use Rattle.meaning.specs.Written.{nothing}
-use Rattle.meaning.proofs.Tests.{lt-or-le}
 use Rattle.meaning.proofs.Choice.{lt-either, eq-either}
-use Rattle.meaning.proofs.Written.{sized-nothing}
-use Rattle.meaning.proofs.LeastModel.{answer→test}
 use Rattle.book.specs.Format.{BookRead, good, bad, readOf}
 use Rattle.walk.specs.Events.{Event, reading}
 use Rattle.walk.specs.Readings.{readingsIn}
-use Rattle.walk.specs.Run.{writeAt, Wanted, State, run}
+use Rattle.walk.specs.Run.{writeAt, Wanted, State}
 use Rattle.walk.specs.declared.tally.Halt.the-variants.{Going}
-use Rattle.walk.specs.Page.{PageEnd, whole, last, cut, wrong, setIn, eventsFrom, roomIn, endedBy, pagedBy}
+use Rattle.walk.specs.Page.{PageEnd, whole, last, cut, setIn, eventsFrom, roomIn, endedBy, pagedBy}
 use Rattle.walk.specs.Page.{pageIn, pageRead, pageOf}
-use Rattle.walk.proofs.Events.{walks}
 use Rattle.walk.proofs.Rows.{rowsOf, rows-length, write-front}
-use Rattle.walk.proofs.Run.{apart, run-stops}
-use Rattle.walk.proofs.Way.{Tested, step, gone, gone-append, gone-tries, gone-sets, gone-writes, Way, to-end, to-full, to-limit, way}
+use Rattle.walk.proofs.Run.{apart}
+use Rattle.walk.proofs.Way.{step, gone, gone-append, gone-tries, gone-sets, gone-writes, Way, to-end, to-full, to-limit, way}
 use Rattle.walk.proofs.Needs.{amount, amount-last}
-use Rattle.walk.proofs.Finding.{readings-tested}
-use Rattle.walk.proofs.Rest.{rest-sound}
 
 -- ---- the room of a page
 
@@ -41,12 +34,6 @@ room-some b n h = eq-either (λ (m : ℕ). 1 ≤ m) _ _ _ _ (λ e. omega arith)
 pub rooms-fit : (b : Book) (n : ℕ) → roomIn b n * b .atoms ≤ n
 unfolding roomIn
 rooms-fit b n = eq-either (λ (m : ℕ). m * b .atoms ≤ n) _ _ _ _ (λ e. rw (e, one-mul) (omega arith)) (λ e. div-mul-le-self n (b .atoms))
-
--- every reading of a page passes the test of number 10
-page-tested : (b : Book) → count b ≤ 255 → (n : ℕ) (x : Atoms) → Tested b (eventsFrom b n x)
-unfolding eventsFrom
-page-tested b fits zero x y m = readings-tested b fits y m
-page-tested b fits (suc n) x y m = answer→test b fits y (rest-sound (walks b fits nothing sized-nothing) x y m .answer)
 
 -- the buffer with the rows of some sets in front
 abbrev pub filled : Book → List ℕ → List Atoms → List ℕ
@@ -101,31 +88,11 @@ module _ (b : Book) (limit n : ℕ) (row out : List ℕ) where
       subst (Outcome (more ++ (e ∷ later))) (λ i. record { told = success (cut (sym v i)); buffer = sym f i })
       (limit-met more e later refl (omega arith) (omega arith))
 
-  pub page-outcome : count b ≤ 255 → n ≤ limit → Outcome (eventsFrom b n (setIn row)) (pageIn b limit n row out)
+  pub page-outcome : n ≤ limit → Outcome (eventsFrom b n (setIn row)) (pageIn b limit n row out)
   unfolding pageIn
-  page-outcome fits h = lt-either (Outcome (eventsFrom b n (setIn row))) _ _ _ _ no-room (λ l.
+  page-outcome h = lt-either (Outcome (eventsFrom b n (setIn row))) _ _ _ _ no-room (λ l.
       let some = room-some b (length out) l in
-      outcome-of _ _ (way b wanted some start _ refl h (omega arith) (page-tested b fits n (setIn row))))
-
-  -- ---- number 10 never comes
-
-  never-10 : {A : Answered PageEnd} {todo : List Event} → Outcome todo A → (m : ℕ) → A .told ≡ success (wrong m) → ⊥
-  never-10 (all-rows h k) m e = apart (cc)
-  never-10 (full-page more d later q h k) m e = apart (cc)
-  never-10 (limit-met more f later q h k) m e = apart (cc)
-  never-10 (no-room h) m e = apart (cc)
-
-  -- also where more tries were made than the limit allows
-  over-limit : limit ≤ n → (es : List Event) (m : ℕ) → pagedBy (run b wanted start es) .told ≡ success (wrong m) → ⊥
-  unfolding run endedBy
-  over-limit h [] m e = apart (cc)
-  over-limit h (f ∷ es) m e = let z = rw (run-stops b wanted start refl f es h) at e in apart (cc)
-
-  pub page-never-10 : count b ≤ 255 → (m : ℕ) → pageIn b limit n row out .told ≡ success (wrong m) → ⊥
-  unfolding pageIn
-  page-never-10 fits = ⊎-elim (λ h. never-10 (page-outcome fits (omega arith)))
-      (λ h. lt-either (λ (a : Answered PageEnd). (m : ℕ) → a .told ≡ success (wrong m) → ⊥) _ _ _ _ (λ k m e. apart (cc)) (λ k. over-limit h _))
-      (lt-or-le n limit)
+      outcome-of _ _ (way b wanted some start _ refl h (omega arith)))
 
 -- ---- nothing is written on a refusal
 

@@ -8,12 +8,12 @@ use native.Mathlib.Omega.{arith}
 use lib.ListN.{length}
 use Rattle.meaning.specs.Books.{Atoms, Book}
 use Rattle.meaning.specs.Choice.{ifEq}
-use Rattle.meaning.proofs.Choice.{lt-yes, lt-no, lt-either, b-either, eq-either}
+use Rattle.meaning.proofs.Choice.{lt-yes, lt-no, lt-either, eq-either}
 use Rattle.walk.specs.Events.{Event, clash, fork, reading}
 use Rattle.walk.specs.Readings.{readingOf}
 use Rattle.walk.specs.Run.{rowOf, writeAt, Wanted, State, counted, readingMet, tried, met, run}
 use Rattle.walk.specs.declared.tally.Halt.{Halt}
-use Rattle.walk.specs.declared.tally.Halt.the-variants.{Going, Full, Limit, NotLeast}
+use Rattle.walk.specs.declared.tally.Halt.the-variants.{Going, Full, Limit}
 use Rattle.walk.proofs.Rows.{row-length, write-length}
 
 -- two cases of one answer are never equal: cc proves this of them
@@ -36,14 +36,12 @@ module _ (b : Book) (w : Wanted) where
     written : (x : Atoms) (h : Halt) → s .tally .tries < w .limit → w .pass ≤ s .tally .sets
         → (h ≡ Going → s .tally .sets + 1 ≡ w .pass + w .room → ⊥)
         → Moved s (moved s (s .tally .sets + 1) h (writeAt ((s .tally .sets - w .pass) * b .atoms) (rowOf b x) (s .out)))
-    not-least : s .tally .tries < w .limit → Moved s (moved s (s .tally .sets) NotLeast (s .out))
 
   try-moves : (s : State) (e : Event) → s .tally .tries < w .limit → Moved s (tried b w s e)
   unfolding tried readingMet
   try-moves s clash h = no-reading h
   try-moves s (fork r) h = no-reading h
-  try-moves s (reading d) h = lt-either (Moved s) _ _ _ _ (passed-over h) (λ p.
-      b-either (Moved s) _ _ _ (λ t. written (readingOf b d) _ h p full) (λ t. not-least h))
+  try-moves s (reading d) h = lt-either (Moved s) _ _ _ _ (passed-over h) (λ p. written (readingOf b d) _ h p full)
     where
       full : ifEq (s .tally .sets + 1) (w .pass + w .room) Full Going ≡ Going → s .tally .sets + 1 ≡ w .pass + w .room → ⊥
       full = eq-either (λ h. h ≡ Going → s .tally .sets + 1 ≡ w .pass + w .room → ⊥) _ _ Full Going
@@ -61,7 +59,6 @@ module _ (b : Book) (w : Wanted) where
     met-keeps Going s e g p = keeps s e g p
     met-keeps Full s e g p = p
     met-keeps Limit s e g p = p
-    met-keeps NotLeast s e g p = p
 
     pub run-keeps : (s : State) (es : List Event) → P s → P (run b w s es)
     unfolding run
@@ -126,8 +123,6 @@ module _ (b : Book) (w : Wanted) where
       going = λ e. omega (arith, f .going g, q e);
       long = write-length _ _ (s .out) (rw (row-length b x) (row-fits s f g l)) ∙ f .long;
     }
-    event-fine s t f g (not-least k) =
-        record { counts = omega (arith, f .counts); most = f .most; going = λ e. f .going g; long = f .long }
 
     pub run-fine : (s : State) (es : List Event) → Fine n s → Fine n (run b w s es)
     run-fine s es f = run-keeps (Fine n) (λ t e g h. event-fine t _ h g (event-moves t e)) s es f

@@ -140,10 +140,10 @@ module _ (b : Book) (fits : count b ≤ 255) (proper : Proper b) (limit : ℕ) w
   listing-shows row l = let f = further l (omega arith) (listed-start b row) in shows (f .more) (f .later) (f .walk) (f .rows) (f .stands)
 
 -- a call with room for a row always goes on, by one try at least, or ends, or is cut: at most as many pages are full as the limit has tries
-pub page-goes : (b : Book) → count b ≤ 255 → (limit n : ℕ) (row out : List ℕ) → n ≤ limit → b .atoms ≤ length out
+pub page-goes : (b : Book) (limit n : ℕ) (row out : List ℕ) → n ≤ limit → b .atoms ≤ length out
     → ((t : ℕ) × (pageIn b limit n row out .told ≡ success (whole t)) × (n < t) × (t ≤ limit))
     ⊎ (((t : ℕ) × (m : ℕ) × (pageIn b limit n row out .told ≡ success (last t m))) ⊎ ((m : ℕ) × (pageIn b limit n row out .told ≡ success (cut m))))
-page-goes b fits limit n row out h room = goes (page-outcome b limit n row out fits h)
+page-goes b limit n row out h room = goes (page-outcome b limit n row out h)
   where
     goes : {todo : List Event} {A : Answered PageEnd} → Outcome b limit n row out todo A
         → ((t : ℕ) × (A .told ≡ success (whole t)) × (n < t) × (t ≤ limit))

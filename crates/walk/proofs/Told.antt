@@ -8,20 +8,20 @@ use Rattle.meaning.specs.Told.{Told}
 use Rattle.meaning.proofs.Told.{valuesAgain, again, one-again}
 use Rattle.book.proofs.Told.{refusalAt, refusal-again}
 use Rattle.walk.specs.declared.kth.Found.{Found}
-use Rattle.walk.specs.declared.kth.Found.the-variants.{Set, Fewer, Stopped, Book, NoRoom, NoNumber, NotLeast}
+use Rattle.walk.specs.declared.kth.Found.the-variants.{Set, Fewer, Stopped, Book, NoRoom, NoNumber}
 use Rattle.walk.specs.declared.page_answer.Page.{Page}
-use Rattle.walk.specs.declared.page_answer.Page.the-variants.{Whole, Last, Cut, NotLeast as Wrong}
+use Rattle.walk.specs.declared.page_answer.Page.the-variants.{Whole, Last, Cut}
 use Rattle.walk.specs.declared.page_answer.Page.the-variants.{Book as BadBook, NoRoom as TooSmall}
 use Rattle.walk.specs.declared.colours.Picked.{Picked}
 use Rattle.walk.specs.declared.colours.Picked.the-variants.{Nothing, Rule}
 use Rattle.walk.specs.Find.{told}
-use Rattle.walk.specs.Page.{PageEnd, whole, last, cut, wrong}
+use Rattle.walk.specs.Page.{PageEnd, whole, last, cut}
 use Rattle.walk.specs.Page.{told as pageTold}
 use Rattle.walk.specs.Picked.{picked}
 
 abbrev foundAt : Told ℕ → Found
 foundAt = again Set (valuesAgain NoNumber Stopped Fewer) (λ number at. Book (refusalAt number at))
-    (λ number. ifEq number 8 NoRoom (ifEq number 10 NotLeast NoNumber))
+    (λ number. ifEq number 8 NoRoom NoNumber)
 
 found-again : (f : Found) → foundAt (told f) ≡ f
 unfolding ifEq ifb
@@ -30,7 +30,6 @@ found-again (Fewer tries sets) = refl
 found-again (Stopped limit) = refl
 found-again (Book f) = ap Book (refusal-again f)
 found-again NoRoom = refl
-found-again NotLeast = refl
 found-again NoNumber = refl
 
 pub found-one : (f g : Found) → told f ≡ told g → f ≡ g
@@ -40,7 +39,6 @@ abbrev pageEndedBy : PageEnd → Page
 pageEndedBy (whole tries) = Whole tries
 pageEndedBy (last tries rows) = Last tries rows
 pageEndedBy (cut rows) = Cut rows
-pageEndedBy (wrong rows) = Wrong rows
 
 abbrev pageAt : Told PageEnd → Page
 pageAt = again pageEndedBy (λ values. TooSmall) (λ number at. BadBook (refusalAt number at)) (λ number. TooSmall)
@@ -49,7 +47,6 @@ page-again : (p : Page) → pageAt (pageTold p) ≡ p
 page-again (Whole tries) = refl
 page-again (Last tries rows) = refl
 page-again (Cut rows) = refl
-page-again (Wrong rows) = refl
 page-again (BadBook f) = ap BadBook (refusal-again f)
 page-again TooSmall = refl
 

@@ -28,7 +28,7 @@ use Rattle.walk.specs.Picked.{picked}
 use Rattle.walk.specs.declared.colours.Picked.{Picked}
 use Rattle.walk.specs.declared.colours.Picked.the-variants.{Rule}
 use Rattle.walk.specs.declared.tally.Halt.{Halt}
-use Rattle.walk.specs.declared.tally.Halt.the-variants.{Going, Full, Limit, NotLeast}
+use Rattle.walk.specs.declared.tally.Halt.the-variants.{Going, Full, Limit}
 use Rattle.walk.specs.declared.tally.Tally.{Tally}
 use Rattle.walk.proofs.tally.Halt.{the-type}
 use Rattle.walk.proofs.Events.{Closes, events-clash, events-reading, rest-clash, rest-reading}
@@ -43,11 +43,10 @@ halted : (h : Halt) → (h ≡ Going) ⊎ (h ≡ Going → ⊥)
 halted Going = inl refl
 halted Full = inr (λ e. apart (cc))
 halted Limit = inr (λ e. apart (cc))
-halted NotLeast = inr (λ e. apart (cc))
 
 -- a state whose tag is none of the others
-pub halted-told : (h : Halt) → OneOf (1 ∷ (2 ∷ (3 ∷ []))) (tagOf the-type h) → h ≡ Going → ⊥
-halted-told h k e = ⊎-elim (λ z. omega arith) (⊎-elim (λ z. omega arith) (λ z. omega arith)) (rw e at k)
+pub halted-told : (h : Halt) → OneOf (1 ∷ (2 ∷ [])) (tagOf the-type h) → h ≡ Going → ⊥
+halted-told h k e = ⊎-elim (λ z. omega arith) (λ z. omega arith) (rw e at k)
 
 module _ {b : Book} {pass room : ℕ} {s : State} (f : Room b pass room s) where
   pub room-tried : {t : Tally} → s .tally .halt ≡ Going → t ≡ counted s (s .tally .sets) Going

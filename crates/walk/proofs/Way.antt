@@ -1,20 +1,18 @@
 -- Where a call's way along the events ends (specs/Run; blueprint W6): behind all of them, at the reading that fills the room, or before the
--- try that would pass the limit. All readings are answer sets here, so that number 10 never comes.
+-- try that would pass the limit.
 use mathlib.Core.Path.{_≡_, refl, sym, _∙_, ap, subst}
 use mathlib.Core.Logic.{⊎-elim}
-use mathlib.Core.Bool.{true}
-use mathlib.Core.List.{List, [], _∷_, _++_, List·Memᴰ, List·Memᴰ·head, List·Memᴰ·tail}
+use mathlib.Core.List.{List, [], _∷_, _++_}
 use Prim.Native.Nat.{ℕ, suc, _+_, _*_, _-_, _≤_, _<_}
 use native.Mathlib.Nat.{le-antisymm, eq-or-lt-of-le, suc-mul}
 use native.Mathlib.Numerals.{add-one}
 use native.Mathlib.Omega.{arith}
 use lib.ListN.{length, length-append}
 use Rattle.meaning.specs.declared.colouring.Colouring.{Colouring}
-use Rattle.meaning.specs.Books.{Atoms, Book}
-use Rattle.meaning.specs.Computed.{isAnswerSet}
+use Rattle.meaning.specs.Books.{Book}
 use Rattle.meaning.specs.Choice.{ifLt, ifEq}
 use Rattle.meaning.proofs.Tests.{lt-or-le}
-use Rattle.meaning.proofs.Choice.{b-yes, lt-yes, lt-no, eq-yes, eq-no}
+use Rattle.meaning.proofs.Choice.{lt-yes, lt-no, eq-yes, eq-no}
 use Rattle.walk.specs.Events.{Event, clash, fork, reading}
 use Rattle.walk.specs.Readings.{readingOf, readingsIn}
 use Rattle.walk.specs.Run.{rowOf, writeAt, Wanted, State, counted, readingMet, tried, run}
@@ -22,10 +20,6 @@ use Rattle.walk.specs.declared.tally.Halt.{Halt}
 use Rattle.walk.specs.declared.tally.Halt.the-variants.{Going, Full, Limit}
 use Rattle.walk.proofs.Rows.{row-length, rowsOf, write-length, write-none, write-next}
 use Rattle.walk.proofs.Run.{apart, run-ended, run-try, run-stops}
-
--- every reading among the events passes the test
-abbrev pub Tested : Book → List Event → Type 0
-Tested b es = (x : Atoms) → List·Memᴰ x (readingsIn b es) → isAnswerSet b x ≡ true
 
 module _ (b : Book) (w : Wanted) where
   -- the state after one more event, and after some, where neither the limit nor the end of the room stops the way
@@ -117,7 +111,7 @@ module _ (b : Book) (w : Wanted) where
   -- ---- one try
 
   module _ (some-room : 1 ≤ w .room) where
-    module _ (s : State) (d : Colouring) (t : isAnswerSet b (readingOf b d) ≡ true) where
+    module _ (s : State) (d : Colouring) where
       same-state : {h k : Halt} {l m : List ℕ} → h ≡ k → l ≡ m
           → _≡_ {A = State} (record { tally = counted s (s .tally .sets + 1) h; out = l })
           (record { tally = counted s (s .tally .sets + 1) k; out = m })
@@ -130,7 +124,7 @@ module _ (b : Book) (w : Wanted) where
       unfolding tried readingMet step
       try-reading = ⊎-elim
           (λ h. lt-yes _ _ _ _ h ∙ same-state (sym (eq-no _ _ _ _ (λ e. omega arith))) (sym (lt-yes _ _ _ _ h)))
-          (λ h. lt-no _ _ _ _ h ∙ b-yes _ _ _ t ∙ same-state refl (sym (lt-no _ _ _ _ h)))
+          (λ h. lt-no _ _ _ _ h ∙ same-state refl (sym (lt-no _ _ _ _ h)))
           (lt-or-le (s .tally .sets) (w .pass))
 
       try-full : s .tally .sets + 1 ≡ w .pass + w .room → tried b w s (reading d) ≡ ended Full (step s (reading d))
@@ -150,10 +144,10 @@ module _ (b : Book) (w : Wanted) where
       stops e es h o l = subst (Way s (e ∷ es)) (sym (run-stops b w s going e es l)) (to-limit [] e es (le-antisymm l h) o)
 
       fills : (d : Colouring) (es : List Event) → s .tally .tries < w .limit → s .tally .sets + 1 ≡ w .pass + w .room
-          → isAnswerSet b (readingOf b d) ≡ true → Way s (reading d ∷ es) (run b w s (reading d ∷ es))
+          → Way s (reading d ∷ es) (run b w s (reading d ∷ es))
       unfolding gone
-      fills d es h e t = subst (Way s (reading d ∷ es))
-          (sym (run-try b w s going (reading d) es h ∙ ap (λ (u : State). run b w u es) (try-full s d t e)
+      fills d es h e = subst (Way s (reading d ∷ es))
+          (sym (run-try b w s going (reading d) es h ∙ ap (λ (u : State). run b w u es) (try-full s d e)
           ∙ run-ended b w _ es (λ q. apart (cc))))
           (to-full [] d es h e)
 
@@ -161,26 +155,22 @@ module _ (b : Book) (w : Wanted) where
           → Way (step s e) es (run b w (step s e) es) → Way s (e ∷ es) (run b w s (e ∷ es))
       goes-on e es h q k = subst (Way s (e ∷ es)) (sym (run-try b w s going e es h ∙ ap (λ (u : State). run b w u es) q)) (further s e k)
 
-    pub way : (s : State) (es : List Event) → s .tally .halt ≡ Going → s .tally .tries ≤ w .limit → Open s → Tested b es
-        → Way s es (run b w s es)
+    pub way : (s : State) (es : List Event) → s .tally .halt ≡ Going → s .tally .tries ≤ w .limit → Open s → Way s es (run b w s es)
     unfolding run gone step tried readingsIn
-    way s [] g h o t =
+    way s [] g h o =
         let e : ended Going s ≡ s =
         (λ i. record { tally = record { tries = s .tally .tries; sets = s .tally .sets; halt = sym g i }; out = s .out }) in
         subst (Way s []) e (to-end h o)
-    way s (clash ∷ es) g h o t = ⊎-elim
-        (λ l. goes-on s g clash es l refl (way (step s clash) es refl (omega arith) o t)) (stops s g clash es h o)
+    way s (clash ∷ es) g h o = ⊎-elim
+        (λ l. goes-on s g clash es l refl (way (step s clash) es refl (omega arith) o)) (stops s g clash es h o)
         (lt-or-le (s .tally .tries) (w .limit))
-    way s (fork r ∷ es) g h o t = ⊎-elim
-        (λ l. goes-on s g (fork r) es l refl (way (step s (fork r)) es refl (omega arith) o t)) (stops s g (fork r) es h o)
+    way s (fork r ∷ es) g h o = ⊎-elim
+        (λ l. goes-on s g (fork r) es l refl (way (step s (fork r)) es refl (omega arith) o)) (stops s g (fork r) es h o)
         (lt-or-le (s .tally .tries) (w .limit))
-    way s (reading d ∷ es) g h o t = ⊎-elim
+    way s (reading d ∷ es) g h o = ⊎-elim
         (λ l. ⊎-elim
-        (λ e. fills s g d es l (add-one _ ∙ e) here)
-        (λ k. goes-on s g (reading d) es l (try-open s d here (λ e. omega arith))
-        (way (step s (reading d)) es refl (omega arith) (omega arith) (λ x m. t x (List·Memᴰ·tail m))))
+        (λ e. fills s g d es l (add-one _ ∙ e))
+        (λ k. goes-on s g (reading d) es l (try-open s d (λ e. omega arith))
+        (way (step s (reading d)) es refl (omega arith) (omega arith)))
         (eq-or-lt-of-le o))
         (stops s g (reading d) es h o) (lt-or-le (s .tally .tries) (w .limit))
-      where
-        here : isAnswerSet b (readingOf b d) ≡ true
-        here = t _ (List·Memᴰ·head refl)

@@ -15,9 +15,9 @@ use Rattle.book.specs.Format.{BookRead, good, bad, readOf}
 use Rattle.walk.specs.Events.{events}
 use Rattle.walk.specs.Run.{State, run}
 use Rattle.walk.specs.declared.tally.Halt.{Halt}
-use Rattle.walk.specs.declared.tally.Halt.the-variants.{Going, Full, Limit, NotLeast}
+use Rattle.walk.specs.declared.tally.Halt.the-variants.{Going, Full, Limit}
 use Rattle.walk.specs.declared.kth.Found.{Found}
-use Rattle.walk.specs.declared.kth.Found.the-variants.{Set, Fewer, Stopped, Book as BadBook, NoRoom, NoNumber, NotLeast as Wrong}
+use Rattle.walk.specs.declared.kth.Found.the-variants.{Set, Fewer, Stopped, Book as BadBook, NoRoom, NoNumber}
 
 -- success tells the tries
 abbrev pub set : ℕ → Told ℕ
@@ -29,7 +29,6 @@ told (Fewer tries sets) = fewer tries sets
 told (Stopped limit) = stopped limit
 told (BadBook f) = refusedAt (numberOf f) (placeOf f)
 told NoRoom = refused 8
-told Wrong = refused 10
 told NoNumber = refused 15
 
 abbrev pub startOf : List ℕ → State
@@ -39,7 +38,6 @@ unfoldable pub toldBy : Halt → State → ℕ → Told ℕ
 toldBy Going s limit = fewer (s .tally .tries) (s .tally .sets)
 toldBy Full s limit = set (s .tally .tries)
 toldBy Limit s limit = stopped limit
-toldBy NotLeast s limit = refused 10
 
 abbrev pub answeredBy : State → ℕ → Answered ℕ
 answeredBy s limit = record { told = toldBy (s .tally .halt) s limit; buffer = s .out }

@@ -20,23 +20,21 @@ use Rattle.book.specs.Format.{BookRead, good, bad, readOf}
 use Rattle.walk.specs.Events.{Event, events, rest}
 use Rattle.walk.specs.Run.{State, run}
 use Rattle.walk.specs.declared.tally.Halt.{Halt}
-use Rattle.walk.specs.declared.tally.Halt.the-variants.{Going, Full, Limit, NotLeast as Wrong}
+use Rattle.walk.specs.declared.tally.Halt.the-variants.{Going, Full, Limit}
 use Rattle.walk.specs.declared.page_answer.Page.{Page}
-use Rattle.walk.specs.declared.page_answer.Page.the-variants.{Whole, Last, Cut, NotLeast, Book as BadBook, NoRoom}
+use Rattle.walk.specs.declared.page_answer.Page.the-variants.{Whole, Last, Cut, Book as BadBook, NoRoom}
 
--- success tells how the page ended: it is full, and all tries so far; it is the last one, all tries and its rows; the limit cut it, and its
--- rows; a reading is no least model, and its rows
+-- success tells how the page ended: it is full, and all tries so far; it is the last one, all tries and its rows; or the limit cut it, and
+-- its rows
 pub data PageEnd : Type 0 where
   whole : ℕ → PageEnd
   last : ℕ → ℕ → PageEnd
   cut : ℕ → PageEnd
-  wrong : ℕ → PageEnd
 
 abbrev pub told : Page → Told PageEnd
 told (Whole tries) = success (whole tries)
 told (Last tries rows) = success (last tries rows)
 told (Cut rows) = success (cut rows)
-told (NotLeast rows) = success (wrong rows)
 told (BadBook f) = refusedAt (numberOf f) (placeOf f)
 told NoRoom = refused 8
 
@@ -55,7 +53,6 @@ unfoldable pub endedBy : Halt → State → PageEnd
 endedBy Going s = last (s .tally .tries) (s .tally .sets)
 endedBy Full s = whole (s .tally .tries)
 endedBy Limit s = cut (s .tally .sets)
-endedBy Wrong s = wrong (s .tally .sets)
 
 abbrev pub pagedBy : State → Answered PageEnd
 pagedBy s = record { told = success (endedBy (s .tally .halt) s); buffer = s .out }

@@ -8,13 +8,12 @@ use mathlib.Core.List.{List, [], _∷_, _++_}
 use Prim.Native.Nat.{ℕ, zero, suc, _+_, _*_, _-_}
 use lib.ListN.{length, take, drop}
 use Rattle.meaning.specs.Books.{Atoms, atomNo, Book}
-use Rattle.meaning.specs.Computed.{isAnswerSet}
 use Rattle.meaning.specs.Choice.{ifb, ifLt, ifEq}
 use Rattle.walk.specs.Events.{Event, clash, fork, reading}
 use Rattle.walk.specs.Readings.{readingOf}
 use Rattle.walk.specs.declared.tally.Tally.{Tally}
 use Rattle.walk.specs.declared.tally.Halt.{Halt}
-use Rattle.walk.specs.declared.tally.Halt.the-variants.{Going, Full, Limit, NotLeast}
+use Rattle.walk.specs.declared.tally.Halt.the-variants.{Going, Full, Limit}
 
 -- n bytes, of which the first is that of atom i
 unfoldable pub rowFrom : ℕ → ℕ → Atoms → List ℕ
@@ -41,16 +40,14 @@ pub record State : Type 0 where
 abbrev pub counted : State → ℕ → Halt → Tally
 counted s n h = record { tries = s .tally .tries + 1; sets = n; halt = h }
 
--- one more reading x, which is written if enough were passed over and it is the least model of its reduct (number 10)
+-- one more reading x, which is written if enough were passed over
 unfoldable pub readingMet : Book → Wanted → State → Atoms → State
 readingMet b w s x =
     ifLt (s .tally .sets) (w .pass) (record { tally = counted s (s .tally .sets + 1) Going; out = s .out })
-    (ifb (isAnswerSet b x)
     (record {
       tally = counted s (s .tally .sets + 1) (ifEq (s .tally .sets + 1) (w .pass + w .room) Full Going);
       out = writeAt ((s .tally .sets - w .pass) * b .atoms) (rowOf b x) (s .out);
     })
-    (record { tally = counted s (s .tally .sets) NotLeast; out = s .out }))
 
 -- one try
 unfoldable pub tried : Book → Wanted → State → Event → State
@@ -65,7 +62,6 @@ met b w Going s e =
     (record { tally = record { tries = s .tally .tries; sets = s .tally .sets; halt = Limit }; out = s .out })
 met b w Full s e = s
 met b w Limit s e = s
-met b w NotLeast s e = s
 
 unfoldable pub run : Book → Wanted → State → List Event → State
 run b w s [] = s

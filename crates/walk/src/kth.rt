@@ -29,8 +29,6 @@ pub enum Found {
     Book(Refusal),
     // 8: the buffer has fewer bytes than the book has atoms.
     NoRoom,
-    // 10: the heads found aren't the least model of the reduct.
-    NotLeast,
     // 15: k is 0.
     NoNumber,
 }
@@ -79,7 +77,6 @@ fn tell(t: Tally, limit: u32) -> Found
         Halt::Going => Found::Fewer(t.tries, t.sets),
         Halt::Full => Found::Set(t.tries),
         Halt::Limit => Found::Stopped(limit),
-        Halt::NotLeast => Found::NotLeast,
     }
 }
 

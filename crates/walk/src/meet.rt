@@ -7,7 +7,6 @@ ghost use Rattle.book.specs.Format.{bookIn, ReadAs};
 ghost use Rattle.walk.specs.Run.{State, readingMet};
 ghost use Rattle.walk.specs.Room.{Room};
 ghost use Rattle.walk.specs.declared.tally.Halt.the-variants.{Going};
-use crate::answer::is_answer_set;
 use crate::bytes::write_row;
 use crate::tally::Halt;
 use crate::tally::Tally;
@@ -39,9 +38,6 @@ pub fn meet(
     }
     let mut set = [false; Colouring::ATOMS];
     heads_of(book, shape, on, &mut set);
-    if !is_answer_set(book, shape, &set) {
-        return t.tried(t.sets, Halt::NotLeast);
-    }
     let row = (t.sets - pass) as usize;
     write_row(shape.atoms, &set, row * shape.atoms as usize, out);
     if row + 1 == room {

@@ -8,9 +8,6 @@ pub enum Page {
     Last(u32, u32),
     // One more try would pass the limit: so many rows stand in the buffer.
     Cut(u32),
-    // Where finding would tell 10: a reading isn't the least model of its reduct; so many rows
-    // stand in the buffer.
-    NotLeast(u32),
     // 1 to 7: the book is refused.
     Book(Refusal),
     // 8: the buffer has fewer bytes than the book has atoms.

@@ -35,7 +35,6 @@ fn tell(t: Tally) -> Page
         Halt::Going => Page::Last(t.tries, t.sets),
         Halt::Full => Page::Whole(t.tries),
         Halt::Limit => Page::Cut(t.sets),
-        Halt::NotLeast => Page::NotLeast(t.sets),
     }
 }
 

@@ -6,13 +6,12 @@ ghost use Prim.Native.Nat.{_<_};
 ghost use Rattle.meaning.specs.Sets.{every};
 ghost use Rattle.meaning.specs.Books.{atomNo};
 ghost use Rattle.meaning.specs.AnswerSet.{generating};
-ghost use Rattle.meaning.specs.Computed.{agree};
+ghost use Rattle.meaning.specs.Choice.{agree};
 ghost use Rattle.book.specs.Format.{bookIn, ReadAs};
 ghost use Rattle.walk.specs.Events.{rest};
 ghost use Rattle.walk.specs.Run.{State, run};
 ghost use Rattle.walk.specs.Page.{setIn};
 ghost use Rattle.walk.specs.Room.{Room};
-use crate::answer::agrees;
 use crate::bytes::in_row;
 use crate::colours::Picked;
 use crate::colours::clashes;
@@ -26,6 +25,16 @@ use closing::close;
 use meaning::AtomNo;
 use meaning::Colouring;
 use meaning::RuleNo;
+
+// Both say yes, or both say no.
+fn agrees(one: bool, other: bool) -> bool
+    ensures { λ r. ⌜ r ≡ agree one other ⌝ }
+{
+    if one {
+        return other;
+    }
+    !other
+}
 
 // Every atom of the part is in the row's set; or, where `inside` is false, none is.
 fn all_so(part: &[u8], row: &[u8], inside: bool) -> bool

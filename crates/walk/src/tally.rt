@@ -9,8 +9,6 @@ pub enum Halt {
     Full,
     // One more try would pass the limit.
     Limit,
-    // A reading was found that is not the least model of its reduct: this never comes.
-    NotLeast,
 }
 
 pub struct Tally {

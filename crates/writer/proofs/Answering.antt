@@ -23,7 +23,7 @@ use Rattle.book.proofs.Places.{shape-atoms}
 use Rattle.walk.specs.Run.{State}
 use Rattle.walk.specs.Page.{setIn}
 use Rattle.walk.specs.declared.tally.Tally.{Tally}
-use Rattle.walk.specs.declared.tally.Halt.the-variants.{Going, Full, Limit, NotLeast}
+use Rattle.walk.specs.declared.tally.Halt.the-variants.{Going, Full, Limit}
 use Rattle.writer.specs.Branches.{branches}
 use Rattle.writer.specs.Scan.{Progress, writing, scan}
 use Rattle.writer.specs.Needs.{wholePaper}
@@ -63,10 +63,6 @@ module _ (b : Book) (k : Claim) (limit : ℕ) (buffer : List ℕ) (below : claim
   pub name-first-limit : t .halt ≡ Limit → only buffer (stopped limit) ≡ nameIn b k limit buffer
   unfolding afterFirstWalk
   name-first-limit h = sym (name-first ∙ rw h)
-
-  pub name-not-least : t .halt ≡ NotLeast → only buffer (refused 10) ≡ nameIn b k limit buffer
-  unfolding afterFirstWalk
-  name-not-least h = sym (name-first ∙ rw h)
 
   module _ (h : t .halt ≡ Full) {q : Drafted} {draft : List ℕ} (d : Stage q draft (paperWalk b k limit)) where
     name-paper : nameIn b k limit buffer ≡ afterPaperWalk (courseOf (q .course)) b k limit (paperWalk b k limit) row buffer

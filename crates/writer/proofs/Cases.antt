@@ -11,8 +11,7 @@ use Rattle.meaning.specs.Colours.{put, heads, allIn, mayOn, blocked, starved, c
 use Rattle.meaning.specs.Claim.{claimed, mark, shown, ended}
 use Rattle.meaning.specs.Paper.{trailer}
 use Rattle.meaning.specs.Written.{of, addFrom, added}
-use Rattle.meaning.specs.Computed.{iterate, upheld, supportMore, support, goesOff, closeMore, marked, close, barred, leastModel, agree}
-use Rattle.meaning.specs.Computed.{isAnswerSet}
+use Rattle.meaning.specs.Computed.{iterate, upheld, supportMore, support, goesOff, closeMore, marked, close}
 use Rattle.meaning.specs.Lowest.{onPick, oneOr, lowestFrom, lowest, listedIf, rulesFrom, rulesIn}
 use Rattle.meaning.specs.Engine.{firstOf, unsupported, next, listable, listing, witnessOf}
 use Rattle.meaning.specs.Choice.{ifb, ifLt, ifEq}
@@ -68,7 +67,7 @@ pub worked :
     × (nameOf either-way (atomNo 2) 1000 (sevens 24) ≡ record { told = paper 7 24; buffer = either-way-paper })
 unfolding every some everyBelow someBelow sameAtom sameRule count rule everyRule someRule generates generating put heads allIn
     mayOn blocked starved clashing uncoloured claimed mark shown ended trailer of addFrom added iterate upheld supportMore support
-    goesOff closeMore marked close barred leastModel agree isAnswerSet onPick oneOr lowestFrom lowest listedIf rulesFrom rulesIn
+    goesOff closeMore marked close onPick oneOr lowestFrom lowest listedIf rulesFrom rulesIn
     firstOf unsupported next listable listing witnessOf ifb ifLt ifEq u16At partOf andThen bytesOf recordOf lengthOf ruleOf
     recordsOf rulesOf ifFine bodyOf readOf after eventsIn events rowFrom rowOf writeAt readingMet tried eventMet run setIn
     behind branchBy branchIn branch below branchesIn branches courseAt met scan firstWalk paperWalk wholePaper handOver

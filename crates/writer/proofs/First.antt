@@ -19,7 +19,7 @@ use Rattle.walk.specs.Run.{rowOf, State}
 use Rattle.walk.specs.Find.{set, toldBy, answeredBy, findIn}
 use Rattle.walk.specs.Page.{setIn}
 use Rattle.walk.specs.declared.tally.Halt.{Halt}
-use Rattle.walk.specs.declared.tally.Halt.the-variants.{Going, Full, Limit, NotLeast}
+use Rattle.walk.specs.declared.tally.Halt.the-variants.{Going, Full, Limit}
 use Rattle.walk.proofs.Readings.{readings-append, readings-all}
 use Rattle.walk.proofs.Rows.{set-in-row}
 use Rattle.walk.proofs.Demand.{find-set, find-stopped, find-fewer, find-row}
@@ -77,23 +77,20 @@ module _ (b : Book) where
     told-limit Going s e = kinds cc
     told-limit Full s e = kinds cc
     told-limit Limit s e = refl
-    told-limit NotLeast s e = kinds cc
 
     told-full : (h : Halt) (s : State) (t : ℕ) → toldBy h s limit ≡ set t → h ≡ Full
     unfolding toldBy
     told-full Going s t e = kinds cc
     told-full Full s t e = refl
     told-full Limit s t e = kinds cc
-    told-full NotLeast s t e = kinds cc
 
     told-going : (h : Halt) (s : State) (t n : ℕ) → toldBy h s limit ≡ fewer t n → (h ≡ Going) × (s .tally .tries ≡ t)
     unfolding toldBy
     told-going Going s t n e = (refl, cc)
     told-going Full s t n e = kinds cc
     told-going Limit s t n e = kinds cc
-    told-going NotLeast s t n e = kinds cc
 
-    module _ (few : b .atoms ≤ 255) (fits : count b ≤ 255) where
+    module _ (few : b .atoms ≤ 255) where
       abbrev walked : State
       walked = firstWalk b limit
 
@@ -105,17 +102,17 @@ module _ (b : Book) where
       told-as e = ap (λ (a : Answered ℕ). a .told) (sym as-found) ∙ e
 
       pub first-limited : {n : ℕ} → Needs b 1 n → limit < n → firstWalk b limit .tally .halt ≡ Limit
-      first-limited p h = told-limit _ walked (told-as (find-stopped b fits 1 limit (zeros 255) (omega arith) few .1 (_, p, h)))
+      first-limited p h = told-limit _ walked (told-as (find-stopped b 1 limit (zeros 255) (omega arith) few .1 (_, p, h)))
 
       pub first-none : length (readings b) < 1 → length (events b nothing) ≤ limit
           → (firstWalk b limit .tally .halt ≡ Going) × (firstWalk b limit .tally .tries ≡ length (events b nothing))
       first-none p h =
-          told-going _ walked _ _ (told-as (find-fewer b fits 1 limit (zeros 255) (omega arith) few _ _ .1 (p, refl, refl, h)))
+          told-going _ walked _ _ (told-as (find-fewer b 1 limit (zeros 255) (omega arith) few _ _ .1 (p, refl, refl, h)))
 
       pub first-found : {t : ℕ} {x : Atoms} → Kth b 1 t x → t ≤ limit
           → (firstWalk b limit .tally .halt ≡ Full) × (firstWalk b limit .out ≡ rowOf b x ++ drop (b .atoms) (replicate 255 0))
       first-found {t} {x} p h =
-          let e = find-set b fits 1 limit (zeros 255) (omega arith) few t .1 (x, p, h) in (
+          let e = find-set b 1 limit (zeros 255) (omega arith) few t .1 (x, p, h) in (
             told-full _ walked t (told-as e),
-            ap (λ (a : Answered ℕ). a .buffer) (sym as-found) ∙ find-row b fits 1 limit (zeros 255) t x e p,
+            ap (λ (a : Answered ℕ). a .buffer) (sym as-found) ∙ find-row b 1 limit (zeros 255) t x e p,
           )

@@ -159,10 +159,6 @@ module _ (b : Book) (k : Claim) (limit : ℕ) (buffer : List ℕ) where
     name-lacks e = ⊎-elim
         (λ (n, u, q). unsettled-one b k (good .few-rules) (stuck-unsettled b k u)) (λ (x, f, l, q). absurd (omega (arith, q))) (says e)
 
-    pub name-never-10 : nameIn b k limit buffer .told ≡ refused 10 → ⊥
-    unfolding Says
-    name-never-10 e = ⊎-elim (λ (n, u, q). absurd (omega (arith, q))) (λ (x, f, l, q). absurd (omega (arith, q))) (says e)
-
     -- where the claim holds throughout, the answer is never 11 and never 12
     pub name-certain : Throughout b (meant k)
         → ((t n : ℕ) → nameIn b k limit buffer .told ≡ fewer t n → ⊥) × (nameIn b k limit buffer .told ≡ refused 12 → ⊥)

@@ -14,7 +14,7 @@ use Rattle.meaning.proofs.Choice.{lt-yes, lt-no, lt-either}
 use Rattle.book.specs.Format.{BookRead, good, bad, readOf}
 use Rattle.walk.specs.Run.{State, writeAt}
 use Rattle.walk.specs.declared.tally.Halt.{Halt}
-use Rattle.walk.specs.declared.tally.Halt.the-variants.{Going, Full, Limit, NotLeast}
+use Rattle.walk.specs.declared.tally.Halt.the-variants.{Going, Full, Limit}
 use Rattle.writer.specs.Scan.{Course, writing, limited, refuted, Progress}
 use Rattle.writer.specs.Name.{Handed, paper, handOver, afterPaperWalk, afterFirstWalk}
 use Rattle.writer.specs.Name.{nameIn, nameRead, nameOf}
@@ -63,7 +63,6 @@ module _ (b : Book) (k : Claim) (limit : ℕ) (buffer : List ℕ) where
   first-keeping Going s = inr refl
   first-keeping Full s = paper-keeping _ _ (s .out)
   first-keeping Limit s = inr refl
-  first-keeping NotLeast s = inr refl
 
   name-in-keeping : Keeping buffer (nameIn b k limit buffer)
   unfolding nameIn

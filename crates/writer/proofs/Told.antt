@@ -6,12 +6,12 @@ use Rattle.meaning.specs.Told.{Told}
 use Rattle.meaning.proofs.Told.{valuesAgain, again, one-again}
 use Rattle.book.proofs.Told.{refusalAt, refusal-again}
 use Rattle.writer.specs.declared.answer.Named.{Named}
-use Rattle.writer.specs.declared.answer.Named.the-variants.{Paper, Fewer, Stopped, Book, NotLeast, NotCertain, NoAtom, TooLong}
+use Rattle.writer.specs.declared.answer.Named.the-variants.{Paper, Fewer, Stopped, Book, NotCertain, NoAtom, TooLong}
 use Rattle.writer.specs.Name.{Handed, told}
 
--- 10, and 12 to 14; no answer is told as another number
+-- 12 to 14; no answer is told as another number
 abbrev refusals : List Named
-refusals = replicate 10 NoAtom ++ (NotLeast ∷ NoAtom ∷ NotCertain ∷ NoAtom ∷ TooLong ∷ [])
+refusals = replicate 12 NoAtom ++ (NotCertain ∷ NoAtom ∷ TooLong ∷ [])
 
 abbrev namedAt : Told Handed → Named
 namedAt = again (λ s. Paper (s .tries) (s .size)) (valuesAgain NoAtom Stopped (λ tries sets. Fewer tries))
@@ -22,7 +22,6 @@ named-again (Paper tries length) = refl
 named-again (Fewer tries) = refl
 named-again (Stopped limit) = refl
 named-again (Book f) = ap Book (refusal-again f)
-named-again NotLeast = refl
 named-again NotCertain = refl
 named-again NoAtom = refl
 named-again TooLong = refl

@@ -86,18 +86,18 @@ module _ (b : Book) (k : Claim) (limit : ℕ) (buffer : List ℕ) where
 
     pub way-first-stopped : {n : ℕ} → NeedsTries b 1 n → limit < n → nameIn b k limit buffer ≡ only buffer (stopped limit)
     unfolding nameIn afterFirstWalk
-    way-first-stopped p h = lt-yes _ _ _ _ (good .atom-below) ∙ rw (first-limited b limit (good .few-atoms) (good .few-rules) p h)
+    way-first-stopped p h = lt-yes _ _ _ _ (good .atom-below) ∙ rw (first-limited b limit (good .few-atoms) p h)
 
     pub way-no-reading : length (readings b) < 1 → length (events b nothing) ≤ limit
         → nameIn b k limit buffer ≡ only buffer (fewer (length (events b nothing)) 0)
     unfolding nameIn afterFirstWalk
     way-no-reading p h =
-        let (e, t) = first-none b limit (good .few-atoms) (good .few-rules) p h in lt-yes _ _ _ _ (good .atom-below) ∙ rw (e, t)
+        let (e, t) = first-none b limit (good .few-atoms) p h in lt-yes _ _ _ _ (good .atom-below) ∙ rw (e, t)
 
     module _ {x : Atoms} (found : Found b limit x) where
       ended : (firstWalk b limit .tally .halt ≡ Full) × (setIn (firstWalk b limit .out) ≡ x)
       ended =
-          let (t, first, h) = found in let (e, o) = first-found b limit (good .few-atoms) (good .few-rules) first h in
+          let (t, first, h) = found in let (e, o) = first-found b limit (good .few-atoms) first h in
           let inside = answer-inside b (good .few-rules) x (good .heads-below) (kth-answer b (good .few-rules) first) in
           (e, ap setIn o ∙ set-in-first b x inside)
 

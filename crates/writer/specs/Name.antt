@@ -20,13 +20,13 @@ use Rattle.walk.specs.Run.{State, run, writeAt}
 use Rattle.walk.specs.Find.{startOf}
 use Rattle.walk.specs.Page.{setIn}
 use Rattle.walk.specs.declared.tally.Halt.{Halt}
-use Rattle.walk.specs.declared.tally.Halt.the-variants.{Going, Full, Limit, NotLeast}
+use Rattle.walk.specs.declared.tally.Halt.the-variants.{Going, Full, Limit}
 use Rattle.writer.specs.Branches.{branches}
 use Rattle.writer.specs.Scan.{Course, writing, limited, refuted, Progress, scan}
 use Rattle.writer.specs.Needs.{wholePaper}
 use Rattle.writer.specs.declared.answer.Named.{Named}
 use Rattle.writer.specs.declared.answer.Named.the-variants.{Paper, Fewer, Stopped, NotCertain, NoAtom, TooLong}
-use Rattle.writer.specs.declared.answer.Named.the-variants.{Book as BadBook, NotLeast as Wrong}
+use Rattle.writer.specs.declared.answer.Named.the-variants.{Book as BadBook}
 
 -- success tells the tries of the paper's walk and the paper's length
 pub record Handed : Type 0 where
@@ -42,7 +42,6 @@ told (Paper tries size) = paper tries size
 told (Fewer tries) = fewer tries 0
 told (Stopped limit) = stopped limit
 told (BadBook f) = refusedAt (numberOf f) (placeOf f)
-told Wrong = refused 10
 told NotCertain = refused 12
 told NoAtom = refused 13
 told TooLong = refused 14
@@ -72,7 +71,6 @@ afterFirstWalk Going b k limit s buffer = record { told = fewer (s .tally .tries
 afterFirstWalk Full b k limit s buffer =
     let p = paperWalk b k limit in afterPaperWalk (p .course) b k limit p (s .out) buffer
 afterFirstWalk Limit b k limit s buffer = record { told = stopped limit; buffer = buffer }
-afterFirstWalk NotLeast b k limit s buffer = record { told = refused 10; buffer = buffer }
 
 unfoldable pub nameIn : Book → Claim → ℕ → List ℕ → Answered Handed
 nameIn b k limit buffer =

@@ -10,8 +10,6 @@ pub enum Named {
     Stopped(u32),
     // 1 to 7: the book is refused.
     Book(Refusal),
-    // 10: the heads found aren't the least model of the reduct.
-    NotLeast,
     // 12: a reading lacks the atom.
     NotCertain,
     // 13: the atom isn't below A.

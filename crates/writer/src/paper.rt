@@ -33,7 +33,6 @@ fn name_in(book: &[u8], shape: Shape, atom: AtomNo, limit: u32, paper: &mut [u8]
     match halt {
         Halt::Going => return Named::Fewer(reading.tries),
         Halt::Limit => return Named::Stopped(limit),
-        Halt::NotLeast => return Named::NotLeast,
         Halt::Full => {}
     }
     let mut draft = [0u8; 60000];

@@ -11,7 +11,7 @@ use Rattle.writer.specs.Name.{firstWalk, paperWalk}
 use Rattle.writer.specs.Draft.{Stage}
 use Rattle.writer.proofs.Drafts.{stands-most}
 use Rattle.writer.proofs.Handing.{stands-long}
-use Rattle.writer.proofs.Answering.{blank, stage-blank, stage-paper, name-fewer, name-first-limit, name-not-least}
+use Rattle.writer.proofs.Answering.{blank, stage-blank, stage-paper, name-fewer, name-first-limit}
 use Rattle.writer.proofs.Answering.{name-limited, name-refuted, name-handed}
 use Rattle.writer.proofs.paper.name_in.Statement.{statement}
 use Rattle.writer.proofs.paper.name_in.Tie as tie
@@ -31,7 +31,7 @@ module _ (c : tie.After-write-branches) where
   walked = c .before .before .before .before .before
 
   full : walked .first .result .halt ≡ Full
-  full = c .before .before .before .enum-told4 .given .1
+  full = c .before .before .before .enum-told3 .given .1
 
   drafted : let a = start walked .args in
       Stage (c .write-branches .result) (c .write-branches .last .1 .1 .1 .1 .1 .1 .0)
@@ -52,12 +52,6 @@ returns-2 c =
     let f = c .before .before in
     name-first-limit _ _ _ _ (in-book (start f)) (f .first .ensures) (c .enum-told2 .given .1)
 
-returns-3 : tie.Need-returns-3
-unfolding firstWalk
-returns-3 c =
-    let f = c .before .before in
-    name-not-least _ _ _ _ (in-book (start f)) (f .first .ensures) (c .enum-told3 .given .1)
-
 -- ---- the paper's walk
 
 finish-requires : tie.Need-finish-requires
@@ -71,32 +65,32 @@ hand-over-requires c κs =
     let p = c .before .before in
     stands-long (p .finish .ensures _ (drafted (p .before .before .before .before .before) .bytes))
 
+returns-3 : tie.Need-returns-3
+unfolding firstWalk
+returns-3 c =
+    let w = c .before .before in
+    let f = walked w in
+    name-limited _ _ _ _ (in-book (start f)) (f .first .ensures) (full w) (drafted w) (c .enum-told4 .given .1)
+
 returns-4 : tie.Need-returns-4
 unfolding firstWalk
 returns-4 c =
     let w = c .before .before in
     let f = walked w in
-    name-limited _ _ _ _ (in-book (start f)) (f .first .ensures) (full w) (drafted w) (c .enum-told5 .given .1)
+    name-refuted _ _ _ _ (in-book (start f)) (f .first .ensures) (full w) (drafted w) (c .enum-told5 .given .1)
 
 returns-5 : tie.Need-returns-5
 unfolding firstWalk
 returns-5 c =
-    let w = c .before .before in
-    let f = walked w in
-    name-refuted _ _ _ _ (in-book (start f)) (f .first .ensures) (full w) (drafted w) (c .enum-told6 .given .1)
-
-returns-6 : tie.Need-returns-6
-unfolding firstWalk
-returns-6 c =
     let p = c .before .before .before .before .before in
     let e = p .before .before .before in
     let w = e .before .before in
     let f = walked w in
-    name-handed _ _ _ _ (in-book (start f)) (f .first .ensures) (full w) (drafted w) (e .enum-told7 .given .1)
+    name-handed _ _ _ _ (in-book (start f)) (f .first .ensures) (full w) (drafted w) (e .enum-told6 .given .1)
     (c .before .before .hand-over .ensures _ (p .finish .ensures _ (drafted w .bytes)))
 
 pub name-in-spec : {M : Type 1} → statement M
 name-in-spec =
-    tie.close (tie.spec (λ c κs. search needs) (λ c. search needs) returns (λ c. search needs) returns-2 (λ c. search needs) returns-3
+    tie.close (tie.spec (λ c κs. search needs) (λ c. search needs) returns (λ c. search needs) returns-2
     (λ c. search needs) (λ c κs. search needs) (λ c κs. search needs) (λ c. search needs) (λ c. search needs) (λ c. search needs)
-    finish-requires hand-over-requires returns-4 returns-5 (λ c. search needs) returns-6)
+    finish-requires hand-over-requires returns-3 returns-4 (λ c. search needs) returns-5)
