@@ -1,8 +1,8 @@
--- What a naming answers (demand 3; blueprint, N2, N3, N5 and N7), for a good book and an atom of it: in document 01's order 9, 11, 9, 12
--- and 14, each exactly under its condition, else the paper, which keeps the printed rules; where the claim holds throughout it is a paper,
--- 9 or 14, never 11 or 12; where it does not, and there is an answer set, 12 or 9. All of it is read off the ways that a call can go
--- (proofs/Ways).
-use mathlib.Core.Path.{_≡_, refl, ap, subst}
+-- What a naming or a clearing answers (demand 3 and its twin; blueprint, N2, N3, N5 and N7), for a good book and an atom of it: in document
+-- 01's order 9, 11, 9, 12 or 18, and 14, each exactly under its condition, else the paper, which keeps the printed rules; where the claim
+-- holds throughout it is a paper, 9 or 14, never 11, 12 or 18; where it does not, and there is an answer set, 12 or 18, or 9. All of it is
+-- read off the ways that a call can go (proofs/Ways).
+use mathlib.Core.Path.{_≡_, refl, sym, ap, subst}
 use mathlib.Core.Logic.{_⊎_, inl, inr, ⊎-elim, _↔_}
 use mathlib.Core.Bool.{true}
 use mathlib.Core.List.{List, [], _∷_, _++_}
@@ -13,7 +13,10 @@ use Rattle.meaning.specs.Sets.{_∉_, every}
 use Rattle.meaning.specs.Books.{Atoms, Book}
 use Rattle.meaning.specs.AnswerSet.{AnswerSet, Throughout}
 use Rattle.meaning.specs.Colours.{start}
-use Rattle.meaning.specs.Claim.{Claim, meant}
+use Rattle.meaning.specs.declared.kind.Kind.{Kind}
+use Rattle.meaning.specs.declared.kind.Kind.the-variants.{Naming, Clearing}
+use Rattle.meaning.specs.declared.kind.Claim.{Claim}
+use Rattle.meaning.specs.Claim.{meant}
 use Rattle.meaning.specs.Paper.{Keeps}
 use Rattle.meaning.specs.Told.{Told, success, refusedWith, refusedAt, refused, fewer, stopped, Answered}
 use Rattle.meaning.proofs.Tests.{clash}
@@ -25,13 +28,21 @@ use Rattle.walk.proofs.Needs.{needs-one as tries-one}
 use Rattle.writer.specs.Branches.{branches}
 use Rattle.writer.specs.Needs.{settled, Stuck, Needs, to-stuck, paperFor}
 use Rattle.writer.specs.Needs.{to-end as to-last}
-use Rattle.writer.specs.Name.{Handed, paper, nameIn}
+use Rattle.writer.specs.Write.{Handed, paper, lacking, writeIn}
 use Rattle.writer.proofs.Needs.{stuck-unsettled, needs-one}
 use Rattle.writer.proofs.Papers.{settled-each, unsettled-one, certain-settled, paper-keeps}
 use Rattle.writer.proofs.First.{kth-answer, fewer-none}
 use Rattle.writer.proofs.Ways.{Nameable, written, Found, Settled, TooLong, Outcome, first-stopped, no-reading, paper-stopped}
 use Rattle.writer.proofs.Ways.{got-stuck, too-long, handed-over, way-first-stopped, way-no-reading, way-paper-stopped, way-stuck}
-use Rattle.writer.proofs.Ways.{way-too-long, way-paper, name-outcome}
+use Rattle.writer.proofs.Ways.{way-too-long, way-paper, write-outcome}
+
+pub lacking-is : (q : Kind) → (lacking q ≡ 12) ⊎ (lacking q ≡ 18)
+unfolding lacking
+lacking-is Naming = inl refl
+lacking-is Clearing = inr refl
+
+lacking-not-14 : (q : Kind) → lacking q ≡ 14 → ⊥
+lacking-not-14 q e = ⊎-elim (λ p. omega (arith, p, e)) (λ p. omega (arith, p, e)) (lacking-is q)
 
 module _ (b : Book) (k : Claim) (limit : ℕ) (buffer : List ℕ) where
   -- what is told, and the buffer afterwards, say which way the call went
@@ -44,7 +55,7 @@ module _ (b : Book) (k : Claim) (limit : ℕ) (buffer : List ℕ) where
       ((n : ℕ) × NeedsTries b 1 n × (limit < n)) ⊎ ((n : ℕ) × Needs b k n × (limit < n) × (x : Atoms) × Found b limit x)
   Says (refusedWith i (t ∷ (n ∷ l))) after = length (readings b) < 1
   Says (refusedAt i at) after = ⊥
-  Says (refused i) after = ((n : ℕ) × Stuck b k n × (i ≡ 12)) ⊎ ((x : Atoms) × Found b limit x × TooLong b k buffer x × (i ≡ 14))
+  Says (refused i) after = ((n : ℕ) × Stuck b k n × (i ≡ lacking (k .kind))) ⊎ ((x : Atoms) × Found b limit x × TooLong b k buffer x × (i ≡ 14))
 
   outcome-says : {a : Answered Handed} → Outcome b k limit buffer a → Says (a .told) (a .buffer)
   unfolding Says
@@ -56,26 +67,26 @@ module _ (b : Book) (k : Claim) (limit : ℕ) (buffer : List ℕ) where
   outcome-says (handed-over {x} f s h l) = (x, f, s, refl, refl, h, l, refl)
 
   module _ (good : Nameable b k) where
-    says : {t : Told Handed} → nameIn b k limit buffer .told ≡ t → Says t (nameIn b k limit buffer .buffer)
-    says e = subst (λ (t : Told Handed). Says t (nameIn b k limit buffer .buffer)) e (outcome-says (name-outcome b k limit buffer good))
+    says : {t : Told Handed} → writeIn b k limit buffer .told ≡ t → Says t (writeIn b k limit buffer .buffer)
+    says e = subst (λ (t : Told Handed). Says t (writeIn b k limit buffer .buffer)) e (outcome-says (write-outcome b k limit buffer good))
 
-    told-by : {a : Answered Handed} → nameIn b k limit buffer ≡ a → nameIn b k limit buffer .told ≡ a .told
+    told-by : {a : Answered Handed} → writeIn b k limit buffer ≡ a → writeIn b k limit buffer .told ≡ a .told
     told-by e = ap (λ (a : Answered Handed). a .told) e
 
     -- ---- in document 01's order
 
-    -- "9 exactly if the first walk needs more than L tries to come to answer set 1 or to its end"; for the converse see name-stopped
-    pub name-first-stopped : {n : ℕ} → NeedsTries b 1 n → limit < n
-        → nameIn b k limit buffer ≡ record { told = stopped limit; buffer = buffer }
-    name-first-stopped p h = way-first-stopped b k limit buffer good p h
+    -- "9 exactly if the first walk needs more than L tries to come to answer set 1 or to its end"; for the converse see write-stopped
+    pub write-first-stopped : {n : ℕ} → NeedsTries b 1 n → limit < n
+        → writeIn b k limit buffer ≡ record { told = stopped limit; buffer = buffer }
+    write-first-stopped p h = way-first-stopped b k limit buffer good p h
 
     module _ {n : ℕ} (tries : NeedsTries b 1 n) (within : n ≤ limit) where
       -- "otherwise 11 exactly if there is no answer set", with all tries of that walk
-      pub name-none : (nameIn b k limit buffer .told ≡ fewer n 0) ↔ ((x : Atoms) → AnswerSet b x → ⊥)
+      pub write-none : (writeIn b k limit buffer .told ≡ fewer n 0) ↔ ((x : Atoms) → AnswerSet b x → ⊥)
       unfolding Says
-      name-none = (λ e. fewer-none b (good .few-rules) (says e), back tries within)
+      write-none = (λ e. fewer-none b (good .few-rules) (says e), back tries within)
         where
-          back : {n : ℕ} → NeedsTries b 1 n → n ≤ limit → ((x : Atoms) → AnswerSet b x → ⊥) → nameIn b k limit buffer .told ≡ fewer n 0
+          back : {n : ℕ} → NeedsTries b 1 n → n ≤ limit → ((x : Atoms) → AnswerSet b x → ⊥) → writeIn b k limit buffer .told ≡ fewer n 0
           back (to-reading {x = x} first) h none = absurd (none x (kth-answer b (good .few-rules) first))
           back (to-end f) h none = told-by (way-no-reading b k limit buffer good f h)
 
@@ -88,20 +99,20 @@ module _ (b : Book) (k : Claim) (limit : ℕ) (buffer : List ℕ) where
             by (to-end f) h = absurd (fewer-none b (good .few-rules) f (some .0) (some .1))
 
         -- "otherwise 9 exactly if the paper's walk needs more than L branches to get stuck or to its end"
-        pub name-paper-stopped : (nameIn b k limit buffer .told ≡ stopped limit) ↔ (limit < m)
+        pub write-paper-stopped : (writeIn b k limit buffer .told ≡ stopped limit) ↔ (limit < m)
         unfolding Says
-        name-paper-stopped = (
+        write-paper-stopped = (
           λ e. ⊎-elim (λ (i, p, h). absurd (omega (arith, tries-one b p tries)))
               (λ (i, p, h, x, f). omega (arith, needs-one b k p needs)) (says e),
           λ h. told-by (way-paper-stopped b k limit buffer good (found .1) needs h),
         )
 
         module _ (enough : m ≤ limit) where
-          -- "otherwise 12 exactly if it gets stuck"
-          pub name-not-certain : (nameIn b k limit buffer .told ≡ refused 12) ↔ Stuck b k m
+          -- "otherwise 12 exactly if it gets stuck"; 18 for a clearing
+          pub write-lacking : (writeIn b k limit buffer .told ≡ refused (lacking (k .kind))) ↔ Stuck b k m
           unfolding Says
-          name-not-certain = (
-            λ e. ⊎-elim (λ (i, p, q). rw (needs-one b k (to-stuck p) needs) at p) (λ (x, f, l, q). absurd (omega (arith, q))) (says e),
+          write-lacking = (
+            λ e. ⊎-elim (λ (i, p, q). rw (needs-one b k (to-stuck p) needs) at p) (λ (x, f, l, q). absurd (lacking-not-14 (k .kind) q)) (says e),
             λ u. told-by (way-stuck b k limit buffer good (found .1) u enough),
           )
 
@@ -113,65 +124,65 @@ module _ (b : Book) (k : Claim) (limit : ℕ) (buffer : List ℕ) where
             within-limit = (all, omega (arith, needs-one b k (to-last all) needs))
 
             -- "otherwise 14 exactly if the paper is longer than the room or 60,000"
-            pub name-too-long : (nameIn b k limit buffer .told ≡ refused 14)
+            pub write-too-long : (writeIn b k limit buffer .told ≡ refused 14)
                 ↔ ((length buffer < length (paperFor b k x)) ⊎ (60000 < length (paperFor b k x)))
             unfolding Says
-            name-too-long = (
-              λ e. ⊎-elim (λ (i, p, q). absurd (omega (arith, q)))
+            write-too-long = (
+              λ e. ⊎-elim (λ (i, p, q). absurd (lacking-not-14 (k .kind) (sym q)))
                   (λ (y, (u, f, h), l, q). rw (kth-one b f first .1) at l) (says e),
               λ l. told-by (way-too-long b k limit buffer good first-found within-limit l),
             )
 
             -- "else the paper": its walk's branches and its length are told, it stands from byte 0, and the later bytes keep
-            pub name-paper : length (paperFor b k x) ≤ length buffer → length (paperFor b k x) ≤ 60000
-                → nameIn b k limit buffer ≡ record {
+            pub write-paper : length (paperFor b k x) ≤ length buffer → length (paperFor b k x) ≤ 60000
+                → writeIn b k limit buffer ≡ record {
                   told = paper (length (branches b k start)) (length (paperFor b k x));
                   buffer = paperFor b k x ++ drop (length (paperFor b k x)) buffer;
                 }
-            name-paper l h = way-paper b k limit buffer good first-found within-limit l h
+            write-paper l h = way-paper b k limit buffer good first-found within-limit l h
 
     -- both 9s together
-    pub name-stopped : {n m : ℕ} → NeedsTries b 1 n → Needs b k m → (nameIn b k limit buffer .told ≡ stopped limit)
+    pub write-stopped : {n m : ℕ} → NeedsTries b 1 n → Needs b k m → (writeIn b k limit buffer .told ≡ stopped limit)
         ↔ ((limit < n) ⊎ ((n ≤ limit) × ((x : Atoms) × AnswerSet b x) × (limit < m)))
     unfolding Says
-    name-stopped tries needs = (
+    write-stopped tries needs = (
       λ e. ⊎-elim (λ (i, p, h). inl (omega (arith, tries-one b p tries))) (λ (i, p, h, x, (t, first, g)).
           let answer = kth-answer b (good .few-rules) first in
           inr (omega (arith, tries-one b (to-reading first) tries), (x, answer), omega (arith, needs-one b k p needs))) (says e),
-      λ s. ⊎-elim (λ h. told-by (name-first-stopped tries h)) (λ (h, some, g). name-paper-stopped tries h some needs .1 g) s,
+      λ s. ⊎-elim (λ h. told-by (write-first-stopped tries h)) (λ (h, some, g). write-paper-stopped tries h some needs .1 g) s,
     )
 
     -- ---- what an answer means
 
     -- every paper that is told keeps the printed rules, is at most 60,000 bytes and stands in the buffer
-    pub name-written : {t n : ℕ} → nameIn b k limit buffer .told ≡ paper t n
+    pub write-written : {t n : ℕ} → writeIn b k limit buffer .told ≡ paper t n
         → (x : Atoms) × AnswerSet b x × (t ≡ length (branches b k start)) × (n ≡ length (paperFor b k x)) × (n ≤ length buffer)
-        × (n ≤ 60000) × (nameIn b k limit buffer .buffer ≡ paperFor b k x ++ drop n buffer) × Keeps b k (paperFor b k x)
+        × (n ≤ 60000) × (writeIn b k limit buffer .buffer ≡ paperFor b k x ++ drop n buffer) × Keeps b k (paperFor b k x)
     unfolding Says
-    name-written e =
+    write-written e =
         let (x, (t, first, h), s, p, q, room, most, stands) = says e in
         let answer = kth-answer b (good .few-rules) first in
         (x, answer, p, q, room, most, stands, paper-keeps b k (good .few-rules) (s .0) (good .atom-below) x answer)
 
-    -- 12 is told only if the claim fails of an answer set
-    pub name-lacks : nameIn b k limit buffer .told ≡ refused 12 → (x : Atoms) × AnswerSet b x × (x ∉ meant k)
+    -- 12 or 18 is told only if the claim fails of an answer set
+    pub write-lacks : writeIn b k limit buffer .told ≡ refused (lacking (k .kind)) → (x : Atoms) × AnswerSet b x × (x ∉ meant k)
     unfolding Says
-    name-lacks e = ⊎-elim
-        (λ (n, u, q). unsettled-one b k (good .few-rules) (stuck-unsettled b k u)) (λ (x, f, l, q). absurd (omega (arith, q))) (says e)
+    write-lacks e = ⊎-elim
+        (λ (n, u, q). unsettled-one b k (good .few-rules) (stuck-unsettled b k u)) (λ (x, f, l, q). absurd (lacking-not-14 (k .kind) q)) (says e)
 
-    -- where the claim holds throughout, the answer is never 11 and never 12
-    pub name-certain : Throughout b (meant k)
-        → ((t n : ℕ) → nameIn b k limit buffer .told ≡ fewer t n → ⊥) × (nameIn b k limit buffer .told ≡ refused 12 → ⊥)
+    -- where the claim holds throughout, the answer is never 11 and never 12 or 18
+    pub write-certain : Throughout b (meant k)
+        → ((t n : ℕ) → writeIn b k limit buffer .told ≡ fewer t n → ⊥) × (writeIn b k limit buffer .told ≡ refused (lacking (k .kind)) → ⊥)
     unfolding Says
-    name-certain c = (
+    write-certain c = (
       λ t n e. fewer-none b (good .few-rules) (says e) (c .one .0) (c .one .1),
-      λ e. let (x, answer, n) = name-lacks e in clash (c .each x answer) n,
+      λ e. let (x, answer, n) = write-lacks e in clash (c .each x answer) n,
     )
 
     -- so it is a paper, 9 or 14
-    pub name-certain-told : Throughout b (meant k) → ((t : ℕ) × (n : ℕ) × (nameIn b k limit buffer .told ≡ paper t n))
-        ⊎ ((nameIn b k limit buffer .told ≡ stopped limit) ⊎ (nameIn b k limit buffer .told ≡ refused 14))
-    name-certain-told c = by (name-outcome b k limit buffer good)
+    pub write-certain-told : Throughout b (meant k) → ((t : ℕ) × (n : ℕ) × (writeIn b k limit buffer .told ≡ paper t n))
+        ⊎ ((writeIn b k limit buffer .told ≡ stopped limit) ⊎ (writeIn b k limit buffer .told ≡ refused 14))
+    write-certain-told c = by (write-outcome b k limit buffer good)
       where
         by : {a : Answered Handed} → Outcome b k limit buffer a
             → ((t : ℕ) × (n : ℕ) × (a .told ≡ paper t n)) ⊎ ((a .told ≡ stopped limit) ⊎ (a .told ≡ refused 14))
@@ -184,24 +195,24 @@ module _ (b : Book) (k : Claim) (limit : ℕ) (buffer : List ℕ) where
 
     -- "When the atom is in all answer sets, and there is at least one, the engine writes such a paper unless document 01's walks pass the
     -- tries limit or its paper passes the room given or 60,000 bytes"
-    pub name-writes : Throughout b (meant k) → {t : ℕ} {x : Atoms} → Kth b 1 t x → t ≤ limit → length (branches b k start) ≤ limit
+    pub write-writes : Throughout b (meant k) → {t : ℕ} {x : Atoms} → Kth b 1 t x → t ≤ limit → length (branches b k start) ≤ limit
         → length (paperFor b k x) ≤ length buffer → length (paperFor b k x) ≤ 60000
-        → (nameIn b k limit buffer ≡ written b k buffer x) × Keeps b k (paperFor b k x)
-    name-writes c {t} {x} first h l room most =
+        → (writeIn b k limit buffer ≡ written b k buffer x) × Keeps b k (paperFor b k x)
+    write-writes c {t} {x} first h l room most =
         let s = certain-settled b k (good .few-rules) c in (
           way-paper b k limit buffer good (t, first, h) (s, l) room most,
           paper-keeps b k (good .few-rules) s (good .atom-below) x (kth-answer b (good .few-rules) first),
         )
 
-    -- where there is an answer set and the claim does not hold throughout, the answer is 12 or 9
-    pub name-uncertain : (x : Atoms) × AnswerSet b x → (Throughout b (meant k) → ⊥)
-        → (nameIn b k limit buffer .told ≡ refused 12) ⊎ (nameIn b k limit buffer .told ≡ stopped limit)
-    name-uncertain some not = by (name-outcome b k limit buffer good)
+    -- where there is an answer set and the claim does not hold throughout, the answer is 12 or 18, or 9
+    pub write-uncertain : (x : Atoms) × AnswerSet b x → (Throughout b (meant k) → ⊥)
+        → (writeIn b k limit buffer .told ≡ refused (lacking (k .kind))) ⊎ (writeIn b k limit buffer .told ≡ stopped limit)
+    write-uncertain some not = by (write-outcome b k limit buffer good)
       where
         open-branch : {A : Type 0} → Settled b k limit → A
         open-branch s = absurd (not (record { one = some; each = settled-each b k (good .few-rules) (s .0) }))
 
-        by : {a : Answered Handed} → Outcome b k limit buffer a → (a .told ≡ refused 12) ⊎ (a .told ≡ stopped limit)
+        by : {a : Answered Handed} → Outcome b k limit buffer a → (a .told ≡ refused (lacking (k .kind))) ⊎ (a .told ≡ stopped limit)
         by (first-stopped p h) = inr refl
         by (no-reading h l) = absurd (fewer-none b (good .few-rules) h (some .0) (some .1))
         by (paper-stopped f p h) = inr refl
