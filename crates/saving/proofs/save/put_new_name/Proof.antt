@@ -1,9 +1,9 @@
 -- The two copies stand one behind the other, and `.new` has four bytes, for which there is room.
 use borrow.Author.Needs.{needs}
-use Rattle.naming.specs.NewName.{dotNew}
-use Rattle.naming.proofs.NewNames.{new-name-written}
-use Rattle.naming.proofs.save.put_new_name.Statement.{statement}
-use Rattle.naming.proofs.save.put_new_name.Tie as tie
+use Rattle.saving.specs.NewName.{dotNew}
+use Rattle.saving.proofs.NewNames.{new-name-written}
+use Rattle.saving.proofs.save.put_new_name.Statement.{statement}
+use Rattle.saving.proofs.save.put_new_name.Tie as tie
 
 returns : tie.Need-returns
 unfolding dotNew

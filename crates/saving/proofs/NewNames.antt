@@ -7,7 +7,7 @@ use lib.ListN.{length, length-append, take}
 use lib.Seq.{take-length, take-append-seam, take-append-add}
 use Rattle.io.specs.Counts.{Counts}
 use Rattle.io.proofs.Counting.{counts}
-use Rattle.naming.specs.NewName.{dotNew, newName}
+use Rattle.saving.specs.NewName.{dotNew, newName}
 
 -- the path as it was copied is the whole path, whatever stands behind it
 copied : (path rest : List ℕ) → take (length path) (take (length path) path ++ rest) ≡ path

@@ -4,10 +4,10 @@ ghost use mathlib.Core.Path.{_≡_};
 ghost use Prim.Native.Nat.{_+_, _≤_};
 ghost use lib.ListN.{length, take};
 ghost use Rattle.io.specs.Counts.{Counts};
-ghost use Rattle.naming.specs.NewName.{newName};
-use crate::place::may_replace;
+ghost use Rattle.saving.specs.NewName.{newName};
+use crate::place::complain_of_writing;
+use crate::place::is_regular;
 use talk::complain;
-use talk::print;
 
 // Puts the path and `.new` at the start of out, and gives how many bytes that is.
 fn put_new_name(path: &[u8], out: &mut [u8]) -> usize
@@ -19,23 +19,23 @@ fn put_new_name(path: &[u8], out: &mut [u8]) -> usize
     n + bytes::copy(b".new", &mut out[n..])
 }
 
-// Writes all bytes and closes the file, and gives whether that went well.
+// Writes all bytes, waits until they are on the disk and closes the file, and gives whether that
+// went well.
 fn write_and_close(fd: i32, bytes: &[u8]) -> bool {
     let is_written = io::write_all(fd, bytes);
+    let kept = libc::fsync(fd);
     let closed = libc::close(fd);
-    if closed != 0 {
-        return false;
-    }
-    is_written
+    is_written && kept == 0 && closed == 0
 }
 
 // Says in a line why the new file cannot be made.
 fn complain_of_making(path: &[u8], new: &[u8]) {
     if os::errno() == libc::EEXIST {
-        complain(new, b"it is in the way; remove it if no naming is running");
+        let why = b"a program that was ended left it, or one is writing it; remove it if none runs";
+        complain(new, why);
         return;
     }
-    complain(path, b"it cannot be written");
+    complain_of_writing(path);
 }
 
 // Writes the bytes to the new file, which then takes the path's name.
@@ -55,23 +55,20 @@ fn replace(path: &[u8], new: &[u8], bytes: &[u8]) -> bool {
     false
 }
 
-// Saves the bytes in the file that an argument of the program names. Where that fails a line says
-// so.
-pub fn save_argument(i: usize, bytes: &[u8]) -> bool {
-    let mut path = io::buffer();
-    let n = os::arg(i, &mut path);
-    if os::errno() == libc::ENAMETOOLONG {
-        print(b"bad file: its name is too long\n");
+// Saves the bytes at the path, and gives whether that went well; where it did not a line says so.
+// `is_there` tells whether a file stands there that gives way.
+pub fn save_file(path: &[u8], is_there: bool, bytes: &[u8]) -> bool {
+    if libc::PATH_MAX < path.len() {
+        complain(path, b"its name is too long");
         return false;
     }
-    if !may_replace(&path[..n]) {
-        complain(
-            &path[..n],
-            b"it is there, and it is no paper that may be replaced",
-        );
-        return false;
+    if is_there {
+        if !is_regular(path) {
+            complain(path, b"it is no regular file");
+            return false;
+        }
     }
     let mut name = [0u8; 4100];
-    let m = put_new_name(&path[..n], &mut name);
-    replace(&path[..n], &name[..m], bytes)
+    let m = put_new_name(path, &mut name);
+    replace(path, &name[..m], bytes)
 }
