@@ -2,6 +2,7 @@
 // again with a trailer that fits.
 
 use crate::book::two_bytes;
+use crate::claim::Claim;
 use crate::paper::{assemble, END, GO_OFF, GO_ON, SPLIT, STARVE};
 use crate::random::Random;
 
@@ -10,7 +11,7 @@ use crate::random::Random;
 pub struct Parts {
     pub steps: Vec<Vec<u8>>,
     pub witness: Vec<u8>,
-    pub claimed: u8,
+    pub claim: Claim,
 }
 
 impl Parts {
@@ -29,11 +30,12 @@ impl Parts {
             steps.push(paper[place..place + size].to_vec());
             place += size;
         }
-        Parts { steps, witness: paper[start..length - 6].to_vec(), claimed: paper[length - 6] }
+        let claim = Claim::by_mark(&paper[length - 2..], paper[length - 6]).expect("a mark");
+        Parts { steps, witness: paper[start..length - 6].to_vec(), claim }
     }
 
     pub fn paper(&self) -> Vec<u8> {
-        assemble(&self.steps.concat(), &self.witness, self.claimed)
+        assemble(&self.steps.concat(), &self.witness, self.claim)
     }
 }
 
@@ -68,7 +70,7 @@ pub fn alter(paper: &[u8], kind: usize, rules: usize, random: &mut Random) -> Ve
         }
         4 => change_list(&mut parts, near(random), random),
         5 => change_witness(&mut parts.witness, near(random), random),
-        6 => parts.claimed = near(random),
+        6 => parts.claim = parts.claim.of(near(random)),
         _ => {
             let code = *random.pick(&[GO_ON, GO_OFF, SPLIT, END, STARVE]);
             let r = near(random);

@@ -1,17 +1,18 @@
 // The collection of cases for `desk`: lines with their answers from the plain engine, what they
 // cover, and the two files they are written to.
 
+use crate::claim::{certain, Claim};
 use crate::desk::{answer, hex, BAD_LINE};
 use crate::random::Random;
-use crate::worked::worked_lines;
-use crate::{cases_books, cases_damage, cases_lines, cases_naming, cases_papers};
+use crate::worked::{worked_lines, Worked};
+use crate::{cases_books, cases_clearing, cases_damage, cases_lines, cases_naming, cases_papers};
 use std::collections::{BTreeMap, BTreeSet};
 
 const SEED: u64 = 20_240_607;
 const FEWEST_CASES: usize = 4_000;
 const MOST_TRIES: u64 = 300_000;
 
-pub const COMMANDS: [&str; 4] = ["find", "readings", "check", "name"];
+pub const COMMANDS: [&str; 5] = ["find", "readings", "check", "name", "clear"];
 
 struct Case {
     line: Vec<u8>,
@@ -47,6 +48,13 @@ impl Cases {
         text
     }
 
+    /// Lines whose answers were worked out by hand.
+    pub fn worked(&mut self, lines: &[Worked]) {
+        for (line, expected) in lines {
+            assert_eq!(&self.ask(line), expected, "worked: {:.200}", line);
+        }
+    }
+
     /// A line that `desk` does not take, and why.
     pub fn bad(&mut self, kind: &'static str, line: &[u8]) {
         let text = self.add(line);
@@ -60,7 +68,12 @@ impl Cases {
     }
 
     pub fn name(&mut self, atom: u8, limit: u64, room: usize, book: &[u8]) -> String {
-        self.ask(&format!("name {} {} {} {}", atom, limit, room, hex(book)))
+        self.paper(certain(atom), limit, room, book)
+    }
+
+    pub fn paper(&mut self, claim: Claim, limit: u64, room: usize, book: &[u8]) -> String {
+        let (command, atom) = (claim.command(), claim.byte());
+        self.ask(&format!("{} {} {} {} {}", command, atom, limit, room, hex(book)))
     }
 
     pub fn check(&mut self, book: &[u8], paper: &[u8]) -> String {
@@ -83,7 +96,8 @@ fn number_of(text: &str) -> Option<u8> {
     }
 }
 
-/// All cases of all commands, always the same.
+/// All cases of all commands, always the same. What a request adds comes behind what was there and
+/// draws from a seed of its own, so that the lines before it stay.
 fn all_cases() -> Cases {
     let mut cases = Cases {
         list: Vec::new(),
@@ -92,22 +106,22 @@ fn all_cases() -> Cases {
         numbers: BTreeMap::new(),
         bad_kinds: BTreeMap::new(),
     };
-    for (line, expected) in worked_lines() {
-        assert_eq!(cases.ask(&line), expected, "worked book: {:.200}", line);
-    }
+    cases.worked(&worked_lines());
     let mut random = Random::new(SEED);
     cases_books::add(&mut cases, &mut random);
     cases_damage::add(&mut cases);
     cases_naming::add(&mut cases, &mut random);
     cases_papers::add(&mut cases, &mut random);
     cases_lines::add(&mut cases);
+    cases_clearing::add(&mut cases);
+    cases_lines::add_last(&mut cases);
     cases
 }
 
 fn assert_covered(cases: &Cases) {
     assert!(cases.list.len() >= FEWEST_CASES, "{} cases", cases.list.len());
     assert!(cases.tries < MOST_TRIES, "{} tries", cases.tries);
-    for number in (1..=9).chain(11..=15).chain(20..=27) {
+    for number in (1..=9).chain(11..=15).chain([18]).chain(20..=27) {
         assert!(cases.numbers.contains_key(&number), "number {} does not occur", number);
     }
     for kind in cases_lines::KINDS {

@@ -33,6 +33,22 @@ pub fn add(cases: &mut Cases) {
     order(cases);
 }
 
+/// A damaged book for each refusal 1 to 7, with its number and place.
+pub fn one_of_each() -> Vec<(u8, usize, Vec<u8>)> {
+    let good = Book { atoms: 3, rules: vec![Rule::new(0, &[0, 1], &[1, 2])] }.write();
+    let mut seen = BTreeSet::new();
+    let mut list = Vec::new();
+    for damaged in damages(&good) {
+        if let Err(Refusal { number, place: Some(place) }) = Book::read(&damaged) {
+            if seen.insert(number) {
+                list.push((number, place, damaged));
+            }
+        }
+    }
+    assert_eq!(list.len(), 7);
+    list
+}
+
 /// Each byte changed to several values; each length cut or one byte longer.
 fn damages(good: &[u8]) -> Vec<Vec<u8>> {
     let mut list = Vec::new();

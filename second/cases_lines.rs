@@ -36,7 +36,10 @@ pub fn add(cases: &mut Cases) {
     numbers(cases);
     lengths(cases);
     cases.bad("odd number of digits", b"readings 0");
-    // The last line of all, which stands in the file without its line end.
+}
+
+/// The last line of all, which stands in the file without its line end.
+pub fn add_last(cases: &mut Cases) {
     assert_eq!(cases.ask("find 1 7 0 000000005242"), "set 1");
 }
 

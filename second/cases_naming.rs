@@ -3,9 +3,10 @@
 
 use crate::book::{Book, Rule};
 use crate::cases::Cases;
+use crate::claim::{certain, Claim};
 use crate::closing::Support;
 use crate::desk::MOST_NUMBER;
-use crate::paper::{name, Naming, LONGEST_PAPER};
+use crate::paper::{write_paper, Written, LONGEST_PAPER};
 use crate::random::Random;
 use crate::shapes::{
     deep_book, deep_certain_book, long_paper_book, random_book, Length, Shape, LONGEST, SHAPES,
@@ -16,31 +17,31 @@ pub fn add(cases: &mut Cases, random: &mut Random) {
     for count in 0..150 {
         let book = short_book(random, count);
         for atom in 0..book.atoms as u8 {
-            tight(cases, &book, atom);
+            tight(cases, &book, certain(atom));
         }
         let beyond = random.from_to(book.atoms, 255) as u8;
         let room = random.below(100);
         assert_eq!(cases.name(beyond, (count % 2) as u64, room, &book.write()), "refused 13");
     }
     for count in 0..30 {
-        let (book, atom) = larger_book(random, count);
-        tight(cases, &book, atom);
+        let (book, claim) = larger_book(random, count, certain);
+        tight(cases, &book, claim);
     }
-    ends(cases);
+    ends(cases, certain);
     deepest(cases);
     longest(cases);
 }
 
-/// A random book of middling size and an atom of it whose paper has splits inside splits.
-pub fn larger_book(random: &mut Random, count: usize) -> (Book, u8) {
+/// A random book of middling size and a claim whose paper has splits inside splits.
+pub fn larger_book(random: &mut Random, count: usize, kind: fn(u8) -> Claim) -> (Book, Claim) {
     loop {
         let atoms = random.from_to(5, 30);
         let rules = random.from_to(atoms, 3 * atoms);
         let shape = Shape { pairs: random.from_to(1, 5), ..SHAPES[count % SHAPES.len()] };
         let book = random_book(random, atoms, rules, shape);
-        for atom in 0..atoms as u8 {
-            match name(&book, atom, 500, LONGEST_PAPER).0 {
-                Naming::Paper { tries, .. } if tries >= 7 => return (book, atom),
+        for claim in (0..atoms as u8).map(kind) {
+            match write_paper(&book, claim, 500, LONGEST_PAPER).0 {
+                Written::Paper { tries, .. } if tries >= 7 => return (book, claim),
                 _ => continue,
             }
         }
@@ -59,36 +60,37 @@ pub fn short_book(random: &mut Random, count: usize) -> Book {
     }
 }
 
-/// One atom with the limit that both walks need and one less, the room exact and one less.
-fn tight(cases: &mut Cases, book: &Book, atom: u8) {
+/// One claim with the limit that both walks need and one less, the room exact and one less.
+pub fn tight(cases: &mut Cases, book: &Book, claim: Claim) {
     let bytes = book.write();
-    let (naming, spent) = name(book, atom, 1_000, LONGEST_PAPER);
+    let (written, spent) = write_paper(book, claim, 1_000, LONGEST_PAPER);
     let first = match find_set(book, 1, 1_000) {
         Finding::Set(found) => found.tries,
         _ => spent,
     };
     let need = first.max(spent - first);
     let fails = format!("limit {}", need - 1);
-    match naming {
-        Naming::Paper { bytes: paper, .. } => {
-            assert!(cases.name(atom, need, paper.len(), &bytes).starts_with("paper "));
-            assert_eq!(cases.name(atom, need, paper.len() - 1, &bytes), "refused 14");
-            assert_eq!(cases.name(atom, need - 1, paper.len(), &bytes), fails);
-            cases.name(atom, MOST_NUMBER, 65_536, &bytes);
+    match written {
+        Written::Paper { bytes: paper, .. } => {
+            assert!(cases.paper(claim, need, paper.len(), &bytes).starts_with("paper "));
+            assert_eq!(cases.paper(claim, need, paper.len() - 1, &bytes), "refused 14");
+            assert_eq!(cases.paper(claim, need - 1, paper.len(), &bytes), fails);
+            cases.paper(claim, MOST_NUMBER, 65_536, &bytes);
         }
-        Naming::NoReading { tries } => {
-            assert_eq!(cases.name(atom, need, 0, &bytes), format!("fewer {} 0", tries));
-            assert_eq!(cases.name(atom, need - 1, 60_000, &bytes), fails);
+        Written::NoReading { tries } => {
+            assert_eq!(cases.paper(claim, need, 0, &bytes), format!("fewer {} 0", tries));
+            assert_eq!(cases.paper(claim, need - 1, 60_000, &bytes), fails);
         }
         _ => {
-            assert_eq!(cases.name(atom, need, 0, &bytes), "refused 12");
-            assert_eq!(cases.name(atom, need - 1, 60_000, &bytes), fails);
+            let refuted = format!("refused {}", claim.refuted());
+            assert_eq!(cases.paper(claim, need, 0, &bytes), refuted);
+            assert_eq!(cases.paper(claim, need - 1, 60_000, &bytes), fails);
         }
     }
 }
 
 /// ATOM, L and ROOM at their ends, alone and together.
-fn ends(cases: &mut Cases) {
+pub fn ends(cases: &mut Cases, kind: fn(u8) -> Claim) {
     let books = [
         Book { atoms: 0, rules: Vec::new() },
         Book { atoms: 1, rules: vec![Rule::new(0, &[], &[])] },
@@ -100,7 +102,7 @@ fn ends(cases: &mut Cases) {
         for atom in [0, 1, 254, 255] {
             for limit in [0, 1, MOST_NUMBER] {
                 for room in [0, 65_536] {
-                    cases.name(atom, limit, room, &book.write());
+                    cases.paper(kind(atom), limit, room, &book.write());
                 }
             }
         }

@@ -5,10 +5,11 @@ use crate::altered::{alter, Parts, KINDS};
 use crate::book::{Book, Rule};
 use crate::cases::Cases;
 use crate::cases_naming::{larger_book, short_book};
+use crate::claim::{certain, Claim};
 use crate::forged::forged_witnesses;
 use crate::legal::{LegalWriter, CUT};
-use crate::numbers::{Atom, RuleSet};
-use crate::paper::{assemble, name, Naming, END, GO_ON, LONGEST_PAPER, SPLIT};
+use crate::numbers::RuleSet;
+use crate::paper::{assemble, write_paper, Written, END, GO_ON, LONGEST_PAPER, SPLIT};
 use crate::random::Random;
 use crate::shapes::{deep_certain_book, long_paper_book, LONGEST};
 use crate::walk::{find_set, Finding};
@@ -17,47 +18,51 @@ pub fn add(cases: &mut Cases, random: &mut Random) {
     for count in 0..120 {
         let book = short_book(random, count);
         for atom in 0..book.atoms as u8 {
-            papers_of(cases, &book, atom, random);
+            papers_of(cases, &book, certain(atom), random);
         }
     }
     for count in 0..40 {
-        let (book, atom) = larger_book(random, count);
-        papers_of(cases, &book, atom, random);
+        let (book, claim) = larger_book(random, count, certain);
+        papers_of(cases, &book, claim, random);
     }
     for (book, atom) in shown_books() {
-        let paper = engine_paper(&book, atom).expect("shown books have a certain atom");
-        every_byte(cases, &book, &paper);
-        every_step(cases, &book, &paper);
-        every_witness(cases, &book, &paper);
-        trailers(cases, &book, &paper);
+        every_place(cases, &book, certain(atom));
     }
     small_slips(cases);
     long_papers(cases);
     deep_papers(cases);
 }
 
-fn engine_paper(book: &Book, atom: u8) -> Option<Vec<u8>> {
-    match name(book, atom, 1_000, LONGEST_PAPER).0 {
-        Naming::Paper { bytes, .. } => Some(bytes),
+pub fn engine_paper(book: &Book, claim: Claim) -> Option<Vec<u8>> {
+    match write_paper(book, claim, 1_000, LONGEST_PAPER).0 {
+        Written::Paper { bytes, .. } => Some(bytes),
         _ => None,
     }
 }
 
+/// Everything wrong at every place of the paper for a claim that holds.
+pub fn every_place(cases: &mut Cases, book: &Book, claim: Claim) {
+    let paper = engine_paper(book, claim).expect("a claim that holds");
+    every_byte(cases, book, &paper);
+    every_step(cases, book, &paper);
+    every_witness(cases, book, &paper);
+    trailers(cases, book, &paper);
+}
+
 /// The engine's paper, legal ones in other orders, changed ones; forged ones for other atoms.
-fn papers_of(cases: &mut Cases, book: &Book, atom: u8, random: &mut Random) {
+pub fn papers_of(cases: &mut Cases, book: &Book, claim: Claim, random: &mut Random) {
     let bytes = book.write();
     let on = match find_set(book, 1, 1_000) {
         Finding::Set(found) => found.on,
-        _ => return without_reading(cases, book, atom, random),
+        _ => return without_reading(cases, book, claim, random),
     };
     let split_once_in = 4 * book.rules.len();
-    let claimed = Atom(atom);
-    let drawn = LegalWriter { book, claimed, random, idle_below: 60, split_once_in }.write(&on);
-    let own = match engine_paper(book, atom) {
+    let drawn = LegalWriter { book, claim, random, idle_below: 60, split_once_in }.write(&on);
+    let own = match engine_paper(book, claim) {
         Some(paper) => paper,
         None => return drop(cases.check(&bytes, &drawn)),
     };
-    let accepted = format!("certain {}", atom);
+    let accepted = format!("{} {}", claim.word(), claim.byte());
     for paper in [&drawn, &own] {
         if paper.len() < CUT {
             assert_eq!(cases.check(&bytes, paper), accepted);
@@ -71,9 +76,8 @@ fn papers_of(cases: &mut Cases, book: &Book, atom: u8, random: &mut Random) {
 }
 
 /// In a book without a reading the steps may be right; no witness is.
-fn without_reading(cases: &mut Cases, book: &Book, atom: u8, random: &mut Random) {
-    let claimed = Atom(atom);
-    let mut writer = LegalWriter { book, claimed, random, idle_below: 10, split_once_in: 50 };
+fn without_reading(cases: &mut Cases, book: &Book, claim: Claim, random: &mut Random) {
+    let mut writer = LegalWriter { book, claim, random, idle_below: 10, split_once_in: 50 };
     let mut parts = Parts::of(&writer.write(&RuleSet::none()));
     for witness in forged_witnesses(book, random) {
         parts.witness = witness;
@@ -296,7 +300,7 @@ fn small_slips(cases: &mut Cases) {
         (&choice, &[0x53, 0, 0x55, 1, 1, 0x45, 0x45], &[0], 0, "refused 25 2"),
     ];
     for (book, steps, witness, claimed, expected) in hands {
-        let paper = assemble(steps, witness, claimed);
+        let paper = assemble(steps, witness, certain(claimed));
         assert_eq!(cases.check(&book.write(), &paper), expected, "{:02x?}", steps);
     }
 }
@@ -309,18 +313,18 @@ fn long_papers(cases: &mut Cases) {
     };
     let mut steps = [GO_ON, 0].repeat(29_996);
     steps.push(END);
-    let longest = assemble(&steps, &[0], 0);
+    let longest = assemble(&steps, &[0], certain(0));
     assert_eq!(longest.len(), 60_000);
     assert_eq!(cases.check(&facts(1), &longest), "certain 0");
-    let longer = assemble(&steps, &[0, 1], 0);
+    let longer = assemble(&steps, &[0, 1], certain(0));
     assert_eq!(longer.len(), 60_001);
     assert_eq!(cases.check(&facts(2), &longer), "refused 20 0");
     assert_eq!(cases.check(&facts(2), &longest), "refused 27 59994");
     steps[59_991] = 1;
-    let late = assemble(&steps, &[0], 0);
+    let late = assemble(&steps, &[0], certain(0));
     assert_eq!(cases.check(&facts(1), &late), "refused 24 59990");
     let book = long_paper_book(&LONGEST);
-    let paper = engine_paper(&book, 0).expect("its paper has 60,000 bytes");
+    let paper = engine_paper(&book, certain(0)).expect("its paper has 60,000 bytes");
     assert_eq!(cases.check(&book.write(), &paper), "certain 0");
 }
 
@@ -340,11 +344,11 @@ fn deep_papers(cases: &mut Cases) {
     }
     all.extend([END].repeat(256));
     for steps in [in_on, in_off, all] {
-        cases.check(&book.write(), &assemble(&steps, &witness, 0));
-        cases.check(&book.write(), &assemble(&steps, &witness, 1));
-        cases.check(&book.write(), &assemble(&steps[..steps.len() - 1], &witness, 0));
+        cases.check(&book.write(), &assemble(&steps, &witness, certain(0)));
+        cases.check(&book.write(), &assemble(&steps, &witness, certain(1)));
+        cases.check(&book.write(), &assemble(&steps[..steps.len() - 1], &witness, certain(0)));
     }
     let book = deep_certain_book();
-    let paper = engine_paper(&book, 2).expect("2 follows from either side");
+    let paper = engine_paper(&book, certain(2)).expect("2 follows from either side");
     assert_eq!(cases.check(&book.write(), &paper), "certain 2");
 }

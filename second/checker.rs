@@ -2,6 +2,7 @@
 // walk or the writer: each is evaluated here again, rule by rule, from document 01's words.
 
 use crate::book::{two_bytes, Book, Refusal};
+use crate::claim::{certain, clear, Claim};
 use crate::numbers::{Atom, Numbered, RuleNo};
 
 const LONGEST: usize = 60_000;
@@ -17,7 +18,7 @@ struct Colours {
 struct Checker<'a> {
     book: &'a Book,
     paper: &'a [u8],
-    claimed: Atom,
+    claim: Claim,
     witness_start: usize,
 }
 
@@ -30,37 +31,38 @@ enum Step {
     End,
 }
 
-/// Gives the claimed atom if the paper shows that it is certain.
-pub fn check(book_bytes: &[u8], paper: &[u8]) -> Result<Atom, Refusal> {
+/// Gives what the paper claims if it shows it.
+pub fn check(book_bytes: &[u8], paper: &[u8]) -> Result<Claim, Refusal> {
     let book = Book::read(book_bytes)?;
     check_paper(&book, paper)
 }
 
-pub fn check_paper(book: &Book, paper: &[u8]) -> Result<Atom, Refusal> {
+pub fn check_paper(book: &Book, paper: &[u8]) -> Result<Claim, Refusal> {
     let length = paper.len();
     if length < TRAILER || length > LONGEST {
         return Err(Refusal::at(20, 0));
     }
-    if paper[length - 2] != 0x50 || paper[length - 1] != 0x46 {
-        return Err(Refusal::at(21, length - 2));
-    }
-    let claimed = Atom(paper[length - 6]);
+    let claim = match paper[length - 2..] {
+        [0x50, 0x46] => certain(paper[length - 6]),
+        [0x50, 0x43] => clear(paper[length - 6]),
+        _ => return Err(Refusal::at(21, length - 2)),
+    };
     let witness_count = paper[length - 5] as usize;
     let witness_start = two_bytes(paper, length - 4);
     if witness_start + witness_count + TRAILER != length {
         return Err(Refusal::at(22, length - 4));
     }
-    if claimed.byte() as usize >= book.atoms {
+    if claim.byte() as usize >= book.atoms {
         return Err(Refusal::at(23, length - 6));
     }
-    let checker = Checker { book, paper, claimed, witness_start };
+    let checker = Checker { book, paper, claim, witness_start };
     let empty = Colours { on: [false; 256], off: [false; 256] };
     let end = checker.branch(0, empty)?;
     if end != witness_start {
         return Err(Refusal::at(26, end));
     }
     checker.witness()?;
-    Ok(claimed)
+    Ok(claim)
 }
 
 impl Checker<'_> {
@@ -146,6 +148,13 @@ impl Checker<'_> {
         (0..rules.len()).all(|r| rules[r].head != atom || gone(r))
     }
 
+    fn is_shown(&self, colours: &Colours) -> bool {
+        match self.claim {
+            Claim::Certain(atom) => self.is_derived(atom, colours),
+            Claim::Clear(atom) => self.all_rules_off(atom, colours, &[]),
+        }
+    }
+
     fn holds(&self, step: &Step, colours: &Colours) -> bool {
         let rules = &self.book.rules;
         match step {
@@ -159,8 +168,7 @@ impl Checker<'_> {
             }),
             Step::Split(r) => !colours.on[*r] && !colours.off[*r],
             Step::End => {
-                (0..rules.len()).any(|r| colours.on[r] && colours.off[r])
-                    || self.is_derived(self.claimed, colours)
+                (0..rules.len()).any(|r| colours.on[r] && colours.off[r]) || self.is_shown(colours)
             }
         }
     }

@@ -2,8 +2,9 @@
 
 use crate::book::{Book, Refusal};
 use crate::checker::check;
+use crate::claim::{certain, clear, Claim};
 use crate::listing::{write_readings, LISTING_LIMIT};
-use crate::paper::{name, Naming};
+use crate::paper::{write_paper, Written};
 use crate::walk::{find, Finding};
 use std::fmt::Write as _;
 use std::io::{BufRead, Result, Write};
@@ -41,7 +42,8 @@ pub fn answer(line: &[u8]) -> Answer {
     let words: Vec<&[u8]> = line.split(|byte| *byte == b' ').collect();
     let known = match (words[0], words.len()) {
         (b"find", 5) => answer_find(&words),
-        (b"name", 5) => answer_name(&words),
+        (b"name", 5) => answer_paper(certain, &words),
+        (b"clear", 5) => answer_paper(clear, &words),
         (b"check", 3) => answer_check(&words),
         (b"readings", 2) => answer_readings(&words),
         _ => None,
@@ -76,22 +78,22 @@ fn found_answer(finding: Finding, limit: u64) -> Answer {
     }
 }
 
-fn answer_name(words: &[&[u8]]) -> Option<Answer> {
-    let atom = decimal(words[1], 255)? as u8;
+fn answer_paper(kind: fn(u8) -> Claim, words: &[&[u8]]) -> Option<Answer> {
+    let claim = kind(decimal(words[1], 255)? as u8);
     let limit = decimal(words[2], MOST_NUMBER)?;
     let room = decimal(words[3], MOST_ROOM)? as usize;
     let bytes = hexadecimal(words[4], MOST_BOOK)?;
-    let (naming, spent) = match Book::read(&bytes) {
-        Ok(book) => name(&book, atom, limit, room),
-        Err(refusal) => (Naming::Refused(refusal), 0),
+    let (written, spent) = match Book::read(&bytes) {
+        Ok(book) => write_paper(&book, claim, limit, room),
+        Err(refusal) => (Written::Refused(refusal), 0),
     };
-    let text = match naming {
-        Naming::Paper { tries, bytes } => {
+    let text = match written {
+        Written::Paper { tries, bytes } => {
             format!("paper {} {} {}", tries, bytes.len(), hex(&bytes))
         }
-        Naming::NoReading { tries } => format!("fewer {} 0", tries),
-        Naming::Limit => format!("limit {}", limit),
-        Naming::Refused(refusal) => return Some(refused(refusal, spent)),
+        Written::NoReading { tries } => format!("fewer {} 0", tries),
+        Written::Limit => format!("limit {}", limit),
+        Written::Refused(refusal) => return Some(refused(refusal, spent)),
     };
     Some(Answer { text, tries: spent })
 }
@@ -100,7 +102,7 @@ fn answer_check(words: &[&[u8]]) -> Option<Answer> {
     let book = hexadecimal(words[1], MOST_BOOK)?;
     let paper = hexadecimal(words[2], MOST_PAPER)?;
     Some(match check(&book, &paper) {
-        Ok(atom) => Answer { text: format!("certain {}", atom.0), tries: 0 },
+        Ok(claim) => Answer { text: format!("{} {}", claim.word(), claim.byte()), tries: 0 },
         Err(refusal) => refused(refusal, 0),
     })
 }

@@ -2,8 +2,9 @@
 // nothing, splits on any uncoloured rule, any grounded order of the witness.
 
 use crate::book::Book;
+use crate::claim::Claim;
 use crate::closing::{atoms_said, goes_on, is_blocked, support, Colouring};
-use crate::numbers::{Atom, AtomSet, Numbered, RuleNo, RuleSet};
+use crate::numbers::{AtomSet, Numbered, RuleNo, RuleSet};
 use crate::paper::{assemble, may_end, END, GO_OFF, GO_ON, SPLIT, STARVE};
 use crate::random::Random;
 
@@ -12,7 +13,7 @@ pub const CUT: usize = 4_000;
 
 pub struct LegalWriter<'a> {
     pub book: &'a Book,
-    pub claimed: Atom,
+    pub claim: Claim,
     pub random: &'a mut Random,
     /// Steps that add nothing are written only while the paper is shorter than this.
     pub idle_below: usize,
@@ -25,19 +26,19 @@ fn rules_where(book: &Book, wanted: impl Fn(RuleNo) -> bool) -> Vec<RuleNo> {
 }
 
 impl LegalWriter<'_> {
-    /// A legal paper if the claimed atom is certain and the paper stays below `CUT`. If a reading
-    /// lacks the atom, some branch ends in a 45 that is not allowed: a forged paper. If the book
-    /// has no reading, the steps are legal and no witness is.
+    /// A legal paper if the claim holds and the paper stays below `CUT`. If some reading does not
+    /// bear it out, some branch ends in a 45 that is not allowed: a forged paper. If the book has
+    /// no reading, the steps are legal and no witness is.
     pub fn write(&mut self, on: &RuleSet) -> Vec<u8> {
         let mut steps = Vec::new();
         self.branch(Colouring::empty(), &mut steps);
         let witness = self.witness(on);
-        assemble(&steps, &witness, self.claimed.0)
+        assemble(&steps, &witness, self.claim)
     }
 
     fn branch(&mut self, mut now: Colouring, steps: &mut Vec<u8>) {
         loop {
-            if may_end(self.book, self.claimed, &now) && !self.random.once_in(3) {
+            if may_end(self.book, self.claim, &now) && !self.random.once_in(3) {
                 return steps.push(END);
             }
             let uncoloured = rules_where(self.book, |r| !now.on.has(r) && !now.off.has(r));

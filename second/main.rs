@@ -1,16 +1,19 @@
-// The second program: rule books, readings and papers, written from documents 00 and 01 and their
+// The second program: rule books, readings and papers, written from documents 00 to 02 and their
 // settled readings, so that a misreading of them in the proved engine shows. README.md in this folder
 // says from what else, and has the commands.
 
 mod altered;
 mod book;
 mod cases;
+mod cases_bad;
 mod cases_books;
+mod cases_clearing;
 mod cases_damage;
 mod cases_lines;
 mod cases_naming;
 mod cases_papers;
 mod checker;
+mod claim;
 mod closing;
 mod desk;
 mod forged;
@@ -29,6 +32,7 @@ mod steps;
 mod walk;
 mod words;
 mod worked;
+mod worked_requests;
 
 use std::fs;
 use std::io::{self, BufWriter, Read, Write};

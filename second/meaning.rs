@@ -2,6 +2,7 @@
 // It tries every set of atoms, so it is for books with few atoms.
 
 use crate::book::{Book, Rule};
+use crate::claim::Claim;
 use crate::numbers::{Atom, AtomSet, RuleSet};
 
 /// The reduct by X: rules with a negative atom in X are dropped, the rest lose their negative part.
@@ -39,8 +40,14 @@ pub fn answer_sets(book: &Book) -> Vec<AtomSet> {
     (0..1u32 << book.atoms).map(subset).filter(|x| is_answer_set(book, x)).collect()
 }
 
-pub fn is_certain(sets: &[AtomSet], atom: Atom) -> bool {
-    !sets.is_empty() && sets.iter().all(|set| set.has(atom))
+/// Whether a claim is true of the book with these answer sets: there is one, and the atom is in
+/// each, or in none.
+pub fn holds(sets: &[AtomSet], claim: Claim) -> bool {
+    !sets.is_empty()
+        && match claim {
+            Claim::Certain(atom) => sets.iter().all(|set| set.has(atom)),
+            Claim::Clear(atom) => !sets.iter().any(|set| set.has(atom)),
+        }
 }
 
 /// The generating rules of a set: those whose body holds in it.

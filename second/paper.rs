@@ -1,12 +1,12 @@
-// Naming: the engine's own paper that an atom is certain.
+// Naming and clearing: the engine's own paper that an atom is in every answer set, or in none.
 
 use crate::book::{Book, Refusal};
+use crate::claim::Claim;
 use crate::closing::{atoms_said, goes_on, is_blocked, support, Colouring};
-use crate::numbers::{Atom, AtomSet, Numbered, RuleNo, RuleSet};
+use crate::numbers::{AtomSet, Numbered, RuleNo, RuleSet};
 use crate::walk::{find_set, Finding};
 
 pub const LONGEST_PAPER: usize = 60_000;
-pub const PAPER_MARK: [u8; 2] = [0x50, 0x46];
 pub const GO_ON: u8 = 0x41;
 pub const GO_OFF: u8 = 0x42;
 pub const STARVE: u8 = 0x55;
@@ -14,7 +14,7 @@ pub const SPLIT: u8 = 0x53;
 pub const END: u8 = 0x45;
 
 #[derive(Clone, PartialEq, Eq, Debug)]
-pub enum Naming {
+pub enum Written {
     Paper { tries: u64, bytes: Vec<u8> },
     NoReading { tries: u64 },
     Limit,
@@ -24,12 +24,12 @@ pub enum Naming {
 /// Why the paper's walk stopped before its end.
 enum Stop {
     Limit,
-    NotCertain,
+    Refuted,
 }
 
 struct Writer<'a> {
     book: &'a Book,
-    claimed: Atom,
+    claim: Claim,
     limit: u64,
     tries: u64,
     /// The steps, as far as a paper can hold them; `length` goes on counting past that.
@@ -37,9 +37,15 @@ struct Writer<'a> {
     length: u64,
 }
 
-/// 45's condition: a contradiction, or an on rule has the claimed atom as head.
-pub fn may_end(book: &Book, claimed: Atom, colouring: &Colouring) -> bool {
-    colouring.contradicts() || book.heads(&colouring.on).has(claimed)
+/// 45's condition: a contradiction, or what is claimed shows: an on rule has the atom as head, or
+/// all rules with that head are off.
+pub fn may_end(book: &Book, claim: Claim, colouring: &Colouring) -> bool {
+    let said = atoms_said(book, colouring);
+    colouring.contradicts()
+        || match claim {
+            Claim::Certain(atom) => said.derived.has(atom),
+            Claim::Clear(atom) => said.given_up.has(atom),
+        }
 }
 
 enum Step {
@@ -81,7 +87,7 @@ impl Writer<'_> {
         }
         self.tries += 1;
         let mut now = *start;
-        while !may_end(self.book, self.claimed, &now) {
+        while !may_end(self.book, self.claim, &now) {
             match next_step(self.book, &now) {
                 Some(step) => self.take(step, &mut now),
                 None => return self.split(&now),
@@ -111,7 +117,7 @@ impl Writer<'_> {
     }
 
     fn split(&mut self, now: &Colouring) -> Result<(), Stop> {
-        let r = now.lowest_uncoloured(self.book).ok_or(Stop::NotCertain)?;
+        let r = now.lowest_uncoloured(self.book).ok_or(Stop::Refuted)?;
         self.put(&[SPLIT, r.0]);
         self.branch(&now.with_on(r))?;
         self.branch(&now.with_off(r))
@@ -132,40 +138,41 @@ pub fn witness(book: &Book, on: &RuleSet) -> Vec<u8> {
 }
 
 /// Steps, witness and trailer put together.
-pub fn assemble(steps: &[u8], witness: &[u8], claimed: u8) -> Vec<u8> {
+pub fn assemble(steps: &[u8], witness: &[u8], claim: Claim) -> Vec<u8> {
     let mut bytes = steps.to_vec();
     bytes.extend(witness);
-    bytes.push(claimed);
+    bytes.push(claim.byte());
     bytes.push(witness.len() as u8);
     bytes.extend((steps.len() as u16).to_le_bytes());
-    bytes.extend(PAPER_MARK);
+    bytes.extend(claim.mark());
     bytes
 }
 
-/// Naming as a caller sees it, and the tries of both walks together.
-pub fn name(book: &Book, claimed: u8, limit: u64, room: usize) -> (Naming, u64) {
-    if claimed as usize >= book.atoms {
-        return (Naming::Refused(Refusal::placeless(13)), 0);
+/// Naming or clearing as a caller sees it, and the tries of both walks together.
+pub fn write_paper(book: &Book, claim: Claim, limit: u64, room: usize) -> (Written, u64) {
+    if claim.byte() as usize >= book.atoms {
+        return (Written::Refused(Refusal::placeless(13)), 0);
     }
     let first = match find_set(book, 1, limit) {
         Finding::Set(found) => found,
-        Finding::Fewer { tries, .. } => return (Naming::NoReading { tries }, tries),
-        Finding::Limit => return (Naming::Limit, limit),
+        Finding::Fewer { tries, .. } => return (Written::NoReading { tries }, tries),
+        Finding::Limit => return (Written::Limit, limit),
     };
-    let claimed = Atom(claimed);
-    let mut writer = Writer { book, claimed, limit, tries: 0, steps: Vec::new(), length: 0 };
+    let mut writer = Writer { book, claim, limit, tries: 0, steps: Vec::new(), length: 0 };
     let outcome = writer.branch(&Colouring::empty());
     let spent = first.tries + writer.tries;
     match outcome {
-        Err(Stop::Limit) => return (Naming::Limit, spent),
-        Err(Stop::NotCertain) => return (Naming::Refused(Refusal::placeless(12)), spent),
+        Err(Stop::Limit) => return (Written::Limit, spent),
+        Err(Stop::Refuted) => {
+            return (Written::Refused(Refusal::placeless(claim.refuted())), spent)
+        }
         Ok(()) => (),
     }
     let witness = witness(book, &first.on);
     let length = writer.length + witness.len() as u64 + 6;
     if length > room as u64 || length > LONGEST_PAPER as u64 {
-        return (Naming::Refused(Refusal::placeless(14)), spent);
+        return (Written::Refused(Refusal::placeless(14)), spent);
     }
-    let bytes = assemble(&writer.steps, &witness, claimed.0);
-    (Naming::Paper { tries: writer.tries, bytes }, spent)
+    let bytes = assemble(&writer.steps, &witness, claim);
+    (Written::Paper { tries: writer.tries, bytes }, spent)
 }

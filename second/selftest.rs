@@ -2,6 +2,7 @@
 // the counts of what was met. One line for each check; the first failure ends it with a panic.
 
 use crate::book::Book;
+use crate::claim::{certain, clear};
 use crate::closing::{close, Colouring, Support};
 use crate::meaning::{answer_sets, comes_before};
 use crate::numbers::AtomSet;
@@ -11,11 +12,12 @@ use crate::selftest_papers::{papers, PaperCounts};
 use crate::selftest_words::{steps_back, words_back};
 use crate::shapes::{random_book, SHAPES};
 use crate::walk::{all_readings, find, Finding};
-use crate::worked::assert_worked;
+use crate::worked::{assert_worked, worked_lines};
+use crate::worked_requests::clearing_lines;
 use std::cmp::Ordering;
 
 const SEED: u64 = 3;
-const BOOKS: usize = 32_000;
+const BOOKS: usize = 20_000;
 const AMPLE: u64 = 1_000_000;
 
 #[derive(Default)]
@@ -29,11 +31,12 @@ struct BookCounts {
 }
 
 pub fn run() -> Result<(), String> {
-    println!("worked books: {} lines as document 01 prints them", assert_worked());
+    println!("worked books: {} lines as document 01 prints them", assert_worked(&worked_lines()));
+    println!("worked clearing: {} lines", assert_worked(&clearing_lines()));
     let mut random = Random::new(SEED);
     let mut counts = BookCounts::default();
     let mut closing_counts = ClosingCounts::default();
-    let mut paper_counts = PaperCounts::default();
+    let mut paper_counts: [PaperCounts; 2] = Default::default();
     for number in 0..BOOKS {
         let book = drawn_book(&mut random, number);
         let sets = compare(&book, &mut counts);
@@ -42,7 +45,8 @@ pub fn run() -> Result<(), String> {
     }
     report(&counts);
     closing_counts.report();
-    paper_counts.report();
+    paper_counts[0].report(certain);
+    paper_counts[1].report(clear);
     println!("damaged bytes: {} books and papers read to an end", damaged(&mut random));
     println!("words: {} books to words and back", words_back(&mut random, drawn_book));
     println!("words: {} papers to words and back", steps_back(&mut random, drawn_book));
@@ -131,7 +135,8 @@ fn damaged(random: &mut Random) -> usize {
         }
         bytes.truncate(random.from_to(bytes.len() / 2, 2 * bytes.len()));
         let mut paper: Vec<u8> = (0..random.below(40)).map(|_| random.byte()).collect();
-        paper.extend(&[random.below(7) as u8, 0, paper.len() as u8, 0, 0x50, 0x46]);
+        let mark = *random.pick(&[0x46, 0x43]);
+        paper.extend(&[random.below(7) as u8, 0, paper.len() as u8, 0, 0x50, mark]);
         let _ = crate::checker::check(&bytes, &paper);
         let _ = crate::checker::check(&good, &paper);
         count += 2;

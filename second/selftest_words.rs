@@ -3,8 +3,9 @@
 // refused by their number.
 
 use crate::book::{Book, Rule};
+use crate::claim::{certain, clear};
 use crate::numbers::{Atom, AtomSet};
-use crate::paper::{name, Naming, LONGEST_PAPER};
+use crate::paper::{write_paper, Written, LONGEST_PAPER};
 use crate::random::Random;
 use crate::steps::{read_steps, write_steps};
 use crate::words::{read_words, write_words};
@@ -80,9 +81,9 @@ pub fn steps_back(random: &mut Random, drawn: fn(&mut Random, usize) -> Book) ->
     let mut count = 0;
     for number in 0..1_000 {
         let book = drawn(random, number);
-        for atom in 0..book.atoms {
-            let (naming, _) = name(&book, atom as u8, 1_000, LONGEST_PAPER);
-            if let Naming::Paper { bytes, .. } = naming {
+        for claim in (0..book.atoms as u8).flat_map(|atom| [certain(atom), clear(atom)]) {
+            let (written, _) = write_paper(&book, claim, 1_000, LONGEST_PAPER);
+            if let Written::Paper { bytes, .. } = written {
                 let text = write_steps(&bytes).expect("its own paper");
                 assert_eq!(read_steps(&text).as_ref(), Ok(&bytes));
                 count += 1;
@@ -96,6 +97,8 @@ pub fn steps_back(random: &mut Random, drawn: fn(&mut Random, usize) -> Book) ->
 fn assert_no_steps() {
     let by_hand = "# one step\n  on 0\nend\n\nwitness 0\nclaim 0";
     assert_eq!(read_steps(by_hand), Ok(b"\x41\0\x45\0\0\x01\x03\0PF".to_vec()));
+    let clearing = "unfounded 0 1\nend\nwitness\nclear 0\n";
+    assert_eq!(read_steps(clearing), Ok(b"\x55\x02\0\x01\x45\0\0\x05\0PC".to_vec()));
     for (text, line) in [
         ("on", 1),
         ("on 0 1", 1),
@@ -105,8 +108,12 @@ fn assert_no_steps() {
         ("unfounded", 1),
         ("End", 1),
         ("claim 0", 1),
+        ("clear 0", 1),
         ("witness\nend", 2),
+        ("witness\nclaim", 2),
+        ("witness\nclear 0 1", 2),
         ("witness\nclaim 0\nclaim 0", 3),
+        ("witness\nclear 0\nclaim 0", 3),
     ] {
         let trouble = read_steps(text).expect_err("meant to be refused");
         assert!(trouble.starts_with(&format!("line {}: ", line)), "{}", trouble);

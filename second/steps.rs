@@ -1,20 +1,22 @@
 // Papers in words, one step a line, and the way back.
 // What is indented under a split holds with its rule on; what follows it at its own depth, with
-// its rule off. The lines `witness` and `claim` come last.
+// its rule off. The lines `witness` and `claim`, or `clear`, come last.
 
 use crate::book::two_bytes;
+use crate::claim::{certain, clear, Claim};
 use crate::desk::decimal;
-use crate::paper::{assemble, END, GO_OFF, GO_ON, LONGEST_PAPER, PAPER_MARK, SPLIT, STARVE};
+use crate::paper::{assemble, END, GO_OFF, GO_ON, LONGEST_PAPER, SPLIT, STARVE};
 
 const TRAILER: usize = 6;
 const INDENT: &str = "    ";
+const CLAIMS: [&str; 2] = ["claim", "clear"];
 
 /// What has been read of a paper, in the order of its bytes.
 #[derive(Default)]
 struct Draft {
     steps: Vec<u8>,
     witness: Option<Vec<u8>>,
-    claim: Option<u8>,
+    claim: Option<Claim>,
 }
 
 /// Reads a paper in words. Lines count from 1 in an error; indentation is for the eye.
@@ -28,7 +30,7 @@ pub fn read_steps(text: &str) -> Result<Vec<u8>, String> {
         read_line(line, &mut draft).map_err(|why| format!("line {}: {}", number + 1, why))?;
     }
     let witness = draft.witness.ok_or("the line `witness` is missing")?;
-    let claim = draft.claim.ok_or("the line `claim` is missing")?;
+    let claim = draft.claim.ok_or("the line `claim` or `clear` is missing")?;
     let paper = assemble(&draft.steps, &witness, claim);
     if paper.len() > LONGEST_PAPER {
         return Err(format!("the paper has more than {} bytes", LONGEST_PAPER));
@@ -38,15 +40,16 @@ pub fn read_steps(text: &str) -> Result<Vec<u8>, String> {
 
 fn read_line(line: &str, draft: &mut Draft) -> Result<(), String> {
     let words: Vec<&str> = line.split_whitespace().collect();
-    let numbers = words[1..].iter().map(|word| read_number(word)).collect::<Result<Vec<u8>, _>>()?;
+    let numbers =
+        words[1..].iter().map(|word| read_number(word)).collect::<Result<Vec<u8>, _>>()?;
     if numbers.len() > 255 {
         return Err("more than 255 numbers".to_string());
     }
     if draft.claim.is_some() {
-        return Err("nothing comes after `claim`".to_string());
+        return Err("nothing comes after the claim".to_string());
     }
-    if draft.witness.is_some() && words[0] != "claim" {
-        return Err("only `claim` comes after `witness`".to_string());
+    if draft.witness.is_some() != CLAIMS.contains(&words[0]) {
+        return Err("`claim` or `clear`, and nothing else, comes after `witness`".to_string());
     }
     match (words[0], numbers.as_slice()) {
         ("on", [r]) => draft.steps.extend([GO_ON, *r]),
@@ -58,8 +61,8 @@ fn read_line(line: &str, draft: &mut Draft) -> Result<(), String> {
             draft.steps.extend(list);
         }
         ("witness", rules) => draft.witness = Some(rules.to_vec()),
-        ("claim", [atom]) if draft.witness.is_some() => draft.claim = Some(*atom),
-        ("claim", [_]) => return Err("`witness` comes before `claim`".to_string()),
+        ("claim", [atom]) => draft.claim = Some(certain(*atom)),
+        ("clear", [atom]) => draft.claim = Some(clear(*atom)),
         _ => return Err(format!("`{}` is no step", line)),
     }
     Ok(())
@@ -72,17 +75,23 @@ fn read_number(word: &str) -> Result<u8, String> {
 
 /// The paper in words. Bytes that don't fall into steps, witness and trailer have none.
 pub fn write_steps(paper: &[u8]) -> Result<String, String> {
-    if paper.len() < TRAILER || paper[paper.len() - 2..] != PAPER_MARK {
-        return Err("this is no paper: its mark is missing".to_string());
+    if paper.len() < TRAILER {
+        return Err("this is no paper: it is too short".to_string());
     }
     let trailer = paper.len() - TRAILER;
+    let claim = Claim::by_mark(&paper[trailer + 4..], paper[trailer])
+        .ok_or("this is no paper: its mark is missing")?;
     let start = two_bytes(paper, trailer + 2);
     if start + paper[trailer + 1] as usize != trailer {
         return Err("this is no paper: its witness does not end at its trailer".to_string());
     }
     let mut text = write_branches(&paper[..start])?;
     text.push_str(&format!("witness{}\n", spaced(&paper[start..trailer])));
-    text.push_str(&format!("claim {}\n", paper[trailer]));
+    let word = match claim {
+        Claim::Certain(_) => "claim",
+        Claim::Clear(_) => "clear",
+    };
+    text.push_str(&format!("{} {}\n", word, claim.byte()));
     Ok(text)
 }
 

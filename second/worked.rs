@@ -3,27 +3,33 @@
 
 use crate::desk::answer;
 
-const EMPTY: &str = "000000005242";
-const FACT: &str = "0000000000010103005242";
-const CHOICE: &str = "000001010100010000000400020208005242";
-const ODD: &str = "000001000000010104005242";
-const CIRCLE: &str = "000100010101000000000400020208005242";
-const FACT_AND_ODD: &str = "0000000101010001000003000202080052 42";
-const CASES: &str = "02010000 02010001 00000101 01000100 0000 0400 0800 0c00 03041000 5242";
-const SIX_RULES: &str = "000000 01010000 0201010103 0301010002 01010004 050201020305 \
+pub const EMPTY: &str = "000000005242";
+pub const FACT: &str = "0000000000010103005242";
+pub const CHOICE: &str = "000001010100010000000400020208005242";
+pub const ODD: &str = "000001000000010104005242";
+pub const CIRCLE: &str = "000100010101000000000400020208005242";
+pub const FACT_AND_ODD: &str = "0000000101010001000003000202080052 42";
+pub const CASES: &str = "02010000 02010001 00000101 01000100 0000 0400 0800 0c00 03041000 5242";
+pub const SIX_RULES: &str = "000000 01010000 0201010103 0301010002 01010004 050201020305 \
                          0000 0300 0700 0c00 1100 1500 06061b00 5242";
 
-/// Each line with its answer; blanks inside the bytes are for the eye and taken out.
-pub fn worked_lines() -> Vec<(String, String)> {
+/// A line and its answer.
+pub type Worked = (String, String);
+
+/// A line of these words and these bytes; blanks inside the bytes are for the eye and taken out.
+pub fn worked(words: &str, bytes: &[&str], expected: &str) -> Worked {
+    let mut line = words.to_string();
+    for part in bytes {
+        line.push(' ');
+        line.push_str(&part.replace(' ', ""));
+    }
+    (line, expected.to_string())
+}
+
+pub fn worked_lines() -> Vec<Worked> {
     let mut lines = Vec::new();
-    let mut say = |words: &str, bytes: &[&str], expected: &str| {
-        let mut line = words.to_string();
-        for part in bytes {
-            line.push(' ');
-            line.push_str(&part.replace(' ', ""));
-        }
-        lines.push((line, expected.to_string()));
-    };
+    let mut say =
+        |words: &str, bytes: &[&str], expected: &str| lines.push(worked(words, bytes, expected));
     say("find 1 1000 0", &[EMPTY], "set 1");
     say("find 2 1000 0", &[EMPTY], "fewer 1 1");
     say("find 1 1000 1", &[FACT], "set 1 0");
@@ -56,7 +62,7 @@ pub fn worked_lines() -> Vec<(String, String)> {
 }
 
 /// The sizes: a part of 16 and of 17, books of 9,441 and 9,442 bytes, a paper of 60,001.
-fn worked_sizes() -> Vec<(String, String)> {
+fn worked_sizes() -> Vec<Worked> {
     let sixteen = "000102030405060708090a0b0c0d0e0f";
     let seventeen = "000102030405060708090a0b0c0d0e0f10";
     let part_16 = format!("001000{}0000110113005242", sixteen);
@@ -77,10 +83,9 @@ fn worked_sizes() -> Vec<(String, String)> {
     ]
 }
 
-/// Panics at the first worked line that comes out otherwise; gives the number of lines.
-pub fn assert_worked() -> usize {
-    let lines = worked_lines();
-    for (line, expected) in &lines {
+/// Panics at the first of these lines that comes out otherwise; gives their number.
+pub fn assert_worked(lines: &[Worked]) -> usize {
+    for (line, expected) in lines {
         assert_eq!(&answer(line.as_bytes()).text, expected, "worked book: {:.200}", line);
     }
     lines.len()

@@ -9,7 +9,6 @@ const bookOf = paper => paper.replace(/-[^-]*$/, "") + ".book";
 
 for (const [name, text] of Object.entries(page.FILES)) {
   const due = files[name];
-  if (due === undefined && /either-hand|-bea|-retry/.test(name)) continue; // until request 2 lands
   same(`the example ${name} of the page`, due, due === undefined || name.endsWith(".names") ? text : text.replace(/\s/g, ""));
 }
 

@@ -1,5 +1,5 @@
--- A paper is accepted exactly if it keeps the printed rules and has at most 60,000 bytes; and what is accepted is certain, whoever wrote
--- it. The accepted paper is cut at the trailer's places into steps, witness and trailer; a paper that keeps the rules is read back piece
+-- A paper is accepted exactly if it keeps the printed rules and has at most 60,000 bytes; and what is accepted is right, whoever wrote it:
+-- the atom is certain, or clear. The accepted paper is cut at the trailer's places into steps, witness and trailer; a paper that keeps the rules is read back piece
 -- by piece. Document 00, demand 3; blueprint, K4 and K5.
 use mathlib.Core.Path.{_≡_, refl, sym, _∙_, ap, subst}
 use mathlib.Core.Logic.{_↔_}
@@ -11,20 +11,24 @@ use lib.ListN.{length, getD, take, drop, length-append, length-map, length-take,
 use lib.Seq.{take-length, take-at}
 use Rattle.meaning.specs.declared.AtomNo.{AtomNo}
 use Rattle.meaning.specs.Books.{ruleNo, Book}
-use Rattle.meaning.specs.AnswerSet.{Certain}
 use Rattle.meaning.specs.Colours.{start}
-use Rattle.meaning.specs.Claim.{named, claimed, mark}
+use Rattle.meaning.specs.declared.kind.Kind.{Kind}
+use Rattle.meaning.specs.declared.kind.Claim.{Claim}
+use Rattle.meaning.specs.Claim.{claimed, mark, Holding}
+use Rattle.meaning.specs.Told.{success}
 use Rattle.meaning.specs.Paper.{numbers, Branch, Witness, trailer, Keeps}
-use Rattle.meaning.proofs.Papers.{keeps-certain}
+use Rattle.meaning.proofs.Marks.{mark-bytes}
+use Rattle.meaning.proofs.Papers.{keeps-holds}
 use Rattle.book.specs.Format.{u16At, partFrom, bookIn}
 use Rattle.book.specs.Rows.{Bytes, GoodBook}
 use Rattle.book.proofs.Slices.{part-length}
-use Rattle.checker.specs.Numbers.{certain}
+use Rattle.checker.specs.Numbers.{accepted}
 use Rattle.checker.specs.Branches.{done, branchOf}
 use Rattle.checker.specs.Witness.{fine, witnessVerdict}
 use Rattle.checker.specs.Check.{paperOf, checkOf}
-use Rattle.checker.specs.Rows.{atomOf, countOf, startOf, claimOf, witnessBytes, Framed}
+use Rattle.checker.specs.Rows.{countOf, startOf, claimOf, witnessBytes, MarkGood, Framed}
 use Rattle.checker.proofs.Bytes.{rules-back, numbers-back, part-none, part-two, part-split, read-two, read-past}
+use Rattle.checker.proofs.Marked.{mark-is, mark-read}
 use Rattle.checker.proofs.Branches.{done-branch, branch-done}
 use Rattle.checker.proofs.Witnesses.{fine-witness, witness-fine}
 use Rattle.checker.proofs.Rows.{PaperRow, nowhere, row-of, row-told, CheckRow, at-paper, row-checked, checked-row}
@@ -37,10 +41,10 @@ record Accepted (b : Book) (s : List ℕ) : Type 0 where
   witness : Witness b (map ruleNo (witnessBytes s))
 
 module _ (b : Book) (s : List ℕ) where
-  accepted-pieces : {a : AtomNo} → paperOf b s ≡ certain a → (atomOf s ≡ a) × Accepted b s
+  accepted-pieces : {k : Claim} → paperOf b s ≡ success k → (claimOf s ≡ k) × Accepted b s
   accepted-pieces e = pieces (row-of b s e)
     where
-      pieces : {a : AtomNo} → PaperRow b s (certain a) → (atomOf s ≡ a) × Accepted b s
+      pieces : {k : Claim} → PaperRow b s (success k) → (claimOf s ≡ k) × Accepted b s
       pieces (nowhere f p w) = (
         refl,
         record {
@@ -77,7 +81,7 @@ module _ (b : Book) (s : List ℕ) where
       let p₂ : length s - 4 ≡ i + 2 = omega arith in
       let p₄ : length s - 2 ≡ i + 4 = omega arith in
       let p₅ : length s - 1 ≡ i + 4 + 1 = omega arith in
-      rw (six i e, rw p₄ at (f .mark .first), rw p₅ at (f .mark .second), start-low bytes, start-high bytes, p₀, p₁, p₂)
+      rw (six i e, start-low bytes, start-high bytes, p₀, p₁, p₂, ← mark-is s (f .mark), p₄, p₅)
 
   -- a paper whose trailer is right is its three pieces
   pieces-joined : Bytes s → Framed b s
@@ -110,12 +114,12 @@ module _ (b : Book) (s : List ℕ) where
         grounds = q .witness;
       }
 
-  pub accepted-keeps : Bytes s → {a : AtomNo} → paperOf b s ≡ certain a → Keeps b (named a) s × (length s ≤ 60000)
+  pub accepted-keeps : Bytes s → {k : Claim} → paperOf b s ≡ success k → Keeps b k s × (length s ≤ 60000)
   accepted-keeps bytes e = let (p, q) = accepted-pieces e in (rw p at (keeps-pieces bytes q), q .framed .size .at-most)
 
   -- ---- a paper that keeps the printed rules
 
-  module _ (a : AtomNo) (g : Keeps b (named a) s) where
+  module _ (k : Claim) (g : Keeps b k s) where
     abbrev from : ℕ
     from = length (g .steps)
 
@@ -125,12 +129,11 @@ module _ (b : Book) (s : List ℕ) where
     -- what the trailer says, where it stands
     record Reads : Type 0 where
       size : from + w + 6 ≡ length s
-      after-steps : drop from s ≡ numbers (g .witness) ++ trailer (named a) w from
-      atom : atomOf s ≡ a
+      after-steps : drop from s ≡ numbers (g .witness) ++ trailer k w from
+      marked : MarkGood s
+      claims : claimOf s ≡ k
       count : countOf s ≡ w
       begins : startOf s ≡ from
-      first : getD s (length s - 2) 0 ≡ 0x50
-      second : getD s (length s - 1) 0 ≡ 0x46
 
     reads : Reads
     unfolding trailer claimed mark u16At
@@ -138,88 +141,88 @@ module _ (b : Book) (s : List ℕ) where
         let m = numbers (g .witness) in
         let n : length m ≡ w = length-map (g .witness) (λ r. r .0) in
         let e = ap length (g .bytes) ∙ length-append (g .steps) _ in
-        let z = length-append m (trailer (named a) w from) in
+        let z = length-append m (trailer k w from) in
+        let two = ap length (mark-bytes (k .kind)) in
         let size : from + w + 6 ≡ length s = omega arith in
         let d₀ = rw zero-add at (read-past s 0 (g .steps) (g .bytes)) in
         let d₁ = rw n at (read-past s from m d₀) in
         let (x₀, x₁, d₂) = read-two s (from + w) d₁ in
         let (x₂, x₃, d₄) = read-two s (from + w + 2) d₂ in
-        let (x₄, x₅, d₆) = read-two s (from + w + 2 + 2) d₄ in
+        let (x₄, x₅, d₆) = read-two s (from + w + 2 + 2) (d₄ ∙ sym (mark-bytes (k .kind))) in
         let p₀ : length s - 6 ≡ from + w = omega arith in
         let p₁ : length s - 5 ≡ from + w + 1 = omega arith in
         let p₂ : length s - 4 ≡ from + w + 2 = omega arith in
         let p₄ : length s - 2 ≡ from + w + 2 + 2 = omega arith in
         let p₅ : length s - 1 ≡ from + w + 2 + 2 + 1 = omega arith in
+        let (marked, kind) = mark-read s (k .kind) (rw p₄ x₄) (rw p₅ x₅) in
+        let atom : getD s (length s - 6) 0 ≡ k .atom .0 = rw p₀ x₀ in
         record {
           size = size;
           after-steps = d₀;
-          atom = let e : getD s (length s - 6) 0 ≡ a .0 = rw p₀ x₀ in λ i. record { 0 = e i };
+          marked = marked;
+          claims = λ i. record { kind = kind i; atom = record { 0 = atom i } };
           count = rw p₁ x₁;
           begins = rw (p₂, x₂, x₃) (omega arith);
-          first = rw p₄ x₄;
-          second = rw p₅ x₅;
         }
 
-    pub keeps-accepted : length s ≤ 60000 → paperOf b s ≡ certain a
+    pub keeps-accepted : length s ≤ 60000 → paperOf b s ≡ success k
     unfolding claimed
     keeps-accepted h =
         let r = reads in
-        let k : claimOf s ≡ named a = ap named (r .atom) in
         let z : 0 + from ≡ from = omega arith in
         let n : length (numbers (g .witness)) ≡ w = length-map (g .witness) (λ r. r .0) in
         let l : take w (drop from s) ≡ numbers (g .witness) = rw (r .after-steps) (take-at (numbers (g .witness)) _ w n) in
         let f : Framed b s = record {
           size = record { at-least = omega (arith, r .size); at-most = h };
-          mark = record { first = r .first; second = r .second };
+          mark = r .marked;
           trailer = rw (r .begins, r .count) (r .size);
-          atom = subst (λ (c : AtomNo). c .0 < b .atoms) (sym (r .atom)) (g .atom-in-book);
+          atom = subst (λ (c : Claim). c .atom .0 < b .atoms) (sym (r .claims)) (g .atom-in-book);
         } in
-        let walked : branchOf (suc from) b (named a) s from 0 start ≡ done from =
-        branch-done b (named a) s from (g .branch) 0 _ (g .bytes) (omega arith) (suc from) (omega arith) ∙ ap done z in
+        let walked : branchOf (suc from) b k s from 0 start ≡ done from =
+        branch-done b k s from (g .branch) 0 _ (g .bytes) (omega arith) (suc from) (omega arith) ∙ ap done z in
         let grounds : witnessVerdict b s from w ≡ fine = witness-fine b s from w (rw (l, rules-back (g .witness)) (g .grounds)) in
-        row-told b s (nowhere f (rw (r .begins, k) walked) (rw (r .begins, r .count) grounds)) ∙ ap certain (r .atom)
+        row-told b s (nowhere f (rw (r .begins, r .claims) walked) (rw (r .begins, r .count) grounds)) ∙ ap success (r .claims)
 
-  pub check-keeps : Bytes s → (a : AtomNo) → (paperOf b s ≡ certain a) ↔ (Keeps b (named a) s × (length s ≤ 60000))
-  check-keeps bytes a = (accepted-keeps bytes, λ (g, h). keeps-accepted a g h)
+  pub check-keeps : Bytes s → (k : Claim) → (paperOf b s ≡ success k) ↔ (Keeps b k s × (length s ≤ 60000))
+  check-keeps bytes k = (accepted-keeps bytes, λ (g, h). keeps-accepted k g h)
 
-  -- ---- what is accepted is certain
+  -- ---- what is accepted is right
 
   -- the pieces keep the printed rules, written with the bytes that the trailer should have
-  pub accepted-certain : {a : AtomNo} → paperOf b s ≡ certain a → Certain b a
+  pub accepted-holds : {q : Kind} {a : AtomNo} → paperOf b s ≡ accepted q a → Holding q b a
   unfolding claimed
-  accepted-certain e =
-      let (p, q) = accepted-pieces e in
+  accepted-holds {q} {a} e =
+      let (p, pieces) = accepted-pieces e in
       let kept : Keeps b (claimOf s) _ = record {
         steps = partFrom s (startOf s) 0;
         witness = map ruleNo (witnessBytes s);
         bytes = refl;
-        atom-in-book = q .framed .atom;
-        branch = q .branch;
-        grounds = q .witness;
+        atom-in-book = pieces .framed .atom;
+        branch = pieces .branch;
+        grounds = pieces .witness;
       } in
-      rw p at (keeps-certain b (atomOf s) kept)
+      keeps-holds b q a (rw p at kept)
 
 -- ---- over the bytes of the book
 
 module _ (book paper : List ℕ) where
-  -- accepted means that the book has an answer set and the atom is in all of them, whoever wrote the paper
-  pub check-sound : {a : AtomNo} → checkOf book paper ≡ certain a → Certain (bookIn book) a
+  -- accepted means that the book has an answer set and the atom is in all of them, or in none, whoever wrote the paper
+  pub check-sound : {q : Kind} {a : AtomNo} → checkOf book paper ≡ accepted q a → Holding q (bookIn book) a
   check-sound e = by-row (checked-row book paper e)
     where
-      by-row : {a : AtomNo} → CheckRow book paper (certain a) → Certain (bookIn book) a
-      by-row (at-paper g r) = accepted-certain (bookIn book) paper (row-told (bookIn book) paper r)
+      by-row : {q : Kind} {a : AtomNo} → CheckRow book paper (accepted q a) → Holding q (bookIn book) a
+      by-row (at-paper g r) = accepted-holds (bookIn book) paper (row-told (bookIn book) paper r)
 
-  -- a paper that keeps the printed rules of a good book is accepted, and tells the claimed atom
-  pub check-complete : GoodBook book (bookIn book) → (a : AtomNo) → Keeps (bookIn book) (named a) paper → length paper ≤ 60000
-      → checkOf book paper ≡ certain a
-  check-complete read a g h = row-checked book paper (at-paper read (row-of (bookIn book) paper (keeps-accepted (bookIn book) paper a g h)))
+  -- a paper that keeps the printed rules of a good book is accepted, and tells its claim
+  pub check-complete : GoodBook book (bookIn book) → (k : Claim) → Keeps (bookIn book) k paper → length paper ≤ 60000
+      → checkOf book paper ≡ success k
+  check-complete read k g h = row-checked book paper (at-paper read (row-of (bookIn book) paper (keeps-accepted (bookIn book) paper k g h)))
 
-  pub check-exact : Bytes paper → (a : AtomNo)
-      → (checkOf book paper ≡ certain a)
-      ↔ (GoodBook book (bookIn book) × Keeps (bookIn book) (named a) paper × (length paper ≤ 60000))
-  check-exact bytes a = (λ e. there (checked-row book paper e), λ (read, g, h). check-complete read a g h)
+  pub check-exact : Bytes paper → (k : Claim)
+      → (checkOf book paper ≡ success k) ↔ (GoodBook book (bookIn book) × Keeps (bookIn book) k paper × (length paper ≤ 60000))
+  check-exact bytes k = (λ e. there (checked-row book paper e), λ (read, g, h). check-complete read k g h)
     where
-      there : {a : AtomNo} → CheckRow book paper (certain a)
-          → GoodBook book (bookIn book) × Keeps (bookIn book) (named a) paper × (length paper ≤ 60000)
+      there : {k : Claim} → CheckRow book paper (success k)
+          → GoodBook book (bookIn book) × Keeps (bookIn book) k paper × (length paper ≤ 60000)
       there (at-paper read r) =
           let (g, h) = accepted-keeps (bookIn book) paper bytes (row-told (bookIn book) paper r) in (read, g, h)

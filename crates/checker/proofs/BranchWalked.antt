@@ -9,7 +9,7 @@ use Rattle.meaning.specs.declared.RuleNo.{RuleNo}
 use Rattle.meaning.specs.declared.colouring.Colouring.{Colouring}
 use Rattle.meaning.specs.Books.{Book, count}
 use Rattle.meaning.specs.Colours.{Pair, onSide, offSide, put}
-use Rattle.meaning.specs.Claim.{Claim}
+use Rattle.meaning.specs.declared.kind.Claim.{Claim}
 use Rattle.meaning.specs.Written.{colourOn, colourOff, pair}
 use Rattle.meaning.proofs.Written.{pair-on, pair-off}
 use Rattle.checker.specs.Steps.{Stepped, goes, parts, ends, fails, stepOf}

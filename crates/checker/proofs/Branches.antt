@@ -13,7 +13,7 @@ use Rattle.meaning.specs.declared.RuleNo.{RuleNo}
 use Rattle.meaning.specs.Sets.{_∈_, ascending}
 use Rattle.meaning.specs.Books.{ruleNo, among, Book, count, InBook}
 use Rattle.meaning.specs.Colours.{Pair, onSide, offSide, put}
-use Rattle.meaning.specs.Claim.{Claim}
+use Rattle.meaning.specs.declared.kind.Claim.{Claim}
 use Rattle.meaning.specs.Paper.{numbers, unfounded, codeUnfounded, Branch, step-41, step-42, step-55, step-53, step-45}
 use Rattle.book.specs.Format.{partFrom}
 use Rattle.book.proofs.Slices.{part-length}

@@ -4,20 +4,20 @@ use mathlib.Core.Path.{_≡_, refl}
 use mathlib.Core.List.{List, [], _∷_, map}
 use Prim.Native.Nat.{ℕ}
 use Rattle.meaning.specs.Sets.{every, some, everyBelow, someBelow, ascending}
-use Rattle.meaning.specs.declared.AtomNo.{AtomNo}
+use Rattle.meaning.specs.declared.kind.Claim.{Claim}
 use Rattle.meaning.specs.Books.{atomNo, sameAtom, sameRule, count, rule, everyRule, someRule}
 use Rattle.meaning.specs.Colours.{put, heads, allIn, mayOn, blocked, uncoloured, clashing}
-use Rattle.meaning.specs.Claim.{shown, ended}
+use Rattle.meaning.specs.Claim.{claimed, markedBy, shownBy, shown, ended}
 use Rattle.meaning.specs.Paper.{unfounded, fails}
 use Rattle.meaning.specs.Choice.{ifb, ifLt, ifEq}
 use Rattle.meaning.specs.Told.{Told, refusedAt}
 use Rattle.book.specs.Format.{u16At, partOf, bytesOf, recordOf, lengthOf, ruleOf, recordsOf, rulesOf, ifFine, bodyOf, readOf}
 use Rattle.book.specs.Format.{andThen as recordsThen}
-use Rattle.checker.specs.Numbers.{certain}
+use Rattle.checker.specs.Numbers.{certain, clear}
 use Rattle.checker.specs.Steps.{withRule, properList, withList, stepBy, stepOf}
 use Rattle.checker.specs.Branches.{andThen, afterStep, branchOf}
 use Rattle.checker.specs.Witness.{andThen as witnessThen, follows, orderOf, blockedOf, restFails, listOf, witnessVerdict}
-use Rattle.checker.specs.Check.{witnessTold, branchTold, stepsTold, trailerTold, paperOf, checkRead, checkOf}
+use Rattle.checker.specs.Check.{witnessTold, branchTold, stepsTold, trailerTold, markedTold, paperOf, checkRead, checkOf}
 
 -- "Fact 0"
 abbrev fact : List ℕ
@@ -34,7 +34,7 @@ either-way =
     ∷ 0 ∷ 0 ∷ 4 ∷ 0 ∷ 8 ∷ 0 ∷ 12 ∷ 0 ∷ 3 ∷ 4 ∷ 16 ∷ 0 ∷ 0x52 ∷ 0x42 ∷ []
 
 -- a book, a paper, and what checking answers
-abbrev pub papers : List (List ℕ × List ℕ × Told AtomNo)
+abbrev pub papers : List (List ℕ × List ℕ × Told Claim)
 papers =
     -- document 01's worked papers
     (fact, 0x41 ∷ 0 ∷ 0x45 ∷ 0 ∷ 0 ∷ 1 ∷ 3 ∷ 0 ∷ 0x50 ∷ 0x46 ∷ [], certain (atomNo 0))
@@ -46,7 +46,13 @@ papers =
           ∷ 2 ∷ 0 ∷ 2 ∷ 2 ∷ 16 ∷ 0 ∷ 0x50 ∷ 0x46 ∷ [],
       certain (atomNo 2),
     )
-    -- the book is refused first; then 20 to 23
+    -- papers that clear: two rules that hold each other up; the same steps do not name the atom; an atom with a rule that isn't off; the
+    -- naming paper under the other mark
+    ∷ (circle, 0x55 ∷ 2 ∷ 0 ∷ 1 ∷ 0x45 ∷ 0 ∷ 0 ∷ 5 ∷ 0 ∷ 0x50 ∷ 0x43 ∷ [], clear (atomNo 0))
+    ∷ (circle, 0x55 ∷ 2 ∷ 0 ∷ 1 ∷ 0x45 ∷ 0 ∷ 0 ∷ 5 ∷ 0 ∷ 0x50 ∷ 0x46 ∷ [], refusedAt 25 4)
+    ∷ (circle, 0x45 ∷ 0 ∷ 0 ∷ 1 ∷ 0 ∷ 0x50 ∷ 0x43 ∷ [], refusedAt 25 0)
+    ∷ (fact, 0x41 ∷ 0 ∷ 0x45 ∷ 0 ∷ 0 ∷ 1 ∷ 3 ∷ 0 ∷ 0x50 ∷ 0x43 ∷ [], refusedAt 25 2)
+    -- the book is refused first; then 20 to 23, 21 for a mark of neither kind
     ∷ ([], [], refusedAt 1 0)
     ∷ (fact, [], refusedAt 20 0)
     ∷ (fact, 0x41 ∷ 0 ∷ 0x45 ∷ 0 ∷ 0 ∷ 1 ∷ 3 ∷ 0 ∷ 0x50 ∷ 0x42 ∷ [], refusedAt 21 8)
@@ -65,12 +71,12 @@ papers =
     ∷ (fact, 0x41 ∷ 0 ∷ 0x45 ∷ 0 ∷ 0 ∷ 3 ∷ 0 ∷ 0x50 ∷ 0x46 ∷ [], refusedAt 27 3)
     ∷ []
 
-pub papers-checked : map (λ (c : List ℕ × List ℕ × Told AtomNo). checkOf (c .0) (c .1)) papers
-    ≡ map (λ (c : List ℕ × List ℕ × Told AtomNo). c .2) papers
-unfolding checkOf checkRead paperOf trailerTold stepsTold branchTold witnessTold
+pub papers-checked : map (λ (c : List ℕ × List ℕ × Told Claim). checkOf (c .0) (c .1)) papers
+    ≡ map (λ (c : List ℕ × List ℕ × Told Claim). c .2) papers
+unfolding checkOf checkRead paperOf markedTold markedBy trailerTold claimed stepsTold branchTold witnessTold
     witnessVerdict listOf restFails blockedOf orderOf follows witnessThen
     branchOf afterStep andThen stepOf stepBy withList properList withRule
     readOf bodyOf ifFine recordsOf rulesOf ruleOf lengthOf recordOf bytesOf partOf recordsThen u16At
-    unfounded fails ended shown clashing uncoloured blocked mayOn allIn heads put
+    unfounded fails ended shown shownBy clashing uncoloured blocked mayOn allIn heads put
     someRule everyRule rule count sameRule sameAtom ascending someBelow everyBelow some every ifb ifLt ifEq
 papers-checked = refl

@@ -10,7 +10,7 @@ use native.Mathlib.Omega.{arith}
 use lib.ListN.{length}
 use Rattle.meaning.specs.Books.{Book}
 use Rattle.meaning.specs.Colours.{Pair, start}
-use Rattle.meaning.specs.Claim.{Claim}
+use Rattle.meaning.specs.declared.kind.Claim.{Claim}
 use Rattle.meaning.specs.Paper.{Branch, step-41, step-42, step-55, step-53, step-45}
 use Rattle.meaning.proofs.Tests.{lt-or-le}
 use Rattle.book.specs.Format.{partFrom}

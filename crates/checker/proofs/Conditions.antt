@@ -1,6 +1,6 @@
 -- The conditions of the steps as the code tests them, place by place: what each test says of the pair that the lent tables stand for.
 -- Document 01, "The paper": 53, 45 and 55. Each is its definition, with the place in the table put for the rule or the atom.
-use mathlib.Core.Path.{_≡_, sym, _∙_}
+use mathlib.Core.Path.{_≡_, sym, _∙_, ap}
 use mathlib.Core.Bool.{Bool, true, false, not, _&&_}
 use mathlib.Core.List.{List, map}
 use Prim.Native.Nat.{ℕ, _+_, _≤_, _<_}
@@ -11,12 +11,14 @@ use Rattle.meaning.specs.declared.RuleNo.{RuleNo}
 use Rattle.meaning.specs.Sets.{every, some, someBelow}
 use Rattle.meaning.specs.Books.{Atoms, Rules, atomNo, ruleNo, sameAtom, Book, count, rule, someRule}
 use Rattle.meaning.specs.Colours.{heads, allIn, plus, clashing, uncoloured}
-use Rattle.meaning.specs.Claim.{named, shown, ended}
+use Rattle.meaning.specs.declared.kind.Kind.the-variants.{Naming, Clearing}
+use Rattle.meaning.specs.declared.kind.Claim.{Claim}
+use Rattle.meaning.specs.Claim.{shownBy, shown, ended}
 use Rattle.meaning.specs.Paper.{unfounded}
 use Rattle.meaning.specs.Written.{of, lent}
 use Rattle.meaning.proofs.Tests.{first, not-first, not-second}
 use Rattle.meaning.proofs.Sets.{every-here, every-all-next, every-all-end}
-use Rattle.meaning.proofs.Rules.{heads-of}
+use Rattle.meaning.proofs.Rules.{heads-of, all-in-not-heads}
 use Rattle.book.specs.declared.reader.Shape.{Shape}
 use Rattle.book.specs.Format.{bookIn, ReadAs}
 use Rattle.book.specs.Tables.{atomTable, atomsIn, Below}
@@ -36,42 +38,59 @@ module _ (on off : List Bool) (r : RuleNo) (i : ℕ) (e : i ≡ r .0) where
   unfolding uncoloured of
   uncoloured-off h = rw (← e, h)
 
--- ---- 45: a rule in both sets, or an on rule with the claimed atom as head
+-- ---- 45: a rule in both sets, or the claim is shown
 
--- the code reads place i of the table, and h as the head of rule r
-module _ (b : Book) (set : List Bool) (a h : AtomNo) (r i : ℕ) (e : i ≡ r) (p : h ≡ rule b (ruleNo r) .head) where
-  pub head-here : r < count b → getD set i false ≡ true → h .0 ≡ a .0 → heads b (of set) a ≡ true
-  unfolding of
-  head-here l t q =
-      let z : rule b (ruleNo r) .head ≡ a = sym p ∙ (λ j. record { 0 = q j }) in
-      rw z at (heads-of b (of set) (ruleNo r) l (rw e at t))
-
-  pub head-other : (h .0 ≡ a .0 → ⊥) → (of set (ruleNo r) && sameAtom (rule b (ruleNo r) .head) a) ≡ false
-  unfolding sameAtom
-  head-other n = not-second (of set (ruleNo r)) (rw (← p) (ne-eqb _ _ n))
-
-pub head-out : (b : Book) (set : List Bool) (a : AtomNo) (r i : ℕ) → i ≡ r → getD set i false ≡ false
-    → (of set (ruleNo r) && sameAtom (rule b (ruleNo r) .head) a) ≡ false
+-- place i of the table says whether rule r is in the set, and so whether it is in what the code asks of the set
+pub rule-says : (asked : Bool → Bool) (set : List Bool) (r i : ℕ) (v : Bool) → i ≡ r → asked (getD set i false) ≡ v
+    → asked (of set (ruleNo r)) ≡ v
 unfolding of
-head-out b set a r i e t = not-first _ (rw e at t)
+rule-says asked set r i v e t = rw e at t
 
-pub head-none : (b : Book) (set : List Bool) (a : AtomNo) (n : ℕ) → count b ≡ n
-    → someBelow n (λ r. of set (ruleNo r) && sameAtom (rule b (ruleNo r) .head) a) ≡ false → heads b (of set) a ≡ false
-unfolding heads someRule
-head-none b set a n e h = rw e h
+-- an atom is looked for among the heads of a set's rules, one by one; the code reads h as the head of rule r
+module _ (b : Book) (s : Rules) (a : AtomNo) where
+  module _ (h : AtomNo) (r : ℕ) (p : h ≡ rule b (ruleNo r) .head) where
+    pub head-here : r < count b → s (ruleNo r) ≡ true → h .0 ≡ a .0 → heads b s a ≡ true
+    head-here l t q =
+        let z : rule b (ruleNo r) .head ≡ a = sym p ∙ (λ j. record { 0 = q j }) in
+        rw z at (heads-of b s (ruleNo r) l t)
 
-module _ (b : Book) (on off : List Bool) (a : AtomNo) (n : ℕ) (e : n ≡ count b) where
+    pub head-other : (h .0 ≡ a .0 → ⊥) → (s (ruleNo r) && sameAtom (rule b (ruleNo r) .head) a) ≡ false
+    unfolding sameAtom
+    head-other n = not-second (s (ruleNo r)) (rw (← p) (ne-eqb _ _ n))
+
+  pub head-out : (r : ℕ) → s (ruleNo r) ≡ false → (s (ruleNo r) && sameAtom (rule b (ruleNo r) .head) a) ≡ false
+  head-out r t = not-first _ t
+
+  pub head-none : (n : ℕ) → count b ≡ n → someBelow n (λ r. s (ruleNo r) && sameAtom (rule b (ruleNo r) .head) a) ≡ false
+      → heads b s a ≡ false
+  unfolding heads someRule
+  head-none n e h = rw e h
+
+-- all rules of an atom are in the set where it is no head of the others
+pub lost-by : (b : Book) (set : List Bool) (a : AtomNo) (v : Bool) → heads b (λ r. not (of set r)) a ≡ v → not v ≡ allIn b (of set) a
+lost-by b set a v e = sym (all-in-not-heads b (of set) a ∙ ap not e)
+
+-- the claim by its kind
+module _ (b : Book) (on off : List Bool) (k : Claim) where
+  pub shown-naming : k .kind ≡ Naming → shown b k (lent on off) ≡ heads b (of on) (k .atom)
+  unfolding shown shownBy
+  shown-naming e = rw e
+
+  pub shown-clearing : k .kind ≡ Clearing → shown b k (lent on off) ≡ allIn b (of off) (k .atom)
+  unfolding shown shownBy
+  shown-clearing e = rw e
+
+module _ (b : Book) (on off : List Bool) (k : Claim) (n : ℕ) (e : n ≡ count b) where
   clashing-is : someBelow n (λ r. of on (ruleNo r) && of off (ruleNo r)) ≡ clashing b (lent on off)
   unfolding clashing someRule
   clashing-is = rw e
 
-  pub ended-clash : someBelow n (λ r. of on (ruleNo r) && of off (ruleNo r)) ≡ true → ended b (named a) (lent on off) ≡ true
+  pub ended-clash : someBelow n (λ r. of on (ruleNo r) && of off (ruleNo r)) ≡ true → ended b k (lent on off) ≡ true
   unfolding ended
   ended-clash h = first _ (sym clashing-is ∙ h)
 
-  pub ended-shown : someBelow n (λ r. of on (ruleNo r) && of off (ruleNo r)) ≡ false
-      → ended b (named a) (lent on off) ≡ heads b (of on) a
-  unfolding ended shown
+  pub ended-shown : someBelow n (λ r. of on (ruleNo r) && of off (ruleNo r)) ≡ false → ended b k (lent on off) ≡ shown b k (lent on off)
+  unfolding ended
   ended-shown h = rw (sym clashing-is ∙ h)
 
 -- ---- a rule's body, asked by a table of atoms

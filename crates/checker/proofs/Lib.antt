@@ -3,6 +3,7 @@ pub mod Steps
 pub mod Bytes
 pub mod Branches
 pub mod Witnesses
+pub mod Marked
 pub mod Rows
 pub mod Accepted
 pub mod Comes

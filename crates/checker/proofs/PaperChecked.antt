@@ -6,10 +6,13 @@ use Prim.Native.Nat.{ℕ, suc, _+_, _-_, _≤_, _<_}
 use native.Mathlib.Omega.{arith}
 use lib.ListN.{length, getD}
 use Rattle.meaning.specs.declared.colouring.Colouring.{Colouring}
-use Rattle.meaning.specs.declared.AtomNo.{AtomNo}
 use Rattle.meaning.specs.Books.{atomNo, Book}
-use Rattle.meaning.specs.Claim.{Claim, named}
-use Rattle.meaning.specs.Told.{Told, refusedAt}
+use Rattle.meaning.specs.declared.kind.Kind.{Kind}
+use Rattle.meaning.specs.declared.kind.Claim.{Claim}
+use Rattle.meaning.specs.declared.kind.Marked.{Marked}
+use Rattle.meaning.specs.declared.kind.Marked.the-variants.{Of, Neither}
+use Rattle.meaning.specs.Claim.{claim, claimed}
+use Rattle.meaning.specs.Told.{Told, success, refusedAt}
 use Rattle.meaning.specs.Written.{nothing, pair}
 use Rattle.meaning.proofs.Choice.{lt-yes, lt-no, eq-yes, eq-no}
 use Rattle.meaning.proofs.Written.{pair-nothing}
@@ -18,45 +21,36 @@ use Rattle.book.specs.Numbers.{shape}
 use Rattle.book.specs.Format.{u16At, BookRead, good, bad, readOf, toldOf, bookOf, bookIn, ReadAs}
 use Rattle.checker.specs.declared.witness.Verdict.{Verdict}
 use Rattle.checker.specs.declared.witness.Verdict.the-variants.{Right, Wrong}
-use Rattle.checker.specs.Numbers.{certain}
 use Rattle.checker.specs.Branches.{Walked, done, BranchTo}
 use Rattle.checker.specs.Witness.{witnessVerdict}
 use Rattle.checker.specs.Parts.{verdict}
-use Rattle.checker.specs.Check.{witnessTold, branchTold, stepsTold, trailerTold, paperOf, checkRead, checkOf}
+use Rattle.checker.specs.Check.{witnessTold, branchTold, stepsTold, trailerTold, markedTold, paperOf, checkRead, checkOf}
+use Rattle.checker.proofs.Marked.{markIn}
 
 -- ---- the steps and the witness, where the first branch, from the empty colouring, has come to x
 
-pub steps-are : (b : Book) (k : Claim) (s : List ℕ) (a : AtomNo) (w from : ℕ) {c : Colouring} {x y : Walked} → c ≡ nothing
-    → BranchTo b k s from 0 (pair c) x → x ≡ y → branchTold b s a w from y ≡ stepsTold b k s a w from
+pub steps-are : (b : Book) (k : Claim) (s : List ℕ) (w from : ℕ) {c : Colouring} {x y : Walked} → c ≡ nothing
+    → BranchTo b k s from 0 (pair c) x → x ≡ y → branchTold b k s w from y ≡ stepsTold b k s w from
 unfolding stepsTold
-steps-are b k s a w from e p q =
-    ap (branchTold b s a w from) (sym q ∙ rw (ap pair e ∙ pair-nothing) at (p (suc from) (omega arith)))
+steps-are b k s w from e p q =
+    ap (branchTold b k s w from) (sym q ∙ rw (ap pair e ∙ pair-nothing) at (p (suc from) (omega arith)))
 
-module _ (b : Book) (s : List ℕ) (a : AtomNo) (w from at : ℕ) where
-  pub told-gap : (at ≡ from → ⊥) → refusedAt 26 at ≡ branchTold b s a w from (done at)
+module _ (b : Book) (k : Claim) (s : List ℕ) (w from at : ℕ) where
+  pub told-gap : (at ≡ from → ⊥) → refusedAt 26 at ≡ branchTold b k s w from (done at)
   unfolding branchTold
   told-gap n = sym (eq-no _ _ _ _ n)
 
   -- v is what the code found of the witness
   module _ (h : at ≡ from) (v : Verdict) (p : verdict v ≡ witnessVerdict b s from w) where
-    pub told-wrong : (place : ℕ) → v ≡ Wrong place → refusedAt 27 place ≡ branchTold b s a w from (done at)
+    pub told-wrong : (place : ℕ) → v ≡ Wrong place → refusedAt 27 place ≡ branchTold b k s w from (done at)
     unfolding branchTold witnessTold
     told-wrong place e = sym (rw (← p, e) (eq-yes _ _ _ _ h))
 
-    pub told-fine : v ≡ Right → certain a ≡ branchTold b s a w from (done at)
+    pub told-fine : v ≡ Right → success k ≡ branchTold b k s w from (done at)
     unfolding branchTold witnessTold
     told-fine e = sym (rw (← p, e) (eq-yes _ _ _ _ h))
 
 -- ---- the length, the mark and the trailer
-
--- the length and the mark are right, and w and from are the trailer's numbers, as the code has them
-pub record Framed (s : List ℕ) (w from : ℕ) : Type 0 where
-  pub least : 6 ≤ length s
-  pub most : length s ≤ 60000
-  pub first : getD s (length s - 2) 0 ≡ 0x50
-  pub second : getD s (length s - 1) 0 ≡ 0x46
-  pub count : w ≡ getD s (length s - 5) 0
-  pub start : from ≡ u16At s (length s - 4)
 
 module _ (b : Book) (s : List ℕ) where
   pub paper-short : length s < 6 → paperOf b s ≡ refusedAt 20 0
@@ -67,35 +61,34 @@ module _ (b : Book) (s : List ℕ) where
   unfolding paperOf
   paper-long h = lt-no _ _ _ _ (omega arith) ∙ lt-yes _ _ _ _ h
 
-  module _ (h : 6 ≤ length s) (g : length s ≤ 60000) where
-    pub mark-first : (getD s (length s - 2) 0 ≡ 0x50 → ⊥) → paperOf b s ≡ refusedAt 21 (length s - 2)
-    unfolding paperOf
-    mark-first n = lt-no _ _ _ _ h ∙ lt-no _ _ _ _ g ∙ eq-no _ _ _ _ n
+  -- m is what the code found of the mark
+  pub paper-marked : 6 ≤ length s → length s ≤ 60000 → {m n : Marked} → m ≡ markIn s → m ≡ n → markedTold b s n ≡ paperOf b s
+  unfolding paperOf
+  paper-marked h g e f = sym (lt-no _ _ _ _ h ∙ lt-no _ _ _ _ g ∙ ap (markedTold b s) (sym e ∙ f))
 
-    pub mark-second : getD s (length s - 2) 0 ≡ 0x50 → (getD s (length s - 1) 0 ≡ 0x46 → ⊥) → paperOf b s ≡ refusedAt 21 (length s - 2)
-    unfolding paperOf
-    mark-second m n = lt-no _ _ _ _ h ∙ lt-no _ _ _ _ g ∙ eq-yes _ _ _ _ m ∙ eq-no _ _ _ _ n
+  pub mark-neither : refusedAt 21 (length s - 2) ≡ markedTold b s Neither
+  unfolding markedTold
+  mark-neither = refl
 
-  module _ {w from : ℕ} (f : Framed s w from) where
-    trailer-read : paperOf b s ≡ trailerTold b s (atomNo (getD s (length s - 6) 0)) w from
-    unfolding paperOf
-    trailer-read =
-        lt-no _ _ _ _ (f .least) ∙ lt-no _ _ _ _ (f .most) ∙ eq-yes _ _ _ _ (f .first) ∙ eq-yes _ _ _ _ (f .second)
-        ∙ rw (f .count, f .start)
+  -- a mark of this kind; w and from are the trailer's numbers, as the code has them
+  module _ (q : Kind) {w from : ℕ} (count : w ≡ getD s (length s - 5) 0) (start : from ≡ u16At s (length s - 4)) where
+    trailer-read : markedTold b s (Of q) ≡ trailerTold b (claim q (atomNo (getD s (length s - 6) 0))) s w from
+    unfolding markedTold
+    trailer-read = rw (count, start)
 
-    pub trailer-wrong : (from + w + 6 ≡ length s → ⊥) → paperOf b s ≡ refusedAt 22 (length s - 4)
+    pub trailer-wrong : (from + w + 6 ≡ length s → ⊥) → markedTold b s (Of q) ≡ refusedAt 22 (length s - 4)
     unfolding trailerTold
     trailer-wrong z = trailer-read ∙ eq-no _ _ _ _ z
 
     module _ (z : from + w + 6 ≡ length s) where
-      pub atom-out : b .atoms ≤ getD s (length s - 6) 0 → paperOf b s ≡ refusedAt 23 (length s - 6)
-      unfolding trailerTold
+      pub atom-out : b .atoms ≤ getD s (length s - 6) 0 → markedTold b s (Of q) ≡ refusedAt 23 (length s - 6)
+      unfolding trailerTold claimed
       atom-out l = trailer-read ∙ eq-yes _ _ _ _ z ∙ lt-no _ _ _ _ l
 
-      pub atom-in : getD s (length s - 6) 0 < b .atoms → (x : Told AtomNo)
-          → let a = atomNo (getD s (length s - 6) 0) in x ≡ stepsTold b (named a) s a w from → x ≡ paperOf b s
-      unfolding trailerTold
-      atom-in l x q = q ∙ sym (trailer-read ∙ eq-yes _ _ _ _ z ∙ lt-yes _ _ _ _ l)
+      pub atom-in : getD s (length s - 6) 0 < b .atoms → (x : Told Claim)
+          → x ≡ stepsTold b (claim q (atomNo (getD s (length s - 6) 0))) s w from → x ≡ markedTold b s (Of q)
+      unfolding trailerTold claimed
+      atom-in l x e = e ∙ sym (trailer-read ∙ eq-yes _ _ _ _ z ∙ lt-yes _ _ _ _ l)
 
 -- ---- the book
 

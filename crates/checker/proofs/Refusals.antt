@@ -9,7 +9,7 @@ use native.Mathlib.Omega.{arith}
 use lib.ListN.{length, take}
 use Rattle.meaning.specs.Books.{Book}
 use Rattle.meaning.specs.Colours.{Pair, start}
-use Rattle.meaning.specs.Claim.{Claim}
+use Rattle.meaning.specs.declared.kind.Claim.{Claim}
 use Rattle.meaning.specs.Paper.{Branch}
 use Rattle.meaning.specs.Told.{refusedAt}
 use Rattle.book.specs.Format.{bad, readOf, bookIn}
@@ -77,7 +77,7 @@ module _ (book paper : List ℕ) where
       there : {at : ℕ} → PaperRow b paper (refusedAt 20 at) → (¬ LengthGood paper) × (at ≡ 0)
       there (at-length l) = (l, refl)
 
-  -- 21, at length - 2: the length is right, and the mark isn't 50 46
+  -- 21, at length - 2: the length is right, and the mark is neither 50 46 nor 50 43
   pub refused-mark : (at : ℕ) → (checkOf book paper ≡ refusedAt 21 at)
       ↔ (GoodBook book b × (LengthGood paper × (¬ MarkGood paper) × (at ≡ length paper - 2)))
   refused-mark at = exactly (omega arith) there (λ (l, m, p). rw p (at-mark l m))

@@ -1,31 +1,32 @@
 -- What checking a paper answers, row by row: each answer with what the tests before it found, both ways. A chain of the laws of choice for
 -- each row, and the rows leave no case out. Document 01, "Numbers given back", 20 to 27.
-use mathlib.Core.Path.{_≡_, refl, sym, _∙_, subst}
+use mathlib.Core.Path.{_≡_, refl, sym, _∙_, ap, subst}
 use mathlib.Core.Logic.{⊎-elim}
 use mathlib.Core.List.{List}
 use Prim.Native.Nat.{ℕ, suc, _-_}
 use native.Mathlib.Omega.{arith}
 use lib.ListN.{length}
-use Rattle.meaning.specs.declared.AtomNo.{AtomNo}
+use Rattle.meaning.specs.declared.kind.Claim.{Claim}
+use Rattle.meaning.specs.Claim.{claimed}
 use Rattle.meaning.specs.Books.{Rule, Book}
 use Rattle.meaning.specs.Colours.{start}
-use Rattle.meaning.specs.Told.{Told, refusedAt}
+use Rattle.meaning.specs.Told.{Told, success, refusedAt}
 use Rattle.meaning.proofs.Choice.{lt-yes, lt-no, lt-either, eq-yes, eq-no, eq-either}
 use Rattle.book.specs.Format.{BookRead, good, bad, readOf, bookOf, bookIn}
 use Rattle.book.specs.Rows.{GoodBook}
 use Rattle.book.proofs.Refusals.{good-read, read-good}
-use Rattle.checker.specs.Numbers.{certain}
 use Rattle.checker.specs.Branches.{Walked, done, wrongAt, branchOf}
 use Rattle.checker.specs.Witness.{Check, fine, wrong, witnessVerdict}
-use Rattle.checker.specs.Check.{witnessTold, branchTold, stepsTold, trailerTold, paperOf, checkRead, checkOf}
-use Rattle.checker.specs.Rows.{atomOf, countOf, startOf, claimOf, LengthGood, MarkGood, TrailerGood, AtomGood, Framed}
+use Rattle.checker.specs.Check.{witnessTold, branchTold, stepsTold, trailerTold, markedTold, paperOf, checkRead, checkOf}
+use Rattle.checker.specs.Rows.{countOf, startOf, claimOf, LengthGood, MarkGood, TrailerGood, AtomGood, Framed}
+use Rattle.checker.proofs.Marked.{mark-tells, mark-either, no-mark}
 use Rattle.checker.proofs.Branches.{refused-between}
 
 -- the branch from byte 0
 abbrev pub walkOf : Book → List ℕ → Walked
 walkOf b s = branchOf (suc (startOf s)) b (claimOf s) s (startOf s) 0 start
 
-pub data PaperRow (b : Book) (s : List ℕ) : Told AtomNo → Type 0 where
+pub data PaperRow (b : Book) (s : List ℕ) : Told Claim → Type 0 where
   at-length : ¬ LengthGood s → PaperRow b s (refusedAt 20 0)
   at-mark : LengthGood s → ¬ MarkGood s → PaperRow b s (refusedAt 21 (length s - 2))
   at-trailer : LengthGood s → MarkGood s → ¬ TrailerGood s → PaperRow b s (refusedAt 22 (length s - 4))
@@ -36,18 +37,18 @@ pub data PaperRow (b : Book) (s : List ℕ) : Told AtomNo → Type 0 where
   at-witness : {at : ℕ} → Framed b s → walkOf b s ≡ done (startOf s) → witnessVerdict b s (startOf s) (countOf s) ≡ wrong at
       → PaperRow b s (refusedAt 27 at)
   nowhere : Framed b s → walkOf b s ≡ done (startOf s) → witnessVerdict b s (startOf s) (countOf s) ≡ fine
-      → PaperRow b s (certain (atomOf s))
+      → PaperRow b s (success (claimOf s))
 
 module _ (b : Book) (s : List ℕ) where
   -- ---- every answer has its row
 
   witness-row : Framed b s → walkOf b s ≡ done (startOf s) → (c : Check) → witnessVerdict b s (startOf s) (countOf s) ≡ c
-      → PaperRow b s (witnessTold (atomOf s) c)
+      → PaperRow b s (witnessTold (claimOf s) c)
   unfolding witnessTold
   witness-row f e fine w = nowhere f e w
   witness-row f e (wrong at) w = at-witness f e w
 
-  walk-row : Framed b s → (w : Walked) → walkOf b s ≡ w → PaperRow b s (branchTold b s (atomOf s) (countOf s) (startOf s) w)
+  walk-row : Framed b s → (w : Walked) → walkOf b s ≡ w → PaperRow b s (branchTold b (claimOf s) s (countOf s) (startOf s) w)
   unfolding branchTold
   walk-row f (done at) e =
       eq-either (PaperRow b s) _ _ _ _ (λ p. witness-row f (rw p at e) _ refl) (λ n. at-gap f e n)
@@ -56,19 +57,17 @@ module _ (b : Book) (s : List ℕ) where
       (refused-between b (claimOf s) s (startOf s) _ 0 start (omega arith) e .number)
 
   pub paper-row : PaperRow b s (paperOf b s)
-  unfolding paperOf trailerTold stepsTold
+  unfolding paperOf markedTold trailerTold stepsTold claimed
   paper-row =
       lt-either P _ _ _ _ (λ h. at-length (λ l. omega (arith, l .at-least)))
       λ h. lt-either P _ _ _ _ (λ k. at-length (λ l. omega (arith, l .at-most)))
       λ k. let size : LengthGood s = record { at-least = h; at-most = k } in
-      eq-either P _ _ _ _
-      (λ e. eq-either P _ _ _ _ (λ f. marked size (record { first = e; second = f })) (λ f. at-mark size (λ m. f (m .second))))
-      (λ e. at-mark size (λ m. e (m .first)))
+      mark-either s (λ m. P (markedTold b s m)) (marked size) (at-mark size)
     where
-      P : Told AtomNo → Type 0
+      P : Told Claim → Type 0
       P = PaperRow b s
 
-      marked : LengthGood s → MarkGood s → P (trailerTold b s (atomOf s) (countOf s) (startOf s))
+      marked : LengthGood s → MarkGood s → P (trailerTold b (claimOf s) s (countOf s) (startOf s))
       marked size mark =
           eq-either P _ _ _ _
           (λ t. lt-either P _ _ _ _ (λ a. walk-row (record { size = size; mark = mark; trailer = t; atom = a }) _ refl)
@@ -77,24 +76,20 @@ module _ (b : Book) (s : List ℕ) where
 
   -- ---- and a row's own tests give its answer
 
-  marked-told : LengthGood s → MarkGood s → paperOf b s ≡ trailerTold b s (atomOf s) (countOf s) (startOf s)
-  unfolding paperOf
-  marked-told l m = lt-no _ _ _ _ (l .at-least) ∙ lt-no _ _ _ _ (l .at-most) ∙ eq-yes _ _ _ _ (m .first) ∙ eq-yes _ _ _ _ (m .second)
+  marked-told : LengthGood s → MarkGood s → paperOf b s ≡ trailerTold b (claimOf s) s (countOf s) (startOf s)
+  unfolding paperOf markedTold
+  marked-told l m = lt-no _ _ _ _ (l .at-least) ∙ lt-no _ _ _ _ (l .at-most) ∙ ap (markedTold b s) (mark-tells s m)
 
-  framed-told : Framed b s → {w : Walked} → walkOf b s ≡ w → paperOf b s ≡ branchTold b s (atomOf s) (countOf s) (startOf s) w
-  unfolding trailerTold stepsTold
+  framed-told : Framed b s → {w : Walked} → walkOf b s ≡ w → paperOf b s ≡ branchTold b (claimOf s) s (countOf s) (startOf s) w
+  unfolding trailerTold stepsTold claimed
   framed-told f e = marked-told (f .size) (f .mark) ∙ eq-yes _ _ _ _ (f .trailer) ∙ lt-yes _ _ _ _ (f .atom) ∙ rw e
 
-  pub row-told : {x : Told AtomNo} → PaperRow b s x → paperOf b s ≡ x
-  unfolding paperOf trailerTold branchTold witnessTold
+  pub row-told : {x : Told Claim} → PaperRow b s x → paperOf b s ≡ x
+  unfolding paperOf markedTold trailerTold branchTold witnessTold claimed
   row-told (at-length m) =
       lt-either (λ x. x ≡ refusedAt 20 0) _ _ _ _ (λ _. refl) λ h. lt-either (λ x. x ≡ refusedAt 20 0) _ _ _ _ (λ _. refl)
       λ k. absurd (m (record { at-least = h; at-most = k }))
-  row-told (at-mark l m) =
-      let P : Told AtomNo → Type 0 = λ x. x ≡ refusedAt 21 (length s - 2) in
-      lt-no _ _ _ _ (l .at-least)
-      ∙ lt-no _ _ _ _ (l .at-most)
-      ∙ eq-either P _ _ _ _ (λ e. eq-either P _ _ _ _ (λ f. absurd (m (record { first = e; second = f }))) (λ _. refl)) (λ _. refl)
+  row-told (at-mark l m) = lt-no _ _ _ _ (l .at-least) ∙ lt-no _ _ _ _ (l .at-most) ∙ ap (markedTold b s) (no-mark s m)
   row-told (at-trailer l m t) = marked-told l m ∙ eq-no _ _ _ _ t
   row-told (at-atom l m t a) =
       marked-told l m ∙ eq-yes _ _ _ _ t ∙ lt-either (λ x. x ≡ refusedAt 23 (length s - 6)) _ _ _ _ (λ h. absurd (a h)) (λ _. refl)
@@ -104,26 +99,26 @@ module _ (b : Book) (s : List ℕ) where
   row-told (at-witness f e w) = framed-told f e ∙ eq-yes _ _ _ _ refl ∙ rw w
   row-told (nowhere f e w) = framed-told f e ∙ eq-yes _ _ _ _ refl ∙ rw w
 
-  pub row-of : {x : Told AtomNo} → paperOf b s ≡ x → PaperRow b s x
+  pub row-of : {x : Told Claim} → paperOf b s ≡ x → PaperRow b s x
   row-of e = subst (PaperRow b s) e paper-row
 
 -- ---- the book is refused, or the paper is checked
 
-pub data CheckRow (book paper : List ℕ) : Told AtomNo → Type 0 where
+pub data CheckRow (book paper : List ℕ) : Told Claim → Type 0 where
   at-book : {i at : ℕ} → readOf book ≡ bad i at → CheckRow book paper (refusedAt i at)
-  at-paper : {x : Told AtomNo} → GoodBook book (bookIn book) → PaperRow (bookIn book) paper x → CheckRow book paper x
+  at-paper : {x : Told Claim} → GoodBook book (bookIn book) → PaperRow (bookIn book) paper x → CheckRow book paper x
 
 module _ (book paper : List ℕ) where
   checks-paper : {n k index : ℕ} {l : List Rule} → readOf book ≡ good n k index l → checkOf book paper ≡ paperOf (bookIn book) paper
   unfolding checkOf bookIn checkRead bookOf
   checks-paper e = rw e
 
-  pub row-checked : {x : Told AtomNo} → CheckRow book paper x → checkOf book paper ≡ x
+  pub row-checked : {x : Told Claim} → CheckRow book paper x → checkOf book paper ≡ x
   unfolding checkOf checkRead
   row-checked (at-book e) = rw e
   row-checked (at-paper g r) = checks-paper (good-read book g) ∙ row-told (bookIn book) paper r
 
-  pub checked-row : {x : Told AtomNo} → checkOf book paper ≡ x → CheckRow book paper x
+  pub checked-row : {x : Told Claim} → checkOf book paper ≡ x → CheckRow book paper x
   checked-row e = subst (CheckRow book paper) e (by-read (readOf book) refl)
     where
       by-read : (x : BookRead) → readOf book ≡ x → CheckRow book paper (checkOf book paper)

@@ -10,7 +10,8 @@ use Rattle.meaning.specs.declared.RuleNo.{RuleNo}
 use Rattle.meaning.specs.Choice.{ifLt, ifb}
 use Rattle.meaning.specs.Books.{ruleNo, Book, count}
 use Rattle.meaning.specs.Colours.{Pair, offSide, put, mayOn, blocked, uncoloured}
-use Rattle.meaning.specs.Claim.{Claim, ended}
+use Rattle.meaning.specs.declared.kind.Claim.{Claim}
+use Rattle.meaning.specs.Claim.{ended}
 use Rattle.meaning.specs.Paper.{unfounded, codeOn, codeOff, codeUnfounded, codeSplit, codeEnd}
 use Rattle.meaning.proofs.Choice.{b-yes, b-no, lt-yes, lt-no, eq-yes, eq-no, eq-either}
 use Rattle.checker.specs.declared.step.Step.{Step}

@@ -14,7 +14,7 @@ use Rattle.meaning.specs.declared.RuleNo.{RuleNo}
 use Rattle.meaning.specs.Sets.{every, ascending}
 use Rattle.meaning.specs.Books.{ruleNo, Book, count, InBook}
 use Rattle.meaning.specs.Colours.{Pair, onSide, offSide, put, mayOn, blocked, uncoloured}
-use Rattle.meaning.specs.Claim.{Claim}
+use Rattle.meaning.specs.declared.kind.Claim.{Claim}
 use Rattle.meaning.specs.Paper.{unfounded, codeOn, codeOff, codeUnfounded, codeSplit, codeEnd}
 use Rattle.meaning.specs.Choice.{ifb, ifLt}
 use Rattle.meaning.proofs.Choice.{b-yes, b-no, lt-yes, lt-no, eq-yes, eq-no, lt-either}

@@ -7,7 +7,7 @@ use mathlib.Core.List.{List, [], _∷_}
 use Prim.Native.Nat.{ℕ, zero, suc, _-_, _<_}
 use Rattle.meaning.specs.Books.{Book}
 use Rattle.meaning.specs.Colours.{Pair, onSide, offSide, put}
-use Rattle.meaning.specs.Claim.{Claim}
+use Rattle.meaning.specs.declared.kind.Claim.{Claim}
 use Rattle.checker.specs.Steps.{Stepped, goes, parts, ends, fails, stepOf}
 
 -- a branch that ends before a place, or a refusal's number and place

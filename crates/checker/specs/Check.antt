@@ -5,50 +5,52 @@
 use mathlib.Core.List.{List}
 use Prim.Native.Nat.{ℕ, suc, _+_, _-_}
 use lib.ListN.{length, getD}
-use Rattle.meaning.specs.declared.AtomNo.{AtomNo}
 use Rattle.meaning.specs.Books.{atomNo, Book}
 use Rattle.meaning.specs.Colours.{start}
-use Rattle.meaning.specs.Claim.{Claim, named}
+use Rattle.meaning.specs.declared.kind.Claim.{Claim}
+use Rattle.meaning.specs.declared.kind.Marked.{Marked}
+use Rattle.meaning.specs.declared.kind.Marked.the-variants.{Of, Neither}
+use Rattle.meaning.specs.Claim.{claim, claimed, markedBy}
 use Rattle.meaning.specs.Choice.{ifLt, ifEq}
-use Rattle.meaning.specs.Told.{Told, refusedAt}
+use Rattle.meaning.specs.Told.{Told, success, refusedAt}
 use Rattle.book.specs.Format.{u16At, BookRead, good, bad, readOf}
-use Rattle.checker.specs.Numbers.{certain}
 use Rattle.checker.specs.Branches.{Walked, done, wrongAt, branchOf}
 use Rattle.checker.specs.Witness.{Check, fine, wrong, witnessVerdict}
 
 -- the witness stands just behind the last 45, and is right
-unfoldable pub witnessTold : AtomNo → Check → Told AtomNo
-witnessTold a fine = certain a
-witnessTold a (wrong at) = refusedAt 27 at
+unfoldable pub witnessTold : Claim → Check → Told Claim
+witnessTold k fine = success k
+witnessTold k (wrong at) = refusedAt 27 at
 
-unfoldable pub branchTold : Book → List ℕ → AtomNo → ℕ → ℕ → Walked → Told AtomNo
-branchTold b s a w from (done at) = ifEq at from (witnessTold a (witnessVerdict b s from w)) (refusedAt 26 at)
-branchTold b s a w from (wrongAt i at) = refusedAt i at
+unfoldable pub branchTold : Book → Claim → List ℕ → ℕ → ℕ → Walked → Told Claim
+branchTold b k s w from (done at) = ifEq at from (witnessTold k (witnessVerdict b s from w)) (refusedAt 26 at)
+branchTold b k s w from (wrongAt i at) = refusedAt i at
 
 -- the steps, with the claim that the paper makes
-unfoldable pub stepsTold : Book → Claim → List ℕ → AtomNo → ℕ → ℕ → Told AtomNo
-stepsTold b k s a w from = branchTold b s a w from (branchOf (suc from) b k s from 0 start)
+unfoldable pub stepsTold : Book → Claim → List ℕ → ℕ → ℕ → Told Claim
+stepsTold b k s w from = branchTold b k s w from (branchOf (suc from) b k s from 0 start)
 
--- a paper of the trailer's atom a, witness count w and witness start
-unfoldable pub trailerTold : Book → List ℕ → AtomNo → ℕ → ℕ → Told AtomNo
-trailerTold b s a w from =
+-- a paper of this claim, with the trailer's witness count w and witness start
+unfoldable pub trailerTold : Book → Claim → List ℕ → ℕ → ℕ → Told Claim
+trailerTold b k s w from =
     ifEq (from + w + 6) (length s)
-    (ifLt (a .0) (b .atoms) (stepsTold b (named a) s a w from) (refusedAt 23 (length s - 6)))
+    (ifLt (claimed k .0) (b .atoms) (stepsTold b k s w from) (refusedAt 23 (length s - 6)))
     (refusedAt 22 (length s - 4))
 
-unfoldable pub paperOf : Book → List ℕ → Told AtomNo
+-- the mark tells the kind of claim, and the trailer its atom
+unfoldable pub markedTold : Book → List ℕ → Marked → Told Claim
+markedTold b s (Of q) = trailerTold b (claim q (atomNo (getD s (length s - 6) 0))) s (getD s (length s - 5) 0) (u16At s (length s - 4))
+markedTold b s Neither = refusedAt 21 (length s - 2)
+
+unfoldable pub paperOf : Book → List ℕ → Told Claim
 paperOf b s =
     ifLt (length s) 6 (refusedAt 20 0)
     (ifLt 60000 (length s) (refusedAt 20 0)
-    (ifEq (getD s (length s - 2) 0) 0x50
-    (ifEq (getD s (length s - 1) 0) 0x46
-    (trailerTold b s (atomNo (getD s (length s - 6) 0)) (getD s (length s - 5) 0) (u16At s (length s - 4)))
-    (refusedAt 21 (length s - 2)))
-    (refusedAt 21 (length s - 2))))
+    (markedTold b s (markedBy (getD s (length s - 2) 0) (getD s (length s - 1) 0))))
 
-unfoldable pub checkRead : BookRead → List ℕ → Told AtomNo
+unfoldable pub checkRead : BookRead → List ℕ → Told Claim
 checkRead (good n k index l) paper = paperOf (record { atoms = n; rules = l }) paper
 checkRead (bad i at) paper = refusedAt i at
 
-unfoldable pub checkOf : List ℕ → List ℕ → Told AtomNo
+unfoldable pub checkOf : List ℕ → List ℕ → Told Claim
 checkOf book paper = checkRead (readOf book) paper

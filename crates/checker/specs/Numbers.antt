@@ -1,16 +1,27 @@
--- What checking tells. Document 01, "Numbers given back": "Acceptance tells the claimed atom."
+-- What checking tells. Document 01, "Numbers given back": "Acceptance tells the claimed atom."; document 02, request 2: "the checker takes
+-- both kinds and tells which it accepted".
 use Rattle.meaning.specs.declared.AtomNo.{AtomNo}
+use Rattle.meaning.specs.declared.kind.Kind.{Kind}
+use Rattle.meaning.specs.declared.kind.Kind.the-variants.{Naming, Clearing}
+use Rattle.meaning.specs.declared.kind.Claim.{Claim}
+use Rattle.meaning.specs.Claim.{claim}
 use Rattle.meaning.specs.Told.{Told, success, refusedAt}
 use Rattle.book.specs.Numbers.{numberOf, placeOf}
 use Rattle.checker.specs.declared.answer.Checked.{Checked}
-use Rattle.checker.specs.declared.answer.Checked.the-variants.{Certain, Book, Length, Mark, Trailer, Atom, Form, Fails, Gap, Witness}
+use Rattle.checker.specs.declared.answer.Checked.the-variants.{Accepted, Book, Length, Mark, Trailer, Atom, Form, Fails, Gap, Witness}
 
--- success tells the atom that is certain
-abbrev pub certain : AtomNo → Told AtomNo
-certain a = success a
+-- success tells the claim, its kind and its atom
+abbrev pub accepted : Kind → AtomNo → Told Claim
+accepted q a = success (claim q a)
 
-abbrev pub told : Checked → Told AtomNo
-told (Certain a) = certain a
+abbrev pub certain : AtomNo → Told Claim
+certain a = accepted Naming a
+
+abbrev pub clear : AtomNo → Told Claim
+clear a = accepted Clearing a
+
+abbrev pub told : Checked → Told Claim
+told (Accepted k) = success k
 told (Book f) = refusedAt (numberOf f) (placeOf f)
 told Length = refusedAt 20 0
 told (Mark at) = refusedAt 21 at

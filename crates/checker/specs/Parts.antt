@@ -15,7 +15,7 @@ use lib.ListN.{length, take, drop}
 use Rattle.meaning.specs.declared.RuleNo.{RuleNo}
 use Rattle.meaning.specs.Books.{ruleNo, Book, count, InBook}
 use Rattle.meaning.specs.Colours.{Pair, onSide, offSide, put}
-use Rattle.meaning.specs.Claim.{Claim}
+use Rattle.meaning.specs.declared.kind.Claim.{Claim}
 use Rattle.meaning.specs.Written.{pair}
 use Rattle.book.specs.declared.reader.Shape.{Shape}
 use Rattle.book.specs.Format.{ReadAs}

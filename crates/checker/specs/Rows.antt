@@ -9,6 +9,7 @@
 use mathlib.Core.Path.{_≡_}
 use mathlib.Core.Bool.{Bool, true, false}
 use mathlib.Core.List.{List, [], _∷_, map, List·Memᴰ}
+use mathlib.Core.Logic.{_⊎_}
 use Prim.Native.Nat.{ℕ, _+_, _-_, _≤_, _<_}
 use lib.ListN.{length, getD, take, drop}
 use Rattle.meaning.specs.declared.AtomNo.{AtomNo}
@@ -16,14 +17,18 @@ use Rattle.meaning.specs.declared.RuleNo.{RuleNo}
 use Rattle.meaning.specs.Sets.{ascending}
 use Rattle.meaning.specs.Books.{atomNo, ruleNo, Book, count, InBook}
 use Rattle.meaning.specs.Colours.{Pair, onSide, offSide, put, start, mayOn, blocked, uncoloured}
-use Rattle.meaning.specs.Claim.{Claim, named, ended}
+use Rattle.meaning.specs.declared.kind.Kind.{Kind}
+use Rattle.meaning.specs.declared.kind.Kind.the-variants.{Naming, Clearing}
+use Rattle.meaning.specs.declared.kind.Claim.{Claim}
+use Rattle.meaning.specs.Claim.{claim, ended}
+use Rattle.meaning.specs.Choice.{ifEq}
 use Rattle.meaning.specs.Paper.{unfounded, codeOn, codeOff, codeUnfounded, codeSplit, codeEnd, Branch}
 use Rattle.book.specs.Format.{u16At, partFrom}
 use Rattle.checker.specs.Steps.{Stepped, goes, parts, ends}
 
 -- ---- the trailer
 
--- "claimed atom, count w of witness rules, start of the witness (two bytes), then 50 46"
+-- "claimed atom, count w of witness rules, start of the witness (two bytes), then 50 46"; a paper that clears ends in 50 43
 abbrev pub atomOf : List ℕ → AtomNo
 atomOf s = atomNo (getD s (length s - 6) 0)
 
@@ -33,8 +38,11 @@ countOf s = getD s (length s - 5) 0
 abbrev pub startOf : List ℕ → ℕ
 startOf s = u16At s (length s - 4)
 
+abbrev pub kindOf : List ℕ → Kind
+kindOf s = ifEq (getD s (length s - 1) 0) 0x43 Clearing Naming
+
 abbrev pub claimOf : List ℕ → Claim
-claimOf s = named (atomOf s)
+claimOf s = claim (kindOf s) (atomOf s)
 
 abbrev pub witnessBytes : List ℕ → List ℕ
 witnessBytes s = take (countOf s) (drop (startOf s) s)
@@ -44,10 +52,10 @@ pub record LengthGood (s : List ℕ) : Type 0 where
   pub at-least : 6 ≤ length s
   pub at-most : length s ≤ 60000
 
--- 21: "mark isn't 50 46"
+-- 21: "21 now means neither mark" (document 02, request 2)
 pub record MarkGood (s : List ℕ) : Type 0 where
   pub first : getD s (length s - 2) 0 ≡ 0x50
-  pub second : getD s (length s - 1) 0 ≡ 0x46
+  pub second : (getD s (length s - 1) 0 ≡ 0x46) ⊎ (getD s (length s - 1) 0 ≡ 0x43)
 
 -- 22: "witness start + w + 6 isn't the length"
 abbrev pub TrailerGood : List ℕ → Type 0

@@ -10,7 +10,8 @@ use Rattle.meaning.specs.declared.RuleNo.{RuleNo}
 use Rattle.meaning.specs.Sets.{every, ascending}
 use Rattle.meaning.specs.Books.{ruleNo, Book, count}
 use Rattle.meaning.specs.Colours.{Pair, onSide, offSide, put, mayOn, blocked, uncoloured}
-use Rattle.meaning.specs.Claim.{Claim, ended}
+use Rattle.meaning.specs.declared.kind.Claim.{Claim}
+use Rattle.meaning.specs.Claim.{ended}
 use Rattle.meaning.specs.Paper.{unfounded, codeOn, codeOff, codeUnfounded, codeSplit, codeEnd}
 use Rattle.meaning.specs.Choice.{ifb, ifLt, ifEq}
 

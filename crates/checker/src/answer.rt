@@ -1,14 +1,15 @@
-// What checking a paper answers: the atom that is certain, or why the paper is refused.
+// What checking a paper answers: the claim that holds, or why the paper is refused.
 use book::Refusal;
-use meaning::AtomNo;
+use meaning::Claim;
 
 pub enum Checked {
-    Certain(AtomNo),
+    // The book has a reading, and the claimed atom is in all of them or in none, by the claim's kind.
+    Accepted(Claim),
     // 1 to 7: the book is refused.
     Book(Refusal),
     // 20: under 6 or over 60,000 bytes.
     Length,
-    // 21: the mark isn't 50 46.
+    // 21: the mark is neither 50 46 nor 50 43.
     Mark(usize),
     // 22: witness start + w + 6 isn't the length.
     Trailer(usize),

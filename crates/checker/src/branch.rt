@@ -3,7 +3,6 @@
 // level holds is its colourings: about 5 KB, and under 1.5 MB for the deepest paper.
 ghost use mathlib.Core.Path.{_≡_};
 ghost use Prim.Native.Nat.{_+_};
-ghost use Rattle.meaning.specs.Claim.{named};
 ghost use Rattle.meaning.specs.Written.{pair};
 ghost use Rattle.book.specs.Format.{bookIn};
 ghost use Rattle.checker.specs.Steps.{parts, stepOf};
@@ -34,7 +33,7 @@ pub fn branch(
     c: Colouring,
 ) -> Walked
     requires { ⌜ Ready (now book) shape (now paper) (trailer .from) ⌝ }
-    ensures { λ w. ⌜ BranchTo (bookIn (now (book .entry))) (named (trailer .atom))
+    ensures { λ w. ⌜ BranchTo (bookIn (now (book .entry))) (trailer .claim)
         (now (paper .entry)) (trailer .from) at (pair c) (walked w)
         × Ends at (trailer .from) (walked w) ⌝ }
 {
@@ -65,9 +64,9 @@ fn split(
 ) -> Walked
     requires { ⌜ Ready (now book) shape (now paper) (trailer .from)
         × RuleWithin (bookIn (now book)) (trailer .from) at r
-        × (stepOf (bookIn (now book)) (named (trailer .atom)) (now paper) (trailer .from) at
+        × (stepOf (bookIn (now book)) (trailer .claim) (now paper) (trailer .from) at
         (pair c) ≡ parts (at + 2) r) ⌝ }
-    ensures { λ w. ⌜ BranchTo (bookIn (now (book .entry))) (named (trailer .atom))
+    ensures { λ w. ⌜ BranchTo (bookIn (now (book .entry))) (trailer .claim)
         (now (paper .entry)) (trailer .from) at (pair c) (walked w)
         × Ends at (trailer .from) (walked w) ⌝ }
 {

@@ -5,8 +5,8 @@ ghost use mathlib.Core.Bool.{_&&_};
 ghost use Prim.Native.Nat.{_≤_, _<_};
 ghost use Rattle.meaning.specs.Sets.{some, someBelow};
 ghost use Rattle.meaning.specs.Books.{ruleNo, rule};
-ghost use Rattle.meaning.specs.Colours.{heads, mayOn, uncoloured};
-ghost use Rattle.meaning.specs.Claim.{named, ended};
+ghost use Rattle.meaning.specs.Colours.{heads, allIn, mayOn, uncoloured};
+ghost use Rattle.meaning.specs.Claim.{shown, ended};
 ghost use Rattle.meaning.specs.Written.{of, lent};
 ghost use Rattle.book.specs.Format.{bookIn, ReadAs};
 use book::Shape;
@@ -17,7 +17,9 @@ use book::is_blocked;
 use book::lost_in;
 use book::wide;
 use meaning::AtomNo;
+use meaning::Claim;
 use meaning::Colouring;
+use meaning::Kind;
 use meaning::RuleNo;
 
 // 41: each positive atom is the head of an on rule, and for each negative atom all rules with that
@@ -98,20 +100,57 @@ fn is_head(book: &[u8], shape: Shape, a: AtomNo, set: &[bool; 255]) -> bool
     false
 }
 
-// 45: some rule is in both sets, or an on rule has the claimed atom as head.
-pub fn is_ended<'a>(
+// All rules with the atom as head are in the set.
+fn is_lost(book: &[u8], shape: Shape, a: AtomNo, set: &[bool; 255]) -> bool
+    requires { ⌜ ReadAs (now book) shape ⌝ }
+    ensures { λ b. ⌜ b ≡ allIn (bookIn (now (book .entry))) (of (now (set .entry))) a ⌝ }
+{
+    let mut r: u8 = 0;
+    while r < shape.rules {
+        if !set[wide(r)] {
+            if head(book, shape, RuleNo(r)).0 == a.0 {
+                return false;
+            }
+        }
+        r += 1;
+    }
+    true
+}
+
+// The claim is shown: an on rule has the claimed atom as head, or all rules with it as head are off.
+fn is_shown<'a>(
     book: &[u8],
     shape: Shape,
-    a: AtomNo,
+    claim: Claim,
     on: &'a [bool; 255],
     off: &'a [bool; 255],
 ) -> bool
     requires { ⌜ ReadAs (now book) shape ⌝ }
     ensures { λ b. ⌜ b ≡
-        ended (bookIn (now (book .entry))) (named a) (lent (now (on .entry)) (now (off .entry))) ⌝ }
+        shown (bookIn (now (book .entry))) claim (lent (now (on .entry)) (now (off .entry))) ⌝ }
+{
+    let kind = claim.kind;
+    let atom = claim.atom;
+    match kind {
+        Kind::Naming => is_head(book, shape, atom, on),
+        Kind::Clearing => is_lost(book, shape, atom, off),
+    }
+}
+
+// 45: some rule is in both sets, or the claim is shown.
+pub fn is_ended<'a>(
+    book: &[u8],
+    shape: Shape,
+    claim: Claim,
+    on: &'a [bool; 255],
+    off: &'a [bool; 255],
+) -> bool
+    requires { ⌜ ReadAs (now book) shape ⌝ }
+    ensures { λ b. ⌜ b ≡
+        ended (bookIn (now (book .entry))) claim (lent (now (on .entry)) (now (off .entry))) ⌝ }
 {
     if is_clashing(wide(shape.rules), on, off) {
         return true;
     }
-    is_head(book, shape, a, on)
+    is_shown(book, shape, claim, on, off)
 }

@@ -3,10 +3,10 @@
 ghost use mathlib.Core.Path.{_≡_};
 ghost use Prim.Native.Nat.{_+_, _≤_};
 ghost use lib.ListN.{length};
-ghost use Rattle.meaning.specs.Claim.{named};
+ghost use Rattle.meaning.specs.declared.kind.Marked.the-variants.{Of};
 ghost use Rattle.book.specs.Format.{bookIn, ReadAs};
 ghost use Rattle.checker.specs.Numbers.{told};
-ghost use Rattle.checker.specs.Check.{stepsTold, paperOf, checkOf};
+ghost use Rattle.checker.specs.Check.{stepsTold, markedTold, paperOf, checkOf};
 use crate::answer::Checked;
 use crate::branch::Walked;
 use crate::branch::branch;
@@ -19,8 +19,10 @@ use book::read_book;
 use book::u16_at;
 use book::wide;
 use meaning::AtomNo;
+use meaning::Claim;
 use meaning::Colouring;
-use meaning::NAMING_MARK;
+use meaning::Kind;
+use meaning::Marked;
 
 // The steps from the empty colouring, then that nothing stands between them and the witness, then
 // the witness.
@@ -28,10 +30,10 @@ fn check_steps(book: &[u8], shape: Shape, paper: &[u8], trailer: Trailer) -> Che
     requires { ⌜ ReadAs (now book) shape
         × (trailer .from + trailer .count + 6 ≡ length (now paper))
         × (length (now paper) ≤ 60000) ⌝ }
-    ensures { λ r. ⌜ told r ≡ stepsTold (bookIn (now (book .entry))) (named (trailer .atom))
-        (now (paper .entry)) (trailer .atom) (trailer .count) (trailer .from) ⌝ }
+    ensures { λ r. ⌜ told r ≡ stepsTold (bookIn (now (book .entry))) (trailer .claim)
+        (now (paper .entry)) (trailer .count) (trailer .from) ⌝ }
 {
-    let atom = trailer.atom;
+    let claim = trailer.claim;
     match branch(book, shape, paper, trailer, 0, Colouring::empty()) {
         Walked::Form(at) => Checked::Form(at),
         Walked::Fails(at) => Checked::Fails(at),
@@ -41,13 +43,37 @@ fn check_steps(book: &[u8], shape: Shape, paper: &[u8], trailer: Trailer) -> Che
             }
             match check_witness(book, shape, paper, trailer) {
                 Verdict::Wrong(at) => Checked::Witness(at),
-                Verdict::Right => Checked::Certain(atom),
+                Verdict::Right => Checked::Accepted(claim),
             }
         }
     }
 }
 
-// A paper for a good book.
+// A paper with a mark of this kind: the trailer, then the steps and the witness.
+fn check_claim(book: &[u8], shape: Shape, paper: &[u8], kind: Kind) -> Checked
+    requires { ⌜ ReadAs (now book) shape
+        × (6 ≤ length (now paper)) × (length (now paper) ≤ 60000) ⌝ }
+    ensures { λ r. ⌜ told r ≡
+        markedTold (bookIn (now (book .entry))) (now (paper .entry)) (Of kind) ⌝ }
+{
+    let len = paper.len();
+    let atom = paper[len - 6];
+    let count = wide(paper[len - 5]);
+    let from = u16_at(paper, len - 4);
+    if from + count + 6 != len {
+        return Checked::Trailer(len - 4);
+    }
+    if shape.atoms <= atom {
+        return Checked::Atom(len - 6);
+    }
+    let claim = Claim {
+        kind,
+        atom: AtomNo(atom),
+    };
+    check_steps(book, shape, paper, Trailer { claim, count, from })
+}
+
+// A paper for a good book: its length and its mark first.
 fn check_paper(book: &[u8], shape: Shape, paper: &[u8]) -> Checked
     requires { ⌜ ReadAs (now book) shape ⌝ }
     ensures { λ r. ⌜ told r ≡ paperOf (bookIn (now (book .entry))) (now (paper .entry)) ⌝ }
@@ -59,31 +85,13 @@ fn check_paper(book: &[u8], shape: Shape, paper: &[u8]) -> Checked
     if 60000 < len {
         return Checked::Length;
     }
-    if paper[len - 2] != NAMING_MARK[0] {
-        return Checked::Mark(len - 2);
+    match Kind::by_mark(paper[len - 2], paper[len - 1]) {
+        Marked::Neither => Checked::Mark(len - 2),
+        Marked::Of(kind) => check_claim(book, shape, paper, kind),
     }
-    if paper[len - 1] != NAMING_MARK[1] {
-        return Checked::Mark(len - 2);
-    }
-    let atom = paper[len - 6];
-    let count = wide(paper[len - 5]);
-    let from = u16_at(paper, len - 4);
-    if from + count + 6 != len {
-        return Checked::Trailer(len - 4);
-    }
-    if shape.atoms <= atom {
-        return Checked::Atom(len - 6);
-    }
-    let trailer = Trailer {
-        atom: AtomNo(atom),
-        count,
-        from,
-    };
-    check_steps(book, shape, paper, trailer)
 }
 
-// The atom that the paper proves certain, or the first thing that is wrong with the book or the
-// paper.
+// The claim that the paper proves, or the first thing that is wrong with the book or the paper.
 pub fn check(book: &[u8], paper: &[u8]) -> Checked
     ensures { λ r. ⌜ told r ≡ checkOf (now (book .entry)) (now (paper .entry)) ⌝ }
 {

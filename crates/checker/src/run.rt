@@ -1,5 +1,4 @@
 // The steps of a branch, one after another, up to its end or its split.
-ghost use Rattle.meaning.specs.Claim.{named};
 ghost use Rattle.meaning.specs.Written.{pair};
 ghost use Rattle.book.specs.Format.{bookIn};
 ghost use Rattle.checker.specs.Parts.{Ready, Runs};
@@ -28,7 +27,7 @@ pub fn run_steps(
     c: Colouring,
 ) -> Ran
     requires { ⌜ Ready (now book) shape (now paper) (trailer .from) ⌝ }
-    ensures { λ ran. ⌜ Runs (bookIn (now (book .entry))) (named (trailer .atom))
+    ensures { λ ran. ⌜ Runs (bookIn (now (book .entry))) (trailer .claim)
         (now (paper .entry)) (trailer .from) at (pair c) ran ⌝ }
 {
     let mut colours = c;

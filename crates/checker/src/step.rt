@@ -4,7 +4,6 @@ ghost use mathlib.Core.Bool.{Bool};
 ghost use mathlib.Core.List.{List};
 ghost use Prim.Native.Nat.{_<_};
 ghost use lib.ListN.{getD};
-ghost use Rattle.meaning.specs.Claim.{named};
 ghost use Rattle.meaning.specs.Paper.{codeUnfounded, codeEnd};
 ghost use Rattle.meaning.specs.Written.{lent};
 ghost use Rattle.book.specs.Format.{bookIn};
@@ -59,7 +58,7 @@ fn check_rule_step<'a>(
 ) -> Step
     requires { ⌜ Ready (now book) shape (now paper) (trailer .from) × (at < trailer .from)
         × (getD (now paper) at 0 ≡ codeUnfounded → ⊥) × (getD (now paper) at 0 ≡ codeEnd → ⊥) ⌝ }
-    ensures { λ x. ⌜ Finds (bookIn (now (book .entry))) (named (trailer .atom))
+    ensures { λ x. ⌜ Finds (bookIn (now (book .entry))) (trailer .claim)
         (now (paper .entry)) (trailer .from) at
         (lent (now (on .entry)) (now (off .entry))) x ⌝ }
 {
@@ -105,7 +104,7 @@ fn check_list_step(
     requires { ⌜ Ready (now book) shape (now paper) (trailer .from) × (at < trailer .from)
         × (getD (now paper) at 0 ≡ codeUnfounded) ⌝ }
     ensures { λ x. ⌜ ((on : List Bool) → Finds (bookIn (now (book .entry)))
-        (named (trailer .atom)) (now (paper .entry)) (trailer .from) at
+        (trailer .claim) (now (paper .entry)) (trailer .from) at
         (lent on (now (off .entry))) x) ⌝ }
 {
     if trailer.from <= at + 1 {
@@ -140,7 +139,7 @@ pub fn check_step<'a>(
     off: &'a [bool; 255],
 ) -> Step
     requires { ⌜ Ready (now book) shape (now paper) (trailer .from) ⌝ }
-    ensures { λ x. ⌜ Finds (bookIn (now (book .entry))) (named (trailer .atom))
+    ensures { λ x. ⌜ Finds (bookIn (now (book .entry))) (trailer .claim)
         (now (paper .entry)) (trailer .from) at
         (lent (now (on .entry)) (now (off .entry))) x ⌝ }
 {
@@ -152,8 +151,8 @@ pub fn check_step<'a>(
         return check_list_step(book, shape, paper, trailer, at, off);
     }
     if code == STEP_END {
-        let atom = trailer.atom;
-        if is_ended(book, shape, atom, on, off) {
+        let claim = trailer.claim;
+        if is_ended(book, shape, claim, on, off) {
             return Step::Stops(Stop::End);
         }
         return Step::Stops(Stop::Fails);

@@ -1,9 +1,9 @@
 // What a paper's last bytes say.
-use meaning::AtomNo;
+use meaning::Claim;
 
-// The claimed atom, how many rules the witness lists, and the byte that it starts at.
+// The claim, how many rules the witness lists, and the byte that it starts at.
 pub struct Trailer {
-    pub atom: AtomNo,
+    pub claim: Claim,
     pub count: usize,
     pub from: usize,
 }

@@ -1,61 +1,70 @@
 // Checks a paper against a book. If it is accepted then, whoever wrote the paper, the book has a
-// reading and the atom is in all of them.
+// reading and the atom is in all of them, or, by a paper that clears, in none.
 //
 //     checking BOOKFILE PAPERFILE
 
+ghost use Rattle.io.specs.Counts.{Counts};
 use checker::Checked;
 use checker::check;
-use meaning::AtomNo;
-use talk::explain;
+use meaning::Claim;
+use meaning::Kind;
+use talk::BOOK_ROOM;
+use talk::PAPER_ROOM;
 use talk::explain_book;
+use talk::explain_paper;
+use talk::open_call;
 use talk::print;
-use talk::print_number;
+use talk::put_number;
+use talk::put_text;
 use talk::read_argument;
+use talk::refused_paper;
 
-fn accept(atom: AtomNo) {
-    print(b"accepted: atom ");
-    print_number(atom.0 as u64);
-    print(b" is certain\n");
+// What holds of the atom of a claim of this kind, and the line end.
+fn put_holds(kind: Kind, line: &mut [u8], held: usize) -> usize
+    requires { ⌜ Counts held (now line) ⌝ }
+    ensures { λ r. ⌜ Counts r (now (line .exit)) ⌝ }
+{
+    match kind {
+        Kind::Naming => put_text(b" is certain\n", line, held),
+        Kind::Clearing => put_text(b" is in no reading\n", line, held),
+    }
+}
+
+fn accept(claim: Claim) {
+    let mut line = [0u8; 64];
+    let held = put_text(b"accepted: atom ", &mut line, 0);
+    let held = put_number(claim.atom.0 as u64, &mut line, held);
+    let kind = claim.kind;
+    let held = put_holds(kind, &mut line, held);
+    print(&line[..held]);
 }
 
 // Asks the checker, and writes what it answers.
 fn tell_checked(book: &[u8], paper: &[u8]) {
-    match check(book, paper) {
-        Checked::Certain(atom) => accept(atom),
-        Checked::Book(why) => explain_book(why),
-        Checked::Length => explain(20, 0, b"the paper has under 6 or over 60,000 bytes"),
-        Checked::Mark(at) => explain(21, at, b"the paper's last two bytes are not 50 46"),
-        Checked::Trailer(at) => explain(22, at, b"the paper's witness does not end at its trailer"),
-        Checked::Atom(at) => explain(23, at, b"the book has no such atom as the paper claims"),
-        Checked::Form(at) => explain(
-            24,
-            at,
-            b"the step is malformed, or it passes into the witness",
-        ),
-        Checked::Fails(at) => explain(25, at, b"the step's condition does not hold"),
-        Checked::Gap(at) => explain(26, at, b"bytes stand between the last step and the witness"),
-        Checked::Witness(at) => explain(27, at, b"the witness is wrong"),
+    let answer = check(book, paper);
+    match answer {
+        Checked::Accepted(claim) => accept(claim),
+        Checked::Book(why) => explain_book(why, book),
+        _ => explain_paper(refused_paper(answer), paper),
+    }
+}
+
+// Reads the paper, and checks it.
+fn check_argument(book: &[u8]) {
+    let mut paper = [0u8; PAPER_ROOM];
+    let taken = read_argument(2, &mut paper);
+    if taken.good {
+        let n = taken.count;
+        tell_checked(book, &paper[..n]);
     }
 }
 
 fn main() {
-    if os::arg_count() != 3 {
-        print(b"bad call: checking BOOKFILE PAPERFILE\n");
-        return;
+    let is_right = os::arg_count() == 3;
+    let mut book = [0u8; BOOK_ROOM];
+    let taken = open_call(is_right, b"checking BOOKFILE PAPERFILE", &mut book);
+    if taken.good {
+        let n = taken.count;
+        check_argument(&book[..n]);
     }
-    // One byte more than the longest book has, and the longest paper, so that a longer file is
-    // refused and not cut.
-    let mut book = [0u8; 9442];
-    let taken = read_argument(1, &mut book);
-    if !taken.good {
-        return;
-    }
-    let n = taken.count;
-    let mut paper = [0u8; 60001];
-    let other = read_argument(2, &mut paper);
-    if !other.good {
-        return;
-    }
-    let m = other.count;
-    tell_checked(&book[..n], &paper[..m]);
 }

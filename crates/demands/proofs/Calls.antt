@@ -7,7 +7,9 @@ use Prim.Native.Nat.{ℕ}
 use native.Mathlib.Omega.{arith}
 use Rattle.meaning.specs.declared.AtomNo.{AtomNo}
 use Rattle.meaning.specs.Books.{Atoms, Book}
-use Rattle.meaning.specs.Claim.{named, claimed}
+use Rattle.meaning.specs.declared.kind.Kind.{Kind}
+use Rattle.meaning.specs.declared.kind.Claim.{Claim}
+use Rattle.meaning.specs.Claim.{claim, claimed}
 use Rattle.book.specs.Format.{bookOf}
 use Rattle.book.specs.Rows.{Bytes}
 use Rattle.book.specs.Writing.{Fits}
@@ -20,12 +22,12 @@ use Rattle.walk.proofs.Order.{readings-only}
 use Rattle.walk.proofs.Needs.{needs-some, needs-one}
 use Rattle.walk.proofs.Demand.{find-good-book}
 use Rattle.writer.specs.Needs.{Needs as PaperNeeds}
-use Rattle.writer.specs.Name.{nameIn, nameOf}
+use Rattle.writer.specs.Write.{writeIn, writeOf}
 use Rattle.writer.proofs.Needs.{needs-some as paper-needs-some, needs-one as paper-needs-one}
-use Rattle.writer.proofs.Stages.{name-good-book}
+use Rattle.writer.proofs.Stages.{write-good-book}
 use Rattle.writer.proofs.Ways.{Nameable, fits-nameable}
 use Rattle.demands.specs.Damaged.{GoodBook}
-use Rattle.demands.specs.Demand2.{Call, Naming}
+use Rattle.demands.specs.Demand2.{Call, Asking}
 use Rattle.demands.proofs.Damaged.{good-read, good-is}
 
 -- an equation told of one of two equal values is told of the other
@@ -36,8 +38,8 @@ module _ {book : List ℕ} {b : Book} (g : GoodBook book b) where
   pub found-as : (k limit : ℕ) (answer : List ℕ) → findOf book k limit answer ≡ findIn b k limit answer
   found-as k limit answer = rw (good-is book g) at (find-good-book book k limit answer _ _ _ _ (good-read book g))
 
-  pub named-as : (a : AtomNo) (limit : ℕ) (buffer : List ℕ) → nameOf book a limit buffer ≡ nameIn b (named a) limit buffer
-  named-as a limit buffer = name-good-book book a limit buffer _ _ _ _ (good-read book g)
+  pub written-as : (k : Claim) (limit : ℕ) (buffer : List ℕ) → writeOf book k limit buffer ≡ writeIn b k limit buffer
+  written-as k limit buffer = write-good-book book k limit buffer _ _ _ _ (good-read book g)
 
   module _ (bytes : Bytes book) where
     pub book-fits : Fits b
@@ -62,15 +64,14 @@ module _ (b : Book) where
       → (l ≡ m) × (n ≡ i)
   call-counts-one p q u v = (readings-only b _ _ p q, needs-one b u v)
 
-  module _ (a : AtomNo) where
-    pub naming-counts : (n : ℕ) × Needs b 1 n × (m : ℕ) × PaperNeeds b (named a) m
-    naming-counts =
-        let (n, needs) = needs-some b 1 (omega arith) in let (m, paper) = paper-needs-some b (named a) in (n, needs, m, paper)
+  module _ (k : Claim) where
+    pub asking-counts : (n : ℕ) × Needs b 1 n × (m : ℕ) × PaperNeeds b k m
+    asking-counts =
+        let (n, needs) = needs-some b 1 (omega arith) in let (m, paper) = paper-needs-some b k in (n, needs, m, paper)
 
-    pub naming-counts-one : {n i m j : ℕ} → Needs b 1 n → Needs b 1 i → PaperNeeds b (named a) m → PaperNeeds b (named a) j
-        → (n ≡ i) × (m ≡ j)
-    naming-counts-one p q u v = (needs-one b p q, paper-needs-one b (named a) u v)
+    pub asking-counts-one : {n i m j : ℕ} → Needs b 1 n → Needs b 1 i → PaperNeeds b k m → PaperNeeds b k j → (n ≡ i) × (m ≡ j)
+    asking-counts-one p q u v = (needs-one b p q, paper-needs-one b k u v)
 
-pub nameable : {book : List ℕ} {b : Book} {a : AtomNo} → Naming book b a → Nameable b (named a)
+pub nameable : {book : List ℕ} {b : Book} {a : AtomNo} (q : Kind) → Asking book b a → Nameable b (claim q a)
 unfolding claimed
-nameable {b = b} {a = a} c = fits-nameable b (named a) (book-fits (c .good-book) (c .bytes)) (c .good-number)
+nameable {b = b} {a = a} q c = fits-nameable b (claim q a) (book-fits (c .good-book) (c .bytes)) (c .good-number)

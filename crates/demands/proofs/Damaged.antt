@@ -6,9 +6,8 @@ use mathlib.Core.List.{List}
 use Prim.Native.Nat.{ℕ, _≤_}
 use native.Mathlib.Omega.{arith}
 use lib.ListN.{length}
-use Rattle.meaning.specs.declared.AtomNo.{AtomNo}
 use Rattle.meaning.specs.Books.{Book}
-use Rattle.meaning.specs.Claim.{named}
+use Rattle.meaning.specs.declared.kind.Claim.{Claim}
 use Rattle.meaning.specs.Paper.{Keeps}
 use Rattle.meaning.specs.Told.{Told, success, refusedWith, refusedAt, refused}
 use Rattle.book.specs.Format.{BookRead, good, bad, readOf, bookIn}
@@ -118,12 +117,12 @@ module _ (book paper : List ℕ) where
 
   -- every paper for a good book keeps the printed rules, at no more than 60,000 bytes, or is damaged
   pub every-paper : Bytes paper → {b : Book} → GoodBook book b
-      → ((a : AtomNo) × Keeps b (named a) paper × (length paper ≤ 60000)) ⊎ ((i : ℕ) × (at : ℕ) × DamagedPaper b paper i at)
+      → ((k : Claim) × Keeps b k paper × (length paper ≤ 60000)) ⊎ ((i : ℕ) × (at : ℕ) × DamagedPaper b paper i at)
   every-paper bytes {b} g = go (checkOf book paper) refl
     where
-      go : (t : Told AtomNo) → checkOf book paper ≡ t
-          → ((a : AtomNo) × Keeps b (named a) paper × (length paper ≤ 60000)) ⊎ ((i : ℕ) × (at : ℕ) × DamagedPaper b paper i at)
-      go (success a) e = let (h, k, l) = check-exact book paper bytes a .0 e in inl (a, rw (good-is book g) at k, l)
+      go : (t : Told Claim) → checkOf book paper ≡ t
+          → ((k : Claim) × Keeps b k paper × (length paper ≤ 60000)) ⊎ ((i : ℕ) × (at : ℕ) × DamagedPaper b paper i at)
+      go (success k) e = let (h, p, l) = check-exact book paper bytes k .0 e in inl (k, rw (good-is book g) at p, l)
       go (refusedAt i at) e = ⊎-elim (not-both book g)
           (λ (c, h, d). inr (i, at, rw (sym (good-is book h) ∙ good-is book g) at d)) (check-refused i at .0 e)
       go (refusedWith i l) e = not-valued (checked-row book paper e)

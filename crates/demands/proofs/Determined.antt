@@ -1,16 +1,15 @@
 -- Two results that meet a promise are equal: the answer, and every byte of lent memory afterwards. Document 01, "What the promises say".
 --
 -- Where a promise is an equation of the result itself, or of a buffer afterwards, there is nothing more to it than `equal-determined`. The
--- answers of read_book, find, page, name and check are enums, and their promises speak of document 01's numbers and values; what is told
+-- answers of read_book, find, page, name, clear and check are enums, and their promises speak of document 01's numbers and values; what is told
 -- of an answer tells all of it, so these are determined too. In a promise, r is the result and `after` the buffer afterwards.
 use mathlib.Core.Path.{_≡_, sym, _∙_}
 use mathlib.Core.List.{List}
 use Prim.Native.Nat.{ℕ, suc, _-_}
 use native.Mathlib.Omega.{arith}
-use Rattle.meaning.specs.declared.AtomNo.{AtomNo}
 use Rattle.meaning.specs.Books.{Book}
 use Rattle.meaning.specs.Colours.{Pair}
-use Rattle.meaning.specs.Claim.{Claim}
+use Rattle.meaning.specs.declared.kind.Claim.{Claim}
 use Rattle.meaning.specs.Told.{Answered}
 use Rattle.meaning.proofs.Told.{answered-one}
 use Rattle.book.specs.Format.{readOf, toldOf}
@@ -24,8 +23,8 @@ use Rattle.walk.specs.Page.{told as pageTold}
 use Rattle.walk.specs.declared.kth.Found.{Found as FoundAnswer}
 use Rattle.walk.specs.declared.page_answer.Page.{Page}
 use Rattle.walk.proofs.Told.{found-one, page-one}
-use Rattle.writer.specs.Name.{Handed, nameOf}
-use Rattle.writer.specs.Name.{told as nameTold}
+use Rattle.writer.specs.Write.{Handed, writeOf}
+use Rattle.writer.specs.Write.{told as writeTold}
 use Rattle.writer.specs.declared.answer.Named.{Named as NamedAnswer}
 use Rattle.writer.proofs.Told.{told-one as named-one}
 use Rattle.checker.specs.Branches.{Walked, BranchTo}
@@ -54,12 +53,14 @@ module _ (book : List ℕ) (limit tries : ℕ) (last out : List ℕ) where
   pub page-determined : (r q : Page) (after other : List ℕ) → PagePromise r after → PagePromise q other → (r ≡ q) × (after ≡ other)
   page-determined r q after other p s = answered-one pageTold page-one r q after other (equal-determined p s)
 
-module _ (book : List ℕ) (atom : AtomNo) (limit : ℕ) (paper : List ℕ) where
-  abbrev NamePromise : NamedAnswer → List ℕ → Type 0
-  NamePromise r after = _≡_ {A = Answered Handed} (record { told = nameTold r; buffer = after }) (nameOf book atom limit paper)
+-- name is the promise for the claim `named atom`, clear that for `cleared atom`
+module _ (book : List ℕ) (k : Claim) (limit : ℕ) (paper : List ℕ) where
+  abbrev WritePromise : NamedAnswer → List ℕ → Type 0
+  WritePromise r after = _≡_ {A = Answered Handed} (record { told = writeTold r; buffer = after }) (writeOf book k limit paper)
 
-  pub name-determined : (r q : NamedAnswer) (after other : List ℕ) → NamePromise r after → NamePromise q other → (r ≡ q) × (after ≡ other)
-  name-determined r q after other p s = answered-one nameTold named-one r q after other (equal-determined p s)
+  pub write-determined : (r q : NamedAnswer) (after other : List ℕ) → WritePromise r after → WritePromise q other
+      → (r ≡ q) × (after ≡ other)
+  write-determined r q after other p s = answered-one writeTold named-one r q after other (equal-determined p s)
 
 pub check-determined : (book paper : List ℕ) (r q : Checked) → checkTold r ≡ checkOf book paper → checkTold q ≡ checkOf book paper → r ≡ q
 check-determined book paper r q p s = checked-one r q (equal-determined p s)

@@ -9,8 +9,9 @@ use native.Mathlib.Omega.{arith}
 use lib.ListN.{length, getD, drop}
 use Rattle.meaning.specs.declared.AtomNo.{AtomNo}
 use Rattle.meaning.specs.Books.{Atoms, Book}
-use Rattle.meaning.specs.AnswerSet.{AnswerSet, Certain}
-use Rattle.meaning.specs.Claim.{named}
+use Rattle.meaning.specs.AnswerSet.{AnswerSet}
+use Rattle.meaning.specs.declared.kind.Kind.{Kind}
+use Rattle.meaning.specs.Claim.{claim, Holding}
 use Rattle.meaning.specs.Told.{Told, refusedAt, refused, fewer, stopped, Answered}
 use Rattle.meaning.proofs.Tests.{lt-or-le}
 use Rattle.book.specs.Rows.{Bytes}
@@ -21,21 +22,20 @@ use Rattle.walk.specs.Find.{set, findOf}
 use Rattle.walk.proofs.Run.{apart}
 use Rattle.walk.proofs.Needs.{needs-some}
 use Rattle.writer.specs.Needs.{paperFor}
-use Rattle.writer.specs.Name.{Handed, paper}
-use Rattle.writer.specs.Name.{nameOf}
+use Rattle.writer.specs.Write.{Handed, paper, lacking, writeOf}
 use Rattle.writer.proofs.Needs.{needs-some as paper-needs-some}
 use Rattle.writer.proofs.First.{kth-answer, fewer-none}
 use Rattle.checker.specs.Check.{checkOf}
 use Rattle.demands.specs.Engine.{Engine, ours}
 use Rattle.demands.specs.Damaged.{GoodBook, DamagedBook, DamagedPaper}
 use Rattle.demands.specs.Demand1.{Demand1}
-use Rattle.demands.specs.Demand2.{Call, Naming, Demand2}
-use Rattle.demands.specs.Demand3.{InLimit, Demand3}
+use Rattle.demands.specs.Demand2.{Call, Asking, Demand2}
+use Rattle.demands.specs.Demand3.{InLimit, Papers}
 use Rattle.demands.proofs.Damaged.{every-book, every-paper}
 use Rattle.demands.proofs.Calls.{call-counts, nameable}
 use Rattle.demands.proofs.Ours1.{ours-1}
 use Rattle.demands.proofs.Ours2.{ours-2}
-use Rattle.demands.proofs.Ours3.{certain-or-not, ours-3}
+use Rattle.demands.proofs.Ours3.{holds-or-not, our-papers}
 
 -- ---- finding
 
@@ -92,85 +92,86 @@ module _ (book : List ℕ) (bytes : Bytes book) (k limit : ℕ) (answer : List �
   unfolding Finds
   find-only e p q = let (a, f) = found-one in f e p q ∙ sym (f ours ours-1 ours-2)
 
--- ---- naming
+-- ---- naming and clearing
 
-module _ (book : List ℕ) (bytes : Bytes book) (a : AtomNo) (limit : ℕ) (buffer : List ℕ) where
-  Names : Answered Handed → Type 0
-  Names r = (e : Engine) → Demand1 e → Demand2 e → Demand3 e → e .name book a limit buffer ≡ r
+module _ (q : Kind) (book : List ℕ) (bytes : Bytes book) (a : AtomNo) (limit : ℕ) (buffer : List ℕ) where
+  Writes : Answered Handed → Type 0
+  Writes r = (e : Engine) → Demand1 e → Demand2 e → Papers q e → e .write q book a limit buffer ≡ r
 
   leaves : (t : Told Handed) → ((u n : ℕ) → t ≡ paper u n → ⊥)
-      → ((e : Engine) → Demand1 e → Demand2 e → Demand3 e → e .name book a limit buffer .told ≡ t)
-      → Names (record { told = t; buffer = buffer })
-  unfolding Names
-  leaves t n f e p q r =
-      let told = f e p q r in
-      let kept = p .name-keeps book a limit buffer (λ u m z. n u m (sym told ∙ z)) in
+      → ((e : Engine) → Demand1 e → Demand2 e → Papers q e → e .write q book a limit buffer .told ≡ t)
+      → Writes (record { told = t; buffer = buffer })
+  unfolding Writes
+  leaves t n f e p s r =
+      let told = f e p s r in
+      let kept = p .write-keeps q book a limit buffer (λ u m z. n u m (sym told ∙ z)) in
       λ i. record { told = told i; buffer = kept i }
 
-  module _ {b : Book} (c : Naming book b a) where
+  module _ {b : Book} (c : Asking book b a) where
     abbrev own : Atoms → List ℕ
-    own x = paperFor b (named a) x
+    own x = paperFor b (claim q a) x
 
     -- within the limit: 12, or 14, or the paper
-    module _ (x : Atoms) (m : ℕ) (w : InLimit b a limit x m) where
-      writes : Certain b a → length (own x) ≤ length buffer → length (own x) ≤ 60000
-          → Names (record { told = paper m (length (own x)); buffer = own x ++ drop (length (own x)) buffer })
-      unfolding Names
-      writes t room most e p q r =
+    module _ (x : Atoms) (m : ℕ) (w : InLimit b (claim q a) limit x m) where
+      writes : Holding q b a → length (own x) ≤ length buffer → length (own x) ≤ 60000
+          → Writes (record { told = paper m (length (own x)); buffer = own x ++ drop (length (own x)) buffer })
+      unfolding Writes
+      writes t room most e p s r =
           let (k, told, stands) = r .writes book b a limit buffer c t x m w room most in
           λ i. record { told = told i; buffer = stands i }
 
-      long : Certain b a → (length buffer < length (own x)) ⊎ (60000 < length (own x))
-          → Names (record { told = refused 14; buffer = buffer })
-      long t l = leaves (refused 14) (λ u n z. apart (cc)) (λ e p q r. r .tells-length book b a limit buffer c t x m w .1 l)
+      long : Holding q b a → (length buffer < length (own x)) ⊎ (60000 < length (own x))
+          → Writes (record { told = refused 14; buffer = buffer })
+      long t l = leaves (refused 14) (λ u n z. apart (cc)) (λ e p s r. r .tells-length book b a limit buffer c t x m w .1 l)
 
-      within-named : (r : Answered Handed) × Names r
-      within-named = ⊎-elim
+      within-written : (r : Answered Handed) × Writes r
+      within-written = ⊎-elim
           (λ t. ⊎-elim (λ l. (_, long t (inl l))) (λ l. ⊎-elim (λ h. (_, long t (inr h))) (λ h. (_, writes t l h))
           (lt-or-le 60000 (length (own x)))) (lt-or-le (length buffer) (length (own x))))
-          (λ u. (_, leaves (refused 12) (λ t n z. apart (cc)) (λ e p q r. r .tells-uncertain book b a limit buffer c x m w .1 u)))
-          (certain-or-not c (w .first))
+          (λ u. (_, leaves (refused (lacking q)) (λ t n z. apart (cc)) (λ e p s r. r .tells-lacking book b a limit buffer c x m w .1 u)))
+          (holds-or-not q c (w .first))
 
-    call-named : (r : Answered Handed) × Names r
-    call-named = by (needs-some b 1 (omega arith) .1)
+    call-written : (r : Answered Handed) × Writes r
+    call-written = by (needs-some b 1 (omega arith) .1)
       where
         stops : {n : ℕ} → Needs b 1 n
-            → (limit < n) ⊎ ((n ≤ limit) × ((x : Atoms) × AnswerSet b x) × (limit < paper-needs-some b (named a) .0))
-            → Names (record { told = stopped limit; buffer = buffer })
+            → (limit < n) ⊎ ((n ≤ limit) × ((x : Atoms) × AnswerSet b x) × (limit < paper-needs-some b (claim q a) .0))
+            → Writes (record { told = stopped limit; buffer = buffer })
         stops needs l = leaves (stopped limit) (λ u n z. apart (cc))
-            (λ e p q r. q .naming-stops book b a limit buffer c _ _ needs (paper-needs-some b (named a) .1) .1 l)
+            (λ e p s r. s .asking-stops q book b a limit buffer c _ _ needs (paper-needs-some b (claim q a) .1) .1 l)
 
-        by : {n : ℕ} → Needs b 1 n → (r : Answered Handed) × Names r
+        by : {n : ℕ} → Needs b 1 n → (r : Answered Handed) × Writes r
         by {n} (to-reading {x = x} first) = ⊎-elim (λ h. (_, stops (to-reading first) (inl h)))
-            (λ h. let (m, needs) = paper-needs-some b (named a) in ⊎-elim
-            (λ l. (_, stops (to-reading first) (inr (h, (x, kth-answer b (nameable c .few-rules) first), l))))
-            (λ l. within-named x m (record { tries = n; first = first; first-within = h; needs = needs; paper-within = l }))
+            (λ h. let (m, needs) = paper-needs-some b (claim q a) in ⊎-elim
+            (λ l. (_, stops (to-reading first) (inr (h, (x, kth-answer b (nameable q c .few-rules) first), l))))
+            (λ l. within-written x m (record { tries = n; first = first; first-within = h; needs = needs; paper-within = l }))
             (lt-or-le limit m)) (lt-or-le limit n)
         by {n} (to-end f) = ⊎-elim (λ h. (_, stops (to-end f) (inl h)))
             (λ h. (
               _,
               leaves (fewer n 0) (λ u m z. apart (cc))
-                  (λ e p q r. q .naming-fewer book b a limit buffer c n (to-end f) h .1 (fewer-none b (nameable c .few-rules) f)),
+                  (λ e p s r. s .asking-fewer q book b a limit buffer c n (to-end f) h .1 (fewer-none b (nameable q c .few-rules) f)),
             )) (lt-or-le limit n)
 
-  named-one : (r : Answered Handed) × Names r
-  named-one = ⊎-elim
-      (λ (b, g). ⊎-elim (λ h. call-named (record { bytes = bytes; good-book = g; good-number = h }))
-      (λ h. (_, leaves (refused 13) (λ u n z. apart (cc)) (λ e p q r. p .name-atom book a limit buffer .1 (b, g, h))))
+  written-one : (r : Answered Handed) × Writes r
+  written-one = ⊎-elim
+      (λ (b, g). ⊎-elim (λ h. call-written (record { bytes = bytes; good-book = g; good-number = h }))
+      (λ h. (_, leaves (refused 13) (λ u n z. apart (cc)) (λ e p s r. p .write-atom q book a limit buffer .1 (b, g, h))))
       (lt-or-le (a .0) (b .atoms)))
-      (λ (i, at, d). (_, leaves (refusedAt i at) (λ u n z. apart (cc)) (λ e p q r. p .name-book book a limit buffer i at .1 d)))
+      (λ (i, at, d). (_, leaves (refusedAt i at) (λ u n z. apart (cc)) (λ e p s r. p .write-book q book a limit buffer i at .1 d)))
       (every-book book)
 
-  pub name-only : (e : Engine) → Demand1 e → Demand2 e → Demand3 e → e .name book a limit buffer ≡ nameOf book a limit buffer
-  unfolding Names
-  name-only e p q r = let (z, f) = named-one in f e p q r ∙ sym (f ours ours-1 ours-2 ours-3)
+  pub write-only : (e : Engine) → Demand1 e → Demand2 e → Papers q e → e .write q book a limit buffer ≡ writeOf book (claim q a) limit buffer
+  unfolding Writes
+  write-only e p s r = let (z, f) = written-one in f e p s r ∙ sym (f ours ours-1 ours-2 (our-papers q))
 
 -- ---- checking
 
-pub check-only : (book s : List ℕ) → Bytes s → (e : Engine) → Demand1 e → Demand3 e → e .check book s ≡ checkOf book s
+-- an engine that meets the demands for both kinds of paper
+pub check-only : (book s : List ℕ) → Bytes s → (e : Engine) → Demand1 e → ((q : Kind) → Papers q e) → e .check book s ≡ checkOf book s
 check-only book s bytes e p r = ⊎-elim
     (λ (b, g). ⊎-elim
-    (λ (a, k, h). r .complete book s b a g k h ∙ sym (ours-3 .complete book s b a g k h))
+    (λ (k, m, h). r (k .kind) .complete book s b (k .atom) g m h ∙ sym (our-papers (k .kind) .complete book s b (k .atom) g m h))
     (λ (i, at, d). both i at (inr (b, g, d))) (every-paper book s bytes g))
     (λ (i, at, d). both i at (inl d)) (every-book book)
   where

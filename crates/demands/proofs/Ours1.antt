@@ -1,6 +1,6 @@
 -- Our engine meets demand 1. What a call tells is followed down the tests in their order: the book, then the numbers and the room, then
 -- the walks, which tell none of these refusals; and the buffer stays, since only the reading or the paper that is told is written.
-use mathlib.Core.Path.{_≡_, sym, _∙_, ap, subst}
+use mathlib.Core.Path.{_≡_, refl, sym, _∙_, ap, subst}
 use mathlib.Core.Logic.{⊎-elim, _↔_}
 use mathlib.Core.List.{List}
 use Prim.Native.Nat.{ℕ, _≤_, _<_}
@@ -8,7 +8,8 @@ use native.Mathlib.Omega.{arith}
 use lib.ListN.{length}
 use Rattle.meaning.specs.declared.AtomNo.{AtomNo}
 use Rattle.meaning.specs.Books.{Book}
-use Rattle.meaning.specs.Claim.{named, claimed}
+use Rattle.meaning.specs.declared.kind.Kind.{Kind}
+use Rattle.meaning.specs.Claim.{claim, claimed}
 use Rattle.meaning.specs.Told.{Told, refusedAt, refused, fewer, stopped, Answered}
 use Rattle.meaning.proofs.Choice.{lt-yes, lt-no, lt-either, eq-yes, eq-no, eq-either}
 use Rattle.walk.specs.Run.{State}
@@ -19,14 +20,15 @@ use Rattle.walk.proofs.Run.{apart}
 use Rattle.walk.proofs.Demand.{find-bad-book}
 use Rattle.walk.proofs.Kept.{find-keeps}
 use Rattle.writer.specs.Scan.{Course, writing, limited, refuted, Progress}
-use Rattle.writer.specs.Name.{Handed, paper}
-use Rattle.writer.specs.Name.{handOver, afterPaperWalk, afterFirstWalk, nameIn, nameOf}
-use Rattle.writer.proofs.Stages.{name-bad-book, name-keeps-buffer}
+use Rattle.writer.specs.Write.{Handed, paper, lacking}
+use Rattle.writer.specs.Write.{handOver, afterPaperWalk, afterFirstWalk, writeIn, writeOf}
+use Rattle.writer.proofs.Claiming.{lacking-is}
+use Rattle.writer.proofs.Stages.{write-bad-book, write-keeps-buffer}
 use Rattle.demands.specs.Engine.{ours}
 use Rattle.demands.specs.Damaged.{GoodBook, DamagedBook}
 use Rattle.demands.specs.Demand1.{Demand1}
 use Rattle.demands.proofs.Damaged.{damaged-bad, every-book, check-refused}
-use Rattle.demands.proofs.Calls.{found-as, named-as}
+use Rattle.demands.proofs.Calls.{found-as, written-as}
 
 -- ---- finding
 
@@ -106,82 +108,83 @@ module _ (book : List ℕ) (k limit : ℕ) (answer : List ℕ) where
       ap (λ (a : Answered ℕ). a .buffer) e ∙ find-keeps b k limit answer (λ t p. f t (ap (λ (a : Answered ℕ). a .told) e ∙ p)))
       (λ (i, at, d). ap (λ (a : Answered ℕ). a .buffer) (find-bad-book book k limit answer _ _ (damaged-bad book d))) (every-book book)
 
--- ---- naming
+-- ---- naming and clearing
 
--- what naming tells, and for 13 why
-data Names (atom atoms : ℕ) : Told Handed → Type 0 where
-  no-atom : atoms ≤ atom → Names atom atoms (refused 13)
-  open-branch : Names atom atoms (refused 12)
-  passes-room : Names atom atoms (refused 14)
-  written : {t n : ℕ} → Names atom atoms (paper t n)
-  none : {t n : ℕ} → Names atom atoms (fewer t n)
-  limit-met : {l : ℕ} → Names atom atoms (stopped l)
+-- what a call for a paper of this kind tells, and for 13 why
+data Writes (q : Kind) (atom atoms : ℕ) : Told Handed → Type 0 where
+  no-atom : atoms ≤ atom → Writes q atom atoms (refused 13)
+  open-branch : {i : ℕ} → i ≡ lacking q → Writes q atom atoms (refused i)
+  passes-room : Writes q atom atoms (refused 14)
+  written : {t n : ℕ} → Writes q atom atoms (paper t n)
+  none : {t n : ℕ} → Writes q atom atoms (fewer t n)
+  limit-met : {l : ℕ} → Writes q atom atoms (stopped l)
 
-module _ (b : Book) (a : AtomNo) (limit : ℕ) (buffer : List ℕ) where
-  abbrev NameTells : Answered Handed → Type 0
-  NameTells m = Names (a .0) (b .atoms) (m .told)
+module _ (b : Book) (q : Kind) (a : AtomNo) (limit : ℕ) (buffer : List ℕ) where
+  abbrev WriteTells : Answered Handed → Type 0
+  WriteTells m = Writes q (a .0) (b .atoms) (m .told)
 
-  hand-tells : (tries : ℕ) (whole : List ℕ) → NameTells (handOver tries whole buffer)
+  hand-tells : (tries : ℕ) (whole : List ℕ) → WriteTells (handOver tries whole buffer)
   unfolding handOver
-  hand-tells tries whole = lt-either NameTells _ _ _ _ (λ h. passes-room) λ h. lt-either NameTells _ _ _ _ (λ g. passes-room) λ g. written
+  hand-tells tries whole = lt-either WriteTells _ _ _ _ (λ h. passes-room) λ h. lt-either WriteTells _ _ _ _ (λ g. passes-room) λ g. written
 
-  paper-tells : (h : Course) (p : Progress) (row : List ℕ) → NameTells (afterPaperWalk h b (named a) limit p row buffer)
+  paper-tells : (h : Course) (p : Progress) (row : List ℕ) → WriteTells (afterPaperWalk h b (claim q a) limit p row buffer)
   unfolding afterPaperWalk
   paper-tells writing p row = hand-tells _ _
   paper-tells limited p row = limit-met
-  paper-tells refuted p row = open-branch
+  paper-tells refuted p row = open-branch refl
 
-  first-tells : (h : Halt) (s : State) → NameTells (afterFirstWalk h b (named a) limit s buffer)
+  first-tells : (h : Halt) (s : State) → WriteTells (afterFirstWalk h b (claim q a) limit s buffer)
   unfolding afterFirstWalk
   first-tells Going s = none
   first-tells Full s = paper-tells _ _ (s .out)
   first-tells Limit s = limit-met
 
-  name-tells : NameTells (nameIn b (named a) limit buffer)
-  unfolding nameIn claimed
-  name-tells = lt-either NameTells _ _ _ _ (λ h. first-tells _ _) no-atom
+  write-tells : WriteTells (writeIn b (claim q a) limit buffer)
+  unfolding writeIn claimed
+  write-tells = lt-either WriteTells _ _ _ _ (λ h. first-tells _ _) no-atom
 
-module _ (book : List ℕ) (a : AtomNo) (limit : ℕ) (buffer : List ℕ) where
-  bad-named : {i at : ℕ} → DamagedBook book i at → nameOf book a limit buffer .told ≡ refusedAt i at
-  bad-named d = ap (λ (m : Answered Handed). m .told) (name-bad-book book a limit buffer _ _ (damaged-bad book d))
+module _ (q : Kind) (book : List ℕ) (a : AtomNo) (limit : ℕ) (buffer : List ℕ) where
+  bad-asked : {i at : ℕ} → DamagedBook book i at → writeOf book (claim q a) limit buffer .told ≡ refusedAt i at
+  bad-asked d = ap (λ (m : Answered Handed). m .told) (write-bad-book book (claim q a) limit buffer _ _ (damaged-bad book d))
 
-  name-cases : {t : Told Handed} (A : Type 0) → nameOf book a limit buffer .told ≡ t
-      → ((b : Book) → GoodBook book b → Names (a .0) (b .atoms) t → A)
+  write-cases : {t : Told Handed} (A : Type 0) → writeOf book (claim q a) limit buffer .told ≡ t
+      → ((b : Book) → GoodBook book b → Writes q (a .0) (b .atoms) t → A)
       → ((i at : ℕ) → DamagedBook book i at → refusedAt i at ≡ t → A) → A
-  name-cases A e f g = ⊎-elim
-      (λ (b, h). f b h (subst (Names (a .0) (b .atoms)) (ap (λ (m : Answered Handed). m .told) (sym (named-as h a limit buffer)) ∙ e)
-      (name-tells b a limit buffer)))
-      (λ (i, at, d). g i at d (sym (bad-named d) ∙ e)) (every-book book)
+  write-cases A e f g = ⊎-elim
+      (λ (b, h). f b h (subst (Writes q (a .0) (b .atoms)) (ap (λ (m : Answered Handed). m .told) (sym (written-as h (claim q a) limit buffer)) ∙ e)
+      (write-tells b q a limit buffer)))
+      (λ (i, at, d). g i at d (sym (bad-asked d) ∙ e)) (every-book book)
 
-  name-damaged : (i at : ℕ) → (nameOf book a limit buffer .told ≡ refusedAt i at) ↔ DamagedBook book i at
-  name-damaged i at = (
-    λ e. name-cases (DamagedBook book i at) e (λ b g. never)
+  write-damaged : (i at : ℕ) → (writeOf book (claim q a) limit buffer .told ≡ refusedAt i at) ↔ DamagedBook book i at
+  write-damaged i at = (
+    λ e. write-cases (DamagedBook book i at) e (λ b g. never)
         (λ j p d q. let u : j ≡ i = cc in let v : p ≡ at = cc in rw (u, v) at d),
-    bad-named,
+    bad-asked,
   )
     where
-      never : {i at atom atoms : ℕ} {A : Type 0} → Names atom atoms (refusedAt i at) → A
+      never : {i at atom atoms : ℕ} {A : Type 0} → Writes q atom atoms (refusedAt i at) → A
       never w = elim w [ ]
 
-  name-beyond : (nameOf book a limit buffer .told ≡ refused 13) ↔ ((b : Book) × GoodBook book b × (b .atoms ≤ a .0))
-  unfolding nameIn claimed
-  name-beyond = (
-    λ e. name-cases ((b : Book) × GoodBook book b × (b .atoms ≤ a .0)) e (λ b g w. (b, g, there w)) (λ i at d q. apart (cc)),
-    λ (b, g, h). ap (λ (m : Answered Handed). m .told) (named-as g a limit buffer ∙ lt-no _ _ _ _ h),
+  write-beyond : (writeOf book (claim q a) limit buffer .told ≡ refused 13) ↔ ((b : Book) × GoodBook book b × (b .atoms ≤ a .0))
+  unfolding writeIn claimed
+  write-beyond = (
+    λ e. write-cases ((b : Book) × GoodBook book b × (b .atoms ≤ a .0)) e (λ b g w. (b, g, there w)) (λ i at d q. apart (cc)),
+    λ (b, g, h). ap (λ (m : Answered Handed). m .told) (written-as g (claim q a) limit buffer ∙ lt-no _ _ _ _ h),
   )
     where
-      there : {atom atoms : ℕ} → Names atom atoms (refused 13) → atoms ≤ atom
+      there : {atom atoms : ℕ} → Writes q atom atoms (refused 13) → atoms ≤ atom
       there (no-atom h) = h
+      there (open-branch e) = absurd (⊎-elim (λ p. omega (arith, p, e)) (λ p. omega (arith, p, e)) (lacking-is q))
 
 pub ours-1 : Demand1 ours
 ours-1 = record {
   find-book = find-damaged;
-  name-book = name-damaged;
+  write-book = write-damaged;
   check-bytes = check-refused;
   find-number = find-zero;
   find-room = find-short;
-  name-atom = name-beyond;
+  write-atom = write-beyond;
   find-keeps = find-buffer;
-  name-keeps = λ book a limit buffer f.
-      ⊎-elim (λ (t, n, e). absurd (f t n e)) (λ e. e) (name-keeps-buffer book a limit buffer);
+  write-keeps = λ q book a limit buffer f.
+      ⊎-elim (λ (t, n, e). absurd (f t n e)) (λ e. e) (write-keeps-buffer book (claim q a) limit buffer);
 }

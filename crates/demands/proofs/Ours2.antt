@@ -6,7 +6,7 @@ use Prim.Native.Nat.{ℕ, _-_, _≤_, _<_}
 use native.Mathlib.Omega.{arith}
 use lib.ListN.{length, getD, drop}
 use Rattle.meaning.specs.Books.{Atoms, Book}
-use Rattle.meaning.specs.Claim.{named}
+use Rattle.meaning.specs.Claim.{claim}
 use Rattle.meaning.specs.Written.{nothing}
 use Rattle.meaning.specs.Told.{fewer, stopped, Answered}
 use Rattle.walk.specs.Events.{events}
@@ -16,11 +16,11 @@ use Rattle.walk.specs.Run.{rowOf}
 use Rattle.walk.specs.Find.{set, findIn, findOf}
 use Rattle.walk.proofs.Needs.{kth-reading, needs-one}
 use Rattle.walk.proofs.Demand.{find-set, find-stopped, find-fewer, find-row}
-use Rattle.writer.specs.Name.{Handed}
-use Rattle.writer.proofs.Naming.{name-stopped, name-none}
+use Rattle.writer.specs.Write.{Handed}
+use Rattle.writer.proofs.Claiming.{write-stopped, write-none}
 use Rattle.demands.specs.Engine.{ours}
 use Rattle.demands.specs.Demand2.{Call, Demand2}
-use Rattle.demands.proofs.Calls.{along, found-as, named-as, readings-same, nameable}
+use Rattle.demands.proofs.Calls.{along, found-as, written-as, readings-same, nameable}
 
 module _ (book : List ℕ) (b : Book) (k limit : ℕ) (answer : List ℕ) (c : Call book b k answer) where
   told-as : findOf book k limit answer .told ≡ findIn b k limit answer .told
@@ -62,10 +62,10 @@ ours-2 = record {
       (find-stopped b k limit answer (c .good-number) (c .good-room));
   tells-fewer = λ book b k limit answer c l all n needs h.
       rw (readings-same (c .good-book) (c .bytes) all) (fewer-told book b k limit answer c needs h);
-  naming-stops = λ book b a limit buffer c n m needs paper.
-      along (stopped limit) (ap (λ (x : Answered Handed). x .told) (named-as (c .good-book) a limit buffer))
-      (name-stopped b (named a) limit buffer (nameable c) needs paper);
-  naming-fewer = λ book b a limit buffer c n needs h.
-      along (fewer n 0) (ap (λ (x : Answered Handed). x .told) (named-as (c .good-book) a limit buffer))
-      (name-none b (named a) limit buffer (nameable c) needs h);
+  asking-stops = λ q book b a limit buffer c n m needs paper.
+      along (stopped limit) (ap (λ (x : Answered Handed). x .told) (written-as (c .good-book) (claim q a) limit buffer))
+      (write-stopped b (claim q a) limit buffer (nameable q c) needs paper);
+  asking-fewer = λ q book b a limit buffer c n needs h.
+      along (fewer n 0) (ap (λ (x : Answered Handed). x .told) (written-as (c .good-book) (claim q a) limit buffer))
+      (write-none b (claim q a) limit buffer (nameable q c) needs h);
 }

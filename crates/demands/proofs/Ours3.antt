@@ -1,5 +1,5 @@
--- Our engine meets demand 3: from the checker's laws of acceptance and the writer's laws of naming; and the paper that naming hands over
--- is accepted by checking.
+-- Our engine meets demand 3 and its twin, by one proof over the kind of claim: from the checker's laws of acceptance and the writer's laws of
+-- a claim; the paper that is handed over is accepted by checking; and no book has accepted papers of both kinds for one atom.
 use mathlib.Core.Path.{_≡_, refl, sym, _∙_, ap, subst}
 use mathlib.Core.Logic.{_⊎_, inl, inr, ⊎-elim, _↔_}
 use mathlib.Core.Bool.{true}
@@ -11,171 +11,206 @@ use lib.Seq.{take-at, drop-at}
 use Rattle.meaning.specs.declared.AtomNo.{AtomNo}
 use Rattle.meaning.specs.Sets.{every}
 use Rattle.meaning.specs.Books.{Atoms, Book}
-use Rattle.meaning.specs.AnswerSet.{AnswerSet, Throughout, Certain}
+use Rattle.meaning.specs.AnswerSet.{AnswerSet, Throughout}
 use Rattle.meaning.specs.Colours.{start}
-use Rattle.meaning.specs.Claim.{named, meant}
+use Rattle.meaning.specs.declared.kind.Kind.{Kind}
+use Rattle.meaning.specs.declared.kind.Kind.the-variants.{Naming, Clearing}
+use Rattle.meaning.specs.declared.kind.Claim.{Claim}
+use Rattle.meaning.specs.Claim.{claim, meant, Holding}
 use Rattle.meaning.specs.Paper.{Keeps}
 use Rattle.meaning.specs.Told.{Told, refusedAt, refused, fewer, Answered}
 use Rattle.meaning.proofs.Tests.{decided, clash, lt-or-le}
-use Rattle.meaning.proofs.Claim.{named-certain}
+use Rattle.meaning.proofs.Claim.{claim-holds, not-both}
 use Rattle.book.specs.Format.{bookIn}
 use Rattle.book.specs.Rows.{Bytes}
 use Rattle.walk.specs.Tries.{Kth, to-reading}
 use Rattle.writer.specs.Branches.{branches}
 use Rattle.writer.specs.Needs.{settled, Stuck, to-stuck, to-end, paperFor}
-use Rattle.writer.specs.Name.{Handed, paper, nameIn, nameOf}
+use Rattle.writer.specs.Write.{Handed, paper, lacking, writeIn, writeOf, nameOf, clearOf}
 use Rattle.writer.proofs.Needs.{stuck-some, needs-one}
 use Rattle.writer.proofs.Papers.{settled-each, unsettled-one, certain-settled}
 use Rattle.writer.proofs.First.{kth-answer}
 use Rattle.writer.proofs.Ways.{Nameable}
-use Rattle.writer.proofs.Naming.{name-writes, name-written, name-lacks, name-not-certain, name-too-long}
-use Rattle.checker.specs.Numbers.{certain}
+use Rattle.writer.proofs.Claiming.{write-writes, write-written, write-lacks, write-lacking, write-too-long}
+use Rattle.checker.specs.Numbers.{accepted, certain, clear}
 use Rattle.checker.specs.Check.{checkOf}
-use Rattle.checker.specs.Rows.{atomOf}
+use Rattle.checker.specs.Rows.{atomOf, kindOf}
 use Rattle.checker.proofs.Rows.{CheckRow, at-paper, checked-row, nowhere}
 use Rattle.checker.proofs.Accepted.{check-sound, check-complete}
 use Rattle.demands.specs.Engine.{Engine, ours}
 use Rattle.demands.specs.Damaged.{GoodBook}
-use Rattle.demands.specs.Demand2.{Naming}
-use Rattle.demands.specs.Demand3.{Sound, Complete, InLimit, WritesOnly, Demand3}
+use Rattle.demands.specs.Demand2.{Asking}
+use Rattle.demands.specs.Demand3.{Sound, Complete, InLimit, WritesOnly, Papers, Demand3, Demand3Twin}
 use Rattle.demands.proofs.Damaged.{good-is, every-book}
-use Rattle.demands.proofs.Calls.{along, named-as, nameable}
+use Rattle.demands.proofs.Calls.{along, written-as, nameable}
 use Rattle.demands.proofs.Ours1.{ours-1}
 
 -- ---- the checker
 
-check-accepts-sound : Sound ours
-check-accepts-sound book s a e =
-    let (p, g) = row (checked-row book s e) in (p, (bookIn book, g, check-sound book s e))
+check-accepts-sound : (q : Kind) → Sound q ours
+check-accepts-sound q book s a e =
+    let (p, k, g) = row (checked-row book s e) in (p, k, (bookIn book, g, check-sound book s e))
   where
-    row : {a : AtomNo} → CheckRow book s (certain a) → (a ≡ atomOf s) × GoodBook book (bookIn book)
-    row (at-paper g (nowhere f w v)) = (refl, g)
+    row : {q : Kind} {a : AtomNo} → CheckRow book s (accepted q a) → (a ≡ atomOf s) × (q ≡ kindOf s) × GoodBook book (bookIn book)
+    row (at-paper g (nowhere f w v)) = (refl, refl, g)
 
-check-accepts-all : Complete ours
-check-accepts-all book s b a g k h =
-    let e = good-is book g in check-complete book s (rw e g) a (rw e k) h
+check-accepts-all : (q : Kind) → Complete q ours
+check-accepts-all q book s b a g k h =
+    let e = good-is book g in check-complete book s (rw e g) (claim q a) (rw e k) h
 
 -- ---- the writer
 
--- an atom of a book with a reading is certain if every branch of the paper's walk is settled, and only then
-module _ {book : List ℕ} {b : Book} {a : AtomNo} (c : Naming book b a) {t : ℕ} {x : Atoms} (first : Kth b 1 t x) where
-  pub settled-certain : every settled (branches b (named a) start) ≡ true → Certain b a
-  settled-certain s =
-      let few = nameable c .few-rules in
-      named-certain b a (record { one = (x, kth-answer b few first); each = settled-each b (named a) few s })
+-- a claim about an atom of a book with a reading holds if every branch of the paper's walk is settled, and only then
+module _ {book : List ℕ} {b : Book} {a : AtomNo} (q : Kind) (c : Asking book b a) {t : ℕ} {x : Atoms} (first : Kth b 1 t x) where
+  pub settled-holds : every settled (branches b (claim q a) start) ≡ true → Holding q b a
+  settled-holds s =
+      let few = nameable q c .few-rules in
+      claim-holds b q a .0 (record { one = (x, kth-answer b few first); each = settled-each b (claim q a) few s })
 
-  pub certain-or-not : Certain b a ⊎ (Certain b a → ⊥)
-  unfolding meant
-  certain-or-not = ⊎-elim (λ s. inl (settled-certain s))
-      (λ s. inr (λ t. let (y, answer, n) = unsettled-one b (named a) (nameable c .few-rules) s in clash (t .each y answer) n))
-      (decided (every settled (branches b (named a) start)))
+  pub holds-or-not : Holding q b a ⊎ (Holding q b a → ⊥)
+  holds-or-not = ⊎-elim (λ s. inl (settled-holds s))
+      (λ s. inr (λ t.
+      let (y, answer, n) = unsettled-one b (claim q a) (nameable q c .few-rules) s in
+      clash (claim-holds b q a .1 t .each y answer) n))
+      (decided (every settled (branches b (claim q a) start)))
 
-module _ (book : List ℕ) (b : Book) (a : AtomNo) (limit : ℕ) (buffer : List ℕ) (c : Naming book b a) where
-  abbrev good : Nameable b (named a)
-  good = nameable c
+module _ (q : Kind) (book : List ℕ) (b : Book) (a : AtomNo) (limit : ℕ) (buffer : List ℕ) (c : Asking book b a) where
+  abbrev k : Claim
+  k = claim q a
 
-  as-named : nameOf book a limit buffer ≡ nameIn b (named a) limit buffer
-  as-named = named-as (c .good-book) a limit buffer
+  abbrev good : Nameable b k
+  good = nameable q c
 
-  -- a certain atom is a claim that holds throughout
-  throughout : Certain b a → Throughout b (meant (named a))
-  unfolding meant
-  throughout t = t
+  as-written : writeOf book k limit buffer ≡ writeIn b k limit buffer
+  as-written = written-as (c .good-book) k limit buffer
 
-  module _ (x : Atoms) (m : ℕ) (w : InLimit b a limit x m) where
+  throughout : Holding q b a → Throughout b (meant k)
+  throughout = claim-holds b q a .1
+
+  module _ (x : Atoms) (m : ℕ) (w : InLimit b k limit x m) where
     first-answer : AnswerSet b x
     first-answer = kth-answer b (good .few-rules) (w .first)
 
-    branches-needed : every settled (branches b (named a) start) ≡ true → length (branches b (named a) start) ≡ m
-    branches-needed s = needs-one b (named a) (to-end s) (w .needs)
+    branches-needed : every settled (branches b k start) ≡ true → length (branches b k start) ≡ m
+    branches-needed s = needs-one b k (to-end s) (w .needs)
 
-    writes : Certain b a → length (paperFor b (named a) x) ≤ length buffer → length (paperFor b (named a) x) ≤ 60000
-        → Keeps b (named a) (paperFor b (named a) x)
-        × (nameOf book a limit buffer .told ≡ paper m (length (paperFor b (named a) x)))
-        × (nameOf book a limit buffer .buffer ≡ paperFor b (named a) x ++ drop (length (paperFor b (named a) x)) buffer)
+    writes : Holding q b a → length (paperFor b k x) ≤ length buffer → length (paperFor b k x) ≤ 60000
+        → Keeps b k (paperFor b k x)
+        × (writeOf book k limit buffer .told ≡ paper m (length (paperFor b k x)))
+        × (writeOf book k limit buffer .buffer ≡ paperFor b k x ++ drop (length (paperFor b k x)) buffer)
     writes t room most =
-        let n = branches-needed (certain-settled b (named a) (good .few-rules) (throughout t)) in
+        let n = branches-needed (certain-settled b k (good .few-rules) (throughout t)) in
         let l = w .paper-within in
-        let (e, k) = name-writes b (named a) limit buffer good (throughout t) (w .first) (w .first-within) (omega arith) room most in (
-          k,
-          ap (λ (r : Answered Handed). r .told) (as-named ∙ e) ∙ ap (λ (i : ℕ). paper i (length (paperFor b (named a) x))) n,
-          ap (λ (r : Answered Handed). r .buffer) (as-named ∙ e),
+        let (e, p) = write-writes b k limit buffer good (throughout t) (w .first) (w .first-within) (omega arith) room most in (
+          p,
+          ap (λ (r : Answered Handed). r .told) (as-written ∙ e) ∙ ap (λ (i : ℕ). paper i (length (paperFor b k x))) n,
+          ap (λ (r : Answered Handed). r .buffer) (as-written ∙ e),
         )
 
-    tells-length : Certain b a → (nameOf book a limit buffer .told ≡ refused 14)
-        ↔ ((length buffer < length (paperFor b (named a) x)) ⊎ (60000 < length (paperFor b (named a) x)))
-    tells-length t = along (refused 14) (ap (λ (r : Answered Handed). r .told) as-named)
-        (name-too-long b (named a) limit buffer good (to-reading (w .first)) (w .first-within) (x, first-answer) (w .needs)
-        (w .paper-within) (certain-settled b (named a) (good .few-rules) (throughout t)) (w .first))
+    tells-length : Holding q b a → (writeOf book k limit buffer .told ≡ refused 14)
+        ↔ ((length buffer < length (paperFor b k x)) ⊎ (60000 < length (paperFor b k x)))
+    tells-length t = along (refused 14) (ap (λ (r : Answered Handed). r .told) as-written)
+        (write-too-long b k limit buffer good (to-reading (w .first)) (w .first-within) (x, first-answer) (w .needs)
+        (w .paper-within) (certain-settled b k (good .few-rules) (throughout t)) (w .first))
 
-    -- not certain: some branch is left unsettled
-    stuck-uncertain : (Certain b a → ⊥) → Stuck b (named a) m
-    stuck-uncertain u = ⊎-elim (λ s. absurd (u (settled-certain c (w .first) s)))
-        (λ s. let (n, p) = stuck-some b (named a) s in rw (needs-one b (named a) (to-stuck p) (w .needs)) at p)
-        (decided (every settled (branches b (named a) start)))
+    -- the claim does not hold: some branch is left unsettled
+    stuck-lacking : (Holding q b a → ⊥) → Stuck b k m
+    stuck-lacking u = ⊎-elim (λ s. absurd (u (settled-holds q c (w .first) s)))
+        (λ s. let (n, p) = stuck-some b k s in rw (needs-one b k (to-stuck p) (w .needs)) at p)
+        (decided (every settled (branches b k start)))
 
-    tells-uncertain : (nameOf book a limit buffer .told ≡ refused 12) ↔ (Certain b a → ⊥)
-    tells-uncertain = along (refused 12) (ap (λ (r : Answered Handed). r .told) as-named) (
-      λ e t. let (y, answer, n) = name-lacks b (named a) limit buffer good e in clash (throughout t .each y answer) n,
-      λ u. name-not-certain b (named a) limit buffer good (to-reading (w .first)) (w .first-within) (x, first-answer) (w .needs)
-          (w .paper-within) .1 (stuck-uncertain u),
+    tells-lacking : (writeOf book k limit buffer .told ≡ refused (lacking q)) ↔ (Holding q b a → ⊥)
+    tells-lacking = along (refused (lacking q)) (ap (λ (r : Answered Handed). r .told) as-written) (
+      λ e t. let (y, answer, n) = write-lacks b k limit buffer good e in clash (throughout t .each y answer) n,
+      λ u. write-lacking b k limit buffer good (to-reading (w .first)) (w .first-within) (x, first-answer) (w .needs)
+          (w .paper-within) .1 (stuck-lacking u),
     )
 
 -- answers to calls with a good book and an atom of it
-pub data GoodNaming : Told Handed → Type 0 where
-  told-paper : {t n : ℕ} → GoodNaming (paper t n)
-  told-none : {t n : ℕ} → GoodNaming (fewer t n)
+pub data GoodAsking : Told Handed → Type 0 where
+  told-paper : {t n : ℕ} → GoodAsking (paper t n)
+  told-none : {t n : ℕ} → GoodAsking (fewer t n)
 
 -- a call that we answer so has them
-pub naming-of : (book : List ℕ) → Bytes book → (a : AtomNo) (limit : ℕ) (buffer : List ℕ) {t : Told Handed}
-    → GoodNaming t → nameOf book a limit buffer .told ≡ t → (b : Book) × Naming book b a
-naming-of book bytes a limit buffer w told = ⊎-elim
+pub asking-of : (q : Kind) (book : List ℕ) → Bytes book → (a : AtomNo) (limit : ℕ) (buffer : List ℕ) {t : Told Handed}
+    → GoodAsking t → writeOf book (claim q a) limit buffer .told ≡ t → (b : Book) × Asking book b a
+asking-of q book bytes a limit buffer w told = ⊎-elim
     (λ (b, g). (b, record { bytes = bytes; good-book = g; good-number = below b g }))
-    (λ (i, at, d). not-placed (other (ours-1 .name-book book a limit buffer i at .1 d))) (every-book book)
+    (λ (i, at, d). not-placed (other (ours-1 .write-book q book a limit buffer i at .1 d))) (every-book book)
   where
-    other : {u : Told Handed} → nameOf book a limit buffer .told ≡ u → GoodNaming u
-    other p = subst GoodNaming (sym told ∙ p) w
+    other : {u : Told Handed} → writeOf book (claim q a) limit buffer .told ≡ u → GoodAsking u
+    other p = subst GoodAsking (sym told ∙ p) w
 
-    not-placed : {A : Type 0} {i at : ℕ} → GoodNaming (refusedAt i at) → A
+    not-placed : {A : Type 0} {i at : ℕ} → GoodAsking (refusedAt i at) → A
     not-placed x = elim x [ ]
 
-    not-numbered : {A : Type 0} {i : ℕ} → GoodNaming (refused i) → A
+    not-numbered : {A : Type 0} {i : ℕ} → GoodAsking (refused i) → A
     not-numbered x = elim x [ ]
 
     below : (b : Book) → GoodBook book b → a .0 < b .atoms
-    below b g = ⊎-elim (λ h. h) (λ h. not-numbered (other (ours-1 .name-atom book a limit buffer .1 (b, g, h))))
+    below b g = ⊎-elim (λ h. h) (λ h. not-numbered (other (ours-1 .write-atom q book a limit buffer .1 (b, g, h))))
         (lt-or-le (a .0) (b .atoms))
 
-writes-only : WritesOnly ours
-writes-only book bytes a limit buffer t n e =
-    let (b, c) = naming-of book bytes a limit buffer told-paper e in
-    let same = as-named book b a limit buffer c in
+writes-only : (q : Kind) → WritesOnly q ours
+writes-only q book bytes a limit buffer t n e =
+    let (b, c) = asking-of q book bytes a limit buffer told-paper e in
+    let same = as-written q book b a limit buffer c in
     let told = ap (λ (r : Answered Handed). r .told) (sym same) ∙ e in
-    let (x, answer, p, size, room, most, stands, k) = name-written b (named a) limit buffer (nameable c) told in
+    let (x, answer, p, size, room, most, stands, k) = write-written b (claim q a) limit buffer (nameable q c) told in
     let there = ap (λ (r : Answered Handed). r .buffer) same ∙ stands in
-    let front : take n (nameOf book a limit buffer .buffer) ≡ paperFor b (named a) x =
-    ap (take n) there ∙ take-at (paperFor b (named a) x) _ n (sym size) in
-    (b, c .good-book, most, room, rw front k, ap (drop n) there ∙ drop-at (paperFor b (named a) x) _ n (sym size))
+    let front : take n (writeOf book (claim q a) limit buffer .buffer) ≡ paperFor b (claim q a) x =
+    ap (take n) there ∙ take-at (paperFor b (claim q a) x) _ n (sym size) in
+    (b, c .good-book, most, room, rw front k, ap (drop n) there ∙ drop-at (paperFor b (claim q a) x) _ n (sym size))
+
+pub our-papers : (q : Kind) → Papers q ours
+our-papers q = record {
+  sound = check-accepts-sound q;
+  complete = check-accepts-all q;
+  writes = λ book b a limit buffer c t x m w. writes q book b a limit buffer c x m w t;
+  writes-only = writes-only q;
+  tells-length = λ book b a limit buffer c t x m w. tells-length q book b a limit buffer c x m w t;
+  tells-lacking = tells-lacking q;
+}
 
 pub ours-3 : Demand3 ours
-ours-3 = record {
-  sound = check-accepts-sound;
-  complete = check-accepts-all;
-  writes = λ book b a limit buffer c t x m w. writes book b a limit buffer c x m w t;
-  writes-only = writes-only;
-  tells-length = λ book b a limit buffer c t x m w. tells-length book b a limit buffer c x m w t;
-  tells-uncertain = tells-uncertain;
-}
+ours-3 = our-papers Naming
+
+pub ours-3-twin : Demand3Twin ours
+ours-3-twin = our-papers Clearing
 
 -- ---- end to end
 
--- whatever engine meets demand 3: the paper that it tells is accepted by its own checker
-pub paper-accepted : {e : Engine} → Demand3 e → (book : List ℕ) → Bytes book → (a : AtomNo) (limit : ℕ) (buffer : List ℕ) (t n : ℕ)
-    → e .name book a limit buffer .told ≡ paper t n → e .check book (take n (e .name book a limit buffer .buffer)) ≡ certain a
-paper-accepted {e} d book bytes a limit buffer t n told =
+-- whatever engine meets the demand for papers of a kind: the paper that it tells is accepted by its own checker
+pub paper-accepted : (q : Kind) {e : Engine} → Papers q e → (book : List ℕ) → Bytes book → (a : AtomNo) (limit : ℕ) (buffer : List ℕ)
+    (t n : ℕ) → e .write q book a limit buffer .told ≡ paper t n
+    → e .check book (take n (e .write q book a limit buffer .buffer)) ≡ accepted q a
+paper-accepted q {e} d book bytes a limit buffer t n told =
     let (b, g, most, room, k, later) = d .writes-only book bytes a limit buffer t n told in
     d .complete book _ b a g k (simp length-take (omega arith))
 
-pub our-paper-accepted : (book : List ℕ) → Bytes book → (a : AtomNo) (limit : ℕ) (buffer : List ℕ) (t n : ℕ)
-    → nameOf book a limit buffer .told ≡ paper t n → checkOf book (take n (nameOf book a limit buffer .buffer)) ≡ certain a
-our-paper-accepted = paper-accepted ours-3
+pub our-paper-accepted : (q : Kind) (book : List ℕ) → Bytes book → (a : AtomNo) (limit : ℕ) (buffer : List ℕ) (t n : ℕ)
+    → writeOf book (claim q a) limit buffer .told ≡ paper t n
+    → checkOf book (take n (writeOf book (claim q a) limit buffer .buffer)) ≡ accepted q a
+our-paper-accepted q = paper-accepted q (our-papers q)
+
+-- ---- nobody is both named and cleared
+
+-- "no book has accepted papers of both kinds for one atom", by any checker that is sound for both
+pub never-both : (e : Engine) → Sound Naming e → Sound Clearing e → (book s t : List ℕ) (a : AtomNo)
+    → e .check book s ≡ certain a → e .check book t ≡ clear a → ⊥
+unfolding Holding
+never-both e names clears book s t a p r =
+    let (x, i, (b, g, c)) = names book s a p in
+    let (y, j, (d, h, n)) = clears book t a r in
+    not-both b a c (rw (sym (good-is book h) ∙ good-is book g) at n)
+
+-- where our checker accepts a paper that names the atom, our writer never tells one that clears it; and the other way round
+pub named-not-cleared : (book : List ℕ) → Bytes book → (s : List ℕ) (a : AtomNo) → checkOf book s ≡ certain a
+    → (limit : ℕ) (buffer : List ℕ) (t n : ℕ) → clearOf book a limit buffer .told ≡ paper t n → ⊥
+named-not-cleared book bytes s a p limit buffer t n told =
+    never-both ours (ours-3 .sound) (ours-3-twin .sound) book s _ a p (our-paper-accepted Clearing book bytes a limit buffer t n told)
+
+pub cleared-not-named : (book : List ℕ) → Bytes book → (s : List ℕ) (a : AtomNo) → checkOf book s ≡ clear a
+    → (limit : ℕ) (buffer : List ℕ) (t n : ℕ) → nameOf book a limit buffer .told ≡ paper t n → ⊥
+cleared-not-named book bytes s a p limit buffer t n told =
+    never-both ours (ours-3 .sound) (ours-3-twin .sound) book _ s a (our-paper-accepted Naming book bytes a limit buffer t n told) p

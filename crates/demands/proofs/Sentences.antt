@@ -13,7 +13,9 @@ use borrow.Author.Tests.{ltb-true}
 use Rattle.meaning.specs.declared.AtomNo.{AtomNo}
 use Rattle.meaning.specs.Sets.{every}
 use Rattle.meaning.specs.Books.{Atoms, Book}
-use Rattle.meaning.specs.Claim.{named}
+use Rattle.meaning.specs.declared.kind.Kind.{Kind}
+use Rattle.meaning.specs.declared.kind.Claim.{Claim}
+use Rattle.meaning.specs.Claim.{claim}
 use Rattle.meaning.specs.Written.{nothing}
 use Rattle.meaning.specs.Told.{Told, refusedAt, refused, fewer, stopped, Answered}
 use Rattle.meaning.proofs.Tests.{left, right, lt-or-le}
@@ -27,21 +29,21 @@ use Rattle.walk.proofs.Run.{apart}
 use Rattle.walk.proofs.Needs.{kth-count}
 use Rattle.walk.proofs.Demand.{find-set}
 use Rattle.writer.specs.Needs.{to-end, paperFor}
-use Rattle.writer.specs.Name.{Handed, paper, nameOf}
+use Rattle.writer.specs.Write.{Handed, paper, writeOf}
 use Rattle.writer.proofs.First.{fewer-none}
 use Rattle.writer.proofs.Ways.{Found, Settled, Outcome, first-stopped, no-reading, paper-stopped, got-stuck, too-long, handed-over}
-use Rattle.writer.proofs.Ways.{name-outcome}
-use Rattle.checker.specs.Numbers.{certain}
+use Rattle.writer.proofs.Ways.{write-outcome}
+use Rattle.checker.specs.Numbers.{accepted}
 use Rattle.checker.specs.Check.{checkOf}
 use Rattle.checker.proofs.Accepted.{check-exact}
 use Rattle.demands.specs.Engine.{Engine}
-use Rattle.demands.specs.Demand2.{Call, GivesReadings, Stops, TellsFewer, NamingFewer}
+use Rattle.demands.specs.Demand2.{Call, GivesReadings, Stops, TellsFewer, AskingFewer}
 use Rattle.demands.specs.Demand3.{Complete, InLimit, Writes}
 use Rattle.demands.proofs.Damaged.{every-book}
-use Rattle.demands.proofs.Calls.{found-as, named-as, readings-there, call-counts, nameable}
+use Rattle.demands.proofs.Calls.{found-as, written-as, readings-there, call-counts, nameable}
 use Rattle.demands.proofs.Ours1.{ours-1}
 use Rattle.demands.proofs.Ours2.{ours-2}
-use Rattle.demands.proofs.Ours3.{settled-certain, told-paper, told-none, naming-of, ours-3}
+use Rattle.demands.proofs.Ours3.{settled-holds, told-paper, told-none, asking-of, our-papers}
 
 pub bytes-of : (l : List ℕ) → every (λ n. ltb n 256) l ≡ true → Bytes l
 unfolding every
@@ -122,18 +124,19 @@ module _ (book : List ℕ) (bytes : Bytes book) (k limit : ℕ) (answer : List �
 -- ---- checking
 
 module _ (book s : List ℕ) (bytes : Bytes s) where
-  pub accepts-as-ours : (e : Engine) → Complete e → (a : AtomNo) → checkOf book s ≡ certain a → e .check book s ≡ certain a
-  accepts-as-ours e complete a told =
-      let (g, k, h) = check-exact book s bytes a .0 told in
+  pub accepts-as-ours : (q : Kind) (e : Engine) → Complete q e → (a : AtomNo) → checkOf book s ≡ accepted q a
+      → e .check book s ≡ accepted q a
+  accepts-as-ours q e complete a told =
+      let (g, k, h) = check-exact book s bytes (claim q a) .0 told in
       complete book s (bookIn book) a g k h
 
--- ---- naming
+-- ---- naming and clearing
 
 -- our walks were within the limit where a paper was told, and all branches are settled
-handed : {b : Book} {a : AtomNo} {limit : ℕ} {buffer : List ℕ} {r : Answered Handed} → Outcome b (named a) limit buffer r
+handed : {b : Book} {k : Claim} {limit : ℕ} {buffer : List ℕ} {r : Answered Handed} → Outcome b k limit buffer r
     → {t n : ℕ} → r .told ≡ paper t n
-    → (x : Atoms) × Found b limit x × Settled b (named a) limit × (length (paperFor b (named a) x) ≤ length buffer)
-    × (length (paperFor b (named a) x) ≤ 60000)
+    → (x : Atoms) × Found b limit x × Settled b k limit × (length (paperFor b k x) ≤ length buffer)
+    × (length (paperFor b k x) ≤ 60000)
 handed (first-stopped p h) e = apart (cc)
 handed (no-reading h l) e = apart (cc)
 handed (paper-stopped f p h) e = apart (cc)
@@ -142,7 +145,7 @@ handed (too-long f s l) e = apart (cc)
 handed (handed-over {x} f s h l) e = (x, f, s, h, l)
 
 -- where fewer was told, there is no reading, and the whole walk was within the limit
-none : {b : Book} {a : AtomNo} {limit : ℕ} {buffer : List ℕ} {r : Answered Handed} → Outcome b (named a) limit buffer r
+none : {b : Book} {k : Claim} {limit : ℕ} {buffer : List ℕ} {r : Answered Handed} → Outcome b k limit buffer r
     → {t n : ℕ} → r .told ≡ fewer t n → (length (readings b) < 1) × (length (events b nothing) ≤ limit)
 none (first-stopped p h) e = apart (cc)
 none (no-reading h l) e = (h, l)
@@ -151,27 +154,27 @@ none (got-stuck f u h) e = apart (cc)
 none (too-long f s l) e = apart (cc)
 none (handed-over f s h l) e = apart (cc)
 
-module _ (book : List ℕ) (bytes : Bytes book) (a : AtomNo) (limit : ℕ) (buffer : List ℕ) where
-  pub unnamed-as-ours : (e : Engine) → NamingFewer e → {t n : ℕ} → nameOf book a limit buffer .told ≡ fewer t n
-      → e .name book a limit buffer .told ≡ fewer t n
-  unnamed-as-ours e tells told =
-      let (b, c) = naming-of book bytes a limit buffer told-none told in
-      let in-book = ap (λ (r : Answered Handed). r .told) (sym (named-as (c .good-book) a limit buffer)) ∙ told in
-      let (few, within) = none (name-outcome b (named a) limit buffer (nameable c)) in-book in
-      let lacks = fewer-none b (nameable c .few-rules) few in
-      tells book b a limit buffer c _ (to-last few) within .1 lacks
-      ∙ sym (ours-2 .naming-fewer book b a limit buffer c _ (to-last few) within .1 lacks) ∙ told
+module _ (q : Kind) (book : List ℕ) (bytes : Bytes book) (a : AtomNo) (limit : ℕ) (buffer : List ℕ) where
+  pub unwritten-as-ours : (e : Engine) → AskingFewer e → {t n : ℕ} → writeOf book (claim q a) limit buffer .told ≡ fewer t n
+      → e .write q book a limit buffer .told ≡ fewer t n
+  unwritten-as-ours e tells told =
+      let (b, c) = asking-of q book bytes a limit buffer told-none told in
+      let in-book = ap (λ (r : Answered Handed). r .told) (sym (written-as (c .good-book) (claim q a) limit buffer)) ∙ told in
+      let (few, within) = none (write-outcome b (claim q a) limit buffer (nameable q c)) in-book in
+      let lacks = fewer-none b (nameable q c .few-rules) few in
+      tells q book b a limit buffer c _ (to-last few) within .1 lacks
+      ∙ sym (ours-2 .asking-fewer q book b a limit buffer c _ (to-last few) within .1 lacks) ∙ told
 
-  pub written-as-ours : (e : Engine) → Writes e → {t n : ℕ} → nameOf book a limit buffer .told ≡ paper t n
-      → e .name book a limit buffer ≡ nameOf book a limit buffer
+  pub written-as-ours : (e : Engine) → Writes q e → {t n : ℕ} → writeOf book (claim q a) limit buffer .told ≡ paper t n
+      → e .write q book a limit buffer ≡ writeOf book (claim q a) limit buffer
   written-as-ours e writes {t} told =
-      let (b, c) = naming-of book bytes a limit buffer told-paper told in
-      let in-book = ap (λ (r : Answered Handed). r .told) (sym (named-as (c .good-book) a limit buffer)) ∙ told in
-      let (x, (i, first, h), (all, m), room, most) = handed (name-outcome b (named a) limit buffer (nameable c)) in-book in
-      let w : InLimit b a limit x _ =
+      let (b, c) = asking-of q book bytes a limit buffer told-paper told in
+      let in-book = ap (λ (r : Answered Handed). r .told) (sym (written-as (c .good-book) (claim q a) limit buffer)) ∙ told in
+      let (x, (i, first, h), (all, m), room, most) = handed (write-outcome b (claim q a) limit buffer (nameable q c)) in-book in
+      let w : InLimit b (claim q a) limit x _ =
       record { tries = i; first = first; first-within = h; needs = to-end all; paper-within = m } in
-      let holds = settled-certain c first all in
-      let (k, p, q) = writes book b a limit buffer c holds x _ w room most in
-      let (l, u, v) = ours-3 .writes book b a limit buffer c holds x _ w room most in
-      let same-told = p ∙ sym u in let same-paper = q ∙ sym v in
+      let holds = settled-holds q c first all in
+      let (k, p, r) = writes book b a limit buffer c holds x _ w room most in
+      let (l, u, v) = our-papers q .writes book b a limit buffer c holds x _ w room most in
+      let same-told = p ∙ sym u in let same-paper = r ∙ sym v in
       λ j. record { told = same-told j; buffer = same-paper j }

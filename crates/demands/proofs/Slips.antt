@@ -5,11 +5,13 @@ use mathlib.Core.Bool.{true, false, false≢true}
 use mathlib.Core.List.{List, [], _∷_, List·Memᴰ·head, List·Memᴰ·tail, List·Memᴰ·eq-of-singleton}
 use Prim.Native.Nat.{ℕ}
 use Rattle.meaning.specs.declared.AtomNo.{AtomNo}
+use Rattle.meaning.specs.declared.kind.Kind.{Kind}
+use Rattle.meaning.specs.declared.kind.Kind.the-variants.{Naming, Clearing}
 use Rattle.meaning.specs.Sets.{every, some, everyBelow, someBelow, ascending}
 use Rattle.meaning.specs.Books.{Atoms, atomNo, sameAtom, sameRule, Book, count, rule, everyRule, someRule}
 use Rattle.meaning.specs.AnswerSet.{AnswerSet, Certain}
 use Rattle.meaning.specs.Colours.{put, heads, allIn, mayOn, blocked, clashing, uncoloured}
-use Rattle.meaning.specs.Claim.{shown, ended}
+use Rattle.meaning.specs.Claim.{claim, claimed, markedBy, shownBy, shown, ended, Holding}
 use Rattle.meaning.specs.Paper.{unfounded, fails}
 use Rattle.meaning.specs.Choice.{ifb, ifLt, ifEq}
 use Rattle.meaning.specs.Told.{refusedAt, refused}
@@ -18,17 +20,17 @@ use Rattle.meaning.proofs.Readings.{atomsOf}
 use Rattle.meaning.proofs.Cases.{circular-readings, choice-readings}
 use Rattle.meaning.proofs.Cases.{circular as circularBook, choice as choiceBook}
 use Rattle.meaning.proofs.Answers.{nothing-certain}
-use Rattle.meaning.proofs.Papers.{keeps-certain}
+use Rattle.meaning.proofs.Papers.{keeps-holds}
 use Rattle.book.specs.Format.{u16At, partOf, bytesOf, recordOf, lengthOf, ruleOf, recordsOf, rulesOf, ifFine, bodyOf, readOf}
 use Rattle.book.specs.Format.{andThen as recordsThen, bookOf, bookIn}
 use Rattle.book.specs.Rows.{Bytes}
 use Rattle.walk.specs.Find.{set, findOf}
-use Rattle.writer.specs.Name.{paper, nameOf}
+use Rattle.writer.specs.Write.{paper, nameOf, clearOf}
 use Rattle.checker.specs.Numbers.{certain}
 use Rattle.checker.specs.Steps.{withRule, properList, withList, stepBy, stepOf}
 use Rattle.checker.specs.Branches.{andThen, afterStep, branchOf}
 use Rattle.checker.specs.Witness.{andThen as witnessThen, follows, orderOf, blockedOf, restFails, listOf, witnessVerdict}
-use Rattle.checker.specs.Check.{witnessTold, branchTold, stepsTold, trailerTold, paperOf, checkRead, checkOf}
+use Rattle.checker.specs.Check.{witnessTold, branchTold, stepsTold, trailerTold, markedTold, paperOf, checkRead, checkOf}
 use Rattle.demands.specs.Engine.{Engine}
 use Rattle.demands.specs.Damaged.{GoodBook}
 use Rattle.demands.specs.Demand3.{Sound, WritesOnly}
@@ -59,23 +61,31 @@ circular-uncertain g c = let (x, answer) = c .one in clash (c .each x answer) (m
 -- ---- "An atom called certain because no answer set lacks it, in a book that has none."
 
 -- no paper is accepted for a book without an answer set, by any checker of which demand 3's first half holds
-pub none-certain : (e : Engine) → Sound e → (book : List ℕ) → ((b : Book) → GoodBook book b → (x : Atoms) → AnswerSet b x → ⊥)
+pub none-certain : (e : Engine) → Sound Naming e → (book : List ℕ) → ((b : Book) → GoodBook book b → (x : Atoms) → AnswerSet b x → ⊥)
     → (s : List ℕ) (a : AtomNo) → e .check book s ≡ certain a → ⊥
-none-certain e sound book none s a told = let (p, (b, g, c)) = sound book s a told in nothing-certain b (none b g) c
+unfolding Holding
+none-certain e sound book none s a told = let (p, k, (b, g, c)) = sound book s a told in nothing-certain b (none b g) c
 
 -- ---- "A name taken from the first answer set."
 
 -- a paper is told only if the atom is in every answer set, of any engine of which demand 3's last sentence holds
-pub told-certain : (e : Engine) → WritesOnly e → (book : List ℕ) → Bytes book → (a : AtomNo) (limit : ℕ) (buffer : List ℕ) (t n : ℕ)
-    → e .name book a limit buffer .told ≡ paper t n → (b : Book) × GoodBook book b × Certain b a
-told-certain e only book bytes a limit buffer t n told =
-    let (b, g, most, room, k, later) = only book bytes a limit buffer t n told in (b, g, keeps-certain b a k)
+-- or, for a paper that clears, in none
+pub told-holds : (q : Kind) (e : Engine) → WritesOnly q e → (book : List ℕ) → Bytes book → (a : AtomNo) (limit : ℕ) (buffer : List ℕ)
+    (t n : ℕ) → e .write q book a limit buffer .told ≡ paper t n → (b : Book) × GoodBook book b × Holding q b a
+told-holds q e only book bytes a limit buffer t n told =
+    let (b, g, most, room, k, later) = only book bytes a limit buffer t n told in (b, g, keeps-holds b q a k)
 
 -- so 0 is not named in "0 if not 1; 1 if not 0", where the first answer set has it and the second has not
 pub first-set-names-nobody : (findOf choice 1 1000 (sevens 3) ≡ record { told = set 2; buffer = 1 ∷ 0 ∷ sevens 1 })
     × (nameOf choice (atomNo 0) 1000 (sevens 12) ≡ record { told = refused 12; buffer = sevens 12 })
 unfolding At Holds
 first-set-names-nobody = (row 8, row 11)
+
+-- nor is 0 cleared there: who is not named is not cleared by that
+pub not-named-not-cleared : (nameOf choice (atomNo 0) 1000 (sevens 12) ≡ record { told = refused 12; buffer = sevens 12 })
+    × (clearOf choice (atomNo 0) 1000 (sevens 12) ≡ record { told = refused 18; buffer = sevens 12 })
+unfolding At Holds
+not-named-not-cleared = (row 11, row 32)
 
 pub choice-uncertain : {b : Book} → GoodBook choice b → Certain b (atomNo 0) → ⊥
 unfolding atomsOf
@@ -84,15 +94,22 @@ choice-uncertain g c =
     let answer : AnswerSet choiceBook x = choice-readings .each _ (List·Memᴰ·tail (List·Memᴰ·head refl)) in
     false≢true (c .each x (subst (λ (b : Book). AnswerSet b x) (sym (printed .1) ∙ good-is choice g) answer))
 
+pub choice-unclear : {b : Book} → GoodBook choice b → Holding Clearing b (atomNo 0) → ⊥
+unfolding atomsOf Holding
+choice-unclear g c =
+    let x = atomsOf (true ∷ false ∷ []) in
+    let answer : AnswerSet choiceBook x = choice-readings .each _ (List·Memᴰ·head refl) in
+    false≢true (c .each x (subst (λ (b : Book). AnswerSet b x) (sym (printed .1) ∙ good-is choice g) answer))
+
 -- ---- "The second branch of a split starting from what the first had added."
 -- ---- "Listing a rule under 55 because its negative atoms block it."
 
 pub slips-refused : (checkOf choice carriedPaper ≡ refusedAt 25 3) × (checkOf barredBook barredPaper ≡ refusedAt 25 2)
     × (checkOf barredBook blockedPaper ≡ certain (atomNo 0))
-unfolding checkOf checkRead paperOf trailerTold stepsTold branchTold witnessTold
+unfolding checkOf checkRead paperOf markedTold markedBy trailerTold claimed stepsTold branchTold witnessTold
     witnessVerdict listOf restFails blockedOf orderOf follows witnessThen
     branchOf afterStep andThen stepOf stepBy withList properList withRule
     readOf bodyOf ifFine recordsOf rulesOf ruleOf lengthOf recordOf bytesOf partOf recordsThen u16At
-    unfounded fails ended shown clashing uncoloured blocked mayOn allIn heads put
+    unfounded fails ended shown shownBy clashing uncoloured blocked mayOn allIn heads put
     someRule everyRule rule count sameRule sameAtom ascending someBelow everyBelow some every ifb ifLt ifEq
 slips-refused = (refl, refl, refl)

@@ -8,6 +8,9 @@ use Prim.Native.Nat.{ℕ, _<_}
 use native.Mathlib.Omega.{arith}
 use lib.ListN.{getD}
 use Rattle.meaning.specs.declared.AtomNo.{AtomNo}
+use Rattle.meaning.specs.declared.kind.Kind.{Kind}
+use Rattle.meaning.specs.declared.kind.Kind.the-variants.{Naming}
+use Rattle.meaning.specs.Claim.{claim}
 use Rattle.meaning.specs.Sets.{every}
 use Rattle.meaning.specs.Books.{atomNo, Book}
 use Rattle.meaning.specs.Told.{Told, fewer, stopped, Answered}
@@ -18,19 +21,19 @@ use Rattle.walk.specs.Find.{set, findOf}
 use Rattle.walk.specs.Tries.{Needs}
 use Rattle.walk.proofs.Run.{apart}
 use Rattle.walk.proofs.Needs.{needs-one}
-use Rattle.writer.specs.Name.{Handed, paper, nameOf}
+use Rattle.writer.specs.Write.{Handed, paper, writeOf, nameOf}
 use Rattle.checker.specs.Numbers.{certain}
 use Rattle.checker.specs.Check.{checkOf}
 use Rattle.demands.specs.Engine.{Engine}
-use Rattle.demands.specs.Demand2.{Call, GivesReadings, Stops, TellsFewer, NamingFewer}
+use Rattle.demands.specs.Demand2.{Call, GivesReadings, Stops, TellsFewer, AskingFewer}
 use Rattle.demands.specs.Demand3.{Complete, Writes}
 use Rattle.demands.specs.Printed.{fact, factPaper, choice}
 use Rattle.demands.specs.Worked.{Holds, sevens}
 use Rattle.demands.specs.Useless.{Excuse, at-limit, too-few, by-number, by-place, excused, refusesAll, sameSet}
-use Rattle.demands.specs.Useless.{NeverFinds, NeverNames, NeverAccepts, doesNothing, withTries, inventsTries}
+use Rattle.demands.specs.Useless.{NeverFinds, NeverWrites, NeverAccepts, doesNothing, withTries, inventsTries}
 use Rattle.demands.proofs.Worked.{At, row}
 use Rattle.demands.proofs.Sentences.{bytes-of, good-set, good-stop, given-as-ours, stops-as-ours, fewer-as-ours, accepts-as-ours}
-use Rattle.demands.proofs.Sentences.{unnamed-as-ours, written-as-ours}
+use Rattle.demands.proofs.Sentences.{unwritten-as-ours, written-as-ours}
 
 abbrev told : Answered ℕ → Told ℕ
 told a = a .told
@@ -44,7 +47,7 @@ fact-bytes : Bytes fact
 unfolding every
 fact-bytes = bytes-of fact refl
 
-choice-bytes : Bytes choice
+pub choice-bytes : Bytes choice
 unfolding every
 choice-bytes = bytes-of choice refl
 
@@ -92,13 +95,13 @@ module _ (e : Engine) where
       let t = ap told fact-found in
       let q = stops-as-ours fact fact-bytes 1 1000 (sevens 2) e s good-set t .0 p in apart (cc)
 
-  accepts-fact : Complete e → e .check fact factPaper ≡ certain (atomNo 0)
+  accepts-fact : Complete Naming e → e .check fact factPaper ≡ certain (atomNo 0)
   unfolding every
-  accepts-fact s = accepts-as-ours fact factPaper (bytes-of factPaper refl) e s (atomNo 0) fact-checked
+  accepts-fact s = accepts-as-ours fact factPaper (bytes-of factPaper refl) Naming e s (atomNo 0) fact-checked
 
-  writes-fact : Writes e → e .name fact (atomNo 0) 1000 (sevens 12) ≡ record { told = paper 1 10; buffer = factPaper ++ sevens 2 }
+  writes-fact : Writes Naming e → e .write Naming fact (atomNo 0) 1000 (sevens 12) ≡ record { told = paper 1 10; buffer = factPaper ++ sevens 2 }
   writes-fact s =
-      written-as-ours fact fact-bytes (atomNo 0) 1000 (sevens 12) e s (ap (λ (r : Answered Handed). r .told) fact-named) ∙ fact-named
+      written-as-ours Naming fact fact-bytes (atomNo 0) 1000 (sevens 12) e s (ap (λ (r : Answered Handed). r .told) fact-named) ∙ fact-named
 
 -- ---- "One refuses each call: demand 2's "exactly" and demand 3's last two sentences stop it."
 
@@ -106,10 +109,10 @@ module _ (e : Engine) where
   pub never-finds-fails : NeverFinds e → GivesReadings e → ⊥
   never-finds-fails never s = never fact 1 1000 (sevens 2) 1 (ap told (gives-fact e s))
 
-  pub never-names-fails : NeverNames e → Writes e → ⊥
-  never-names-fails never s = never fact (atomNo 0) 1000 (sevens 12) 1 10 (ap (λ (r : Answered Handed). r .told) (writes-fact e s))
+  pub never-writes-fails : NeverWrites Naming e → Writes Naming e → ⊥
+  never-writes-fails never s = never fact (atomNo 0) 1000 (sevens 12) 1 10 (ap (λ (r : Answered Handed). r .told) (writes-fact e s))
 
-  pub never-accepts-fails : NeverAccepts e → Complete e → ⊥
+  pub never-accepts-fails : NeverAccepts Naming e → Complete Naming e → ⊥
   never-accepts-fails never s = never fact factPaper (atomNo 0) (accepts-fact e s)
 
 -- with one and the same excuse, it does not stop as demand 2 says either
@@ -121,19 +124,19 @@ module _ (i at : ℕ) where
   refuses-all-stops (by-number j) s = let e = stops-fact (refusesAll (by-number j) i at) s in apart (cc)
   refuses-all-stops (by-place j p) s = let e = stops-fact (refusesAll (by-place j p) i at) s in apart (cc)
 
-  refuses-all-names : (w : Excuse) → NeverNames (refusesAll w i at)
+  refuses-all-writes : (q : Kind) (w : Excuse) → NeverWrites q (refusesAll w i at)
   unfolding excused
-  refuses-all-names at-limit book a limit buffer t n e = apart (cc)
-  refuses-all-names (too-few u m) book a limit buffer t n e = apart (cc)
-  refuses-all-names (by-number j) book a limit buffer t n e = apart (cc)
-  refuses-all-names (by-place j p) book a limit buffer t n e = apart (cc)
+  refuses-all-writes q at-limit book a limit buffer t n e = apart (cc)
+  refuses-all-writes q (too-few u m) book a limit buffer t n e = apart (cc)
+  refuses-all-writes q (by-number j) book a limit buffer t n e = apart (cc)
+  refuses-all-writes q (by-place j p) book a limit buffer t n e = apart (cc)
 
   pub refuses-all-fails : (w : Excuse)
-      → (Stops (refusesAll w i at) → ⊥) × (Complete (refusesAll w i at) → ⊥) × (Writes (refusesAll w i at) → ⊥)
+      → (Stops (refusesAll w i at) → ⊥) × (Complete Naming (refusesAll w i at) → ⊥) × (Writes Naming (refusesAll w i at) → ⊥)
   refuses-all-fails w = (
     refuses-all-stops w,
     never-accepts-fails (refusesAll w i at) (λ book s a e. apart (cc)),
-    never-names-fails (refusesAll w i at) (refuses-all-names w),
+    never-writes-fails (refusesAll w i at) (refuses-all-writes Naming w),
   )
 
 -- ---- "One gives the same answer set": demand 2
@@ -144,7 +147,7 @@ same-set-fails f s =
 
 -- ---- "One does nothing and reports success: the sets of demand 2 and the paper of demand 3 must stand in the buffer."
 
-pub does-nothing-fails : (e : Engine) → (GivesReadings (doesNothing e) → ⊥) × (Writes (doesNothing e) → ⊥)
+pub does-nothing-fails : (e : Engine) → (GivesReadings (doesNothing e) → ⊥) × (Writes Naming (doesNothing e) → ⊥)
 does-nothing-fails e = (
   λ s. let p = ap first-byte (gives-fact (doesNothing e) s) in absurd (omega arith),
   λ s. let p = ap (λ (r : Answered Handed). getD (r .buffer) 0 0) (writes-fact (doesNothing e) s) in absurd (omega arith),
@@ -171,16 +174,16 @@ module _ (e : Engine) (book : List ℕ) (bytes : Bytes book) (limit : ℕ) where
         → e .find book k limit answer .told ≡ fewer u m → u ≡ t
     fewer-tries-ours s p q = let same = fewer-as-ours book bytes k limit answer e s p in cc
 
-  module _ (a : AtomNo) (buffer : List ℕ) where
-    pub paper-tries-ours : Writes e → {t n u m : ℕ} → nameOf book a limit buffer .told ≡ paper t n
-        → e .name book a limit buffer .told ≡ paper u m → u ≡ t
-    paper-tries-ours s p q =
-        let same = ap (λ (r : Answered Handed). r .told) (written-as-ours book bytes a limit buffer e s p) in
-        ap (λ (h : Handed). h .tries) (success-one (sym q ∙ same ∙ p))
+  module _ (q : Kind) (a : AtomNo) (buffer : List ℕ) where
+    pub paper-tries-ours : Writes q e → {t n u m : ℕ} → writeOf book (claim q a) limit buffer .told ≡ paper t n
+        → e .write q book a limit buffer .told ≡ paper u m → u ≡ t
+    paper-tries-ours s p r =
+        let same = ap (λ (r : Answered Handed). r .told) (written-as-ours q book bytes a limit buffer e s p) in
+        ap (λ (h : Handed). h .tries) (success-one (sym r ∙ same ∙ p))
 
-    pub unnamed-tries-ours : NamingFewer e → {t n u m : ℕ} → nameOf book a limit buffer .told ≡ fewer t n
-        → e .name book a limit buffer .told ≡ fewer u m → u ≡ t
-    unnamed-tries-ours s p q = let same = unnamed-as-ours book bytes a limit buffer e s p in cc
+    pub unwritten-tries-ours : AskingFewer e → {t n u m : ℕ} → writeOf book (claim q a) limit buffer .told ≡ fewer t n
+        → e .write q book a limit buffer .told ≡ fewer u m → u ≡ t
+    unwritten-tries-ours s p r = let same = unwritten-as-ours q book bytes a limit buffer e s p in cc
 
 -- whatever an engine counts for the limit: if it stops exactly when its count passes the limit, its count is the tries of the fixed walk
 pub counts-tries : (e : Engine) → Stops e → (book : List ℕ) (b : Book) (k : ℕ) (answer : List ℕ) → Call book b k answer

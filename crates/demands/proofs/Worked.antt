@@ -7,7 +7,7 @@ use Rattle.meaning.specs.Sets.{every, some, everyBelow, someBelow, ascending}
 use Rattle.meaning.specs.Books.{sameAtom, sameRule, count, rule, everyRule, someRule}
 use Rattle.meaning.specs.AnswerSet.{generates, generating}
 use Rattle.meaning.specs.Colours.{put, heads, allIn, mayOn, blocked, starved, clashing, uncoloured}
-use Rattle.meaning.specs.Claim.{claimed, mark, shown, ended}
+use Rattle.meaning.specs.Claim.{claimed, markOf, mark, markedBy, shownBy, shown, ended}
 use Rattle.meaning.specs.Paper.{unfounded, fails, trailer}
 use Rattle.meaning.specs.Written.{of, addFrom, added}
 use Rattle.meaning.specs.Computed.{iterate, upheld, supportMore, support, goesOff, closeMore, marked, close}
@@ -24,30 +24,32 @@ use Rattle.writer.specs.Branches.{behind, branchBy, branchIn, branch, below, br
 use Rattle.writer.specs.Scan.{courseAt, scan}
 use Rattle.writer.specs.Scan.{met as branchMet}
 use Rattle.writer.specs.Needs.{wholePaper}
-use Rattle.writer.specs.Name.{firstWalk, paperWalk, handOver, afterPaperWalk, afterFirstWalk, nameIn, nameRead, nameOf}
+use Rattle.writer.specs.Write.{lacking, firstWalk, paperWalk, handOver, afterPaperWalk, afterFirstWalk, writeIn, writeRead, writeOf}
 use Rattle.checker.specs.Steps.{withRule, properList, withList, stepBy, stepOf}
 use Rattle.checker.specs.Branches.{afterStep, branchOf}
 use Rattle.checker.specs.Branches.{andThen as branchThen}
 use Rattle.checker.specs.Witness.{follows, orderOf, blockedOf, restFails, listOf, witnessVerdict}
 use Rattle.checker.specs.Witness.{andThen as witnessThen}
-use Rattle.checker.specs.Check.{witnessTold, branchTold, stepsTold, trailerTold, paperOf, checkRead, checkOf}
+use Rattle.checker.specs.Check.{witnessTold, branchTold, stepsTold, trailerTold, markedTold, paperOf, checkRead, checkOf}
 use Rattle.demands.specs.Engine.{ours}
 use Rattle.demands.specs.Worked.{Holds, Each, no-more, _and_, cases}
 
 pub worked : Each (Holds ours) cases
 unfolding Holds every some everyBelow someBelow ascending sameAtom sameRule count rule everyRule someRule generates generating put heads
-    allIn mayOn blocked starved clashing uncoloured claimed mark shown ended unfounded fails trailer of addFrom added iterate upheld
+    allIn mayOn blocked starved clashing uncoloured claimed markOf mark markedBy shownBy shown ended unfounded fails trailer of addFrom added iterate upheld
     supportMore support goesOff closeMore marked close onPick oneOr lowestFrom lowest listedIf
     rulesFrom rulesIn firstOf unsupported next listable listing ownWitness ifb ifLt ifEq u16At partOf andThen bytesOf recordOf lengthOf
     ruleOf recordsOf rulesOf ifFine bodyOf readOf after eventsIn events rowFrom rowOf writeAt readingMet tried met run toldBy findIn
     findRead findOf setIn behind branchBy branchIn branch below branchesIn branches courseAt branchMet scan firstWalk paperWalk
-    wholePaper handOver afterPaperWalk afterFirstWalk nameIn nameRead nameOf withRule properList withList stepBy stepOf branchThen
+    wholePaper handOver afterPaperWalk afterFirstWalk lacking writeIn writeRead writeOf withRule properList withList stepBy stepOf branchThen
     afterStep branchOf witnessThen follows orderOf blockedOf restFails listOf witnessVerdict witnessTold branchTold stepsTold trailerTold
-    paperOf checkRead checkOf
+    markedTold paperOf checkRead checkOf
 worked =
     refl and refl and refl and refl and refl and refl and refl and refl and refl and
     refl and refl and refl and refl and refl and refl and refl and refl and refl and
     refl and refl and refl and refl and refl and refl and refl and refl and refl and
+    refl and refl and refl and refl and refl and refl and refl and refl and
+    refl and refl and refl and refl and refl and refl and refl and refl and
     no-more
 
 -- ---- a row of the table

@@ -9,10 +9,11 @@ use mathlib.Core.Logic.{_⊎_, _↔_}
 use Prim.Native.Nat.{ℕ, _≤_, _<_}
 use lib.ListN.{length}
 use Rattle.meaning.specs.declared.AtomNo.{AtomNo}
+use Rattle.meaning.specs.declared.kind.Kind.{Kind}
 use Rattle.meaning.specs.Books.{Book}
 use Rattle.meaning.specs.Told.{refusedAt, refused}
 use Rattle.walk.specs.Find.{set}
-use Rattle.writer.specs.Name.{paper}
+use Rattle.writer.specs.Write.{paper}
 use Rattle.demands.specs.Engine.{Engine}
 use Rattle.demands.specs.Damaged.{GoodBook, DamagedBook, DamagedPaper}
 
@@ -20,8 +21,8 @@ pub record Demand1 (e : Engine) : Type 0 where
   -- a damaged book, whatever else is handed over with it; a damaged paper
   pub find-book : (book : List ℕ) (k limit : ℕ) (answer : List ℕ) (i at : ℕ)
       → (e .find book k limit answer .told ≡ refusedAt i at) ↔ DamagedBook book i at
-  pub name-book : (book : List ℕ) (a : AtomNo) (limit : ℕ) (buffer : List ℕ) (i at : ℕ)
-      → (e .name book a limit buffer .told ≡ refusedAt i at) ↔ DamagedBook book i at
+  pub write-book : (q : Kind) (book : List ℕ) (a : AtomNo) (limit : ℕ) (buffer : List ℕ) (i at : ℕ)
+      → (e .write q book a limit buffer .told ≡ refusedAt i at) ↔ DamagedBook book i at
   pub check-bytes : (book s : List ℕ) (i at : ℕ)
       → (e .check book s ≡ refusedAt i at) ↔ (DamagedBook book i at ⊎ ((b : Book) × GoodBook book b × DamagedPaper b s i at))
   -- numbers that cannot be: k is 0 (15), an atom that the book does not have (13); a buffer too short (8)
@@ -29,10 +30,10 @@ pub record Demand1 (e : Engine) : Type 0 where
       → (e .find book k limit answer .told ≡ refused 15) ↔ ((b : Book) × GoodBook book b × (k ≡ 0))
   pub find-room : (book : List ℕ) (k limit : ℕ) (answer : List ℕ)
       → (e .find book k limit answer .told ≡ refused 8) ↔ ((b : Book) × GoodBook book b × (0 < k) × (length answer < b .atoms))
-  pub name-atom : (book : List ℕ) (a : AtomNo) (limit : ℕ) (buffer : List ℕ)
-      → (e .name book a limit buffer .told ≡ refused 13) ↔ ((b : Book) × GoodBook book b × (b .atoms ≤ a .0))
+  pub write-atom : (q : Kind) (book : List ℕ) (a : AtomNo) (limit : ℕ) (buffer : List ℕ)
+      → (e .write q book a limit buffer .told ≡ refused 13) ↔ ((b : Book) × GoodBook book b × (b .atoms ≤ a .0))
   -- whatever is told but success, every lent byte is as it was
   pub find-keeps : (book : List ℕ) (k limit : ℕ) (answer : List ℕ)
       → ((t : ℕ) → e .find book k limit answer .told ≡ set t → ⊥) → e .find book k limit answer .buffer ≡ answer
-  pub name-keeps : (book : List ℕ) (a : AtomNo) (limit : ℕ) (buffer : List ℕ)
-      → ((t n : ℕ) → e .name book a limit buffer .told ≡ paper t n → ⊥) → e .name book a limit buffer .buffer ≡ buffer
+  pub write-keeps : (q : Kind) (book : List ℕ) (a : AtomNo) (limit : ℕ) (buffer : List ℕ)
+      → ((t n : ℕ) → e .write q book a limit buffer .told ≡ paper t n → ⊥) → e .write q book a limit buffer .buffer ≡ buffer

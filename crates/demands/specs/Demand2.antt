@@ -3,7 +3,7 @@
 -- asked exactly when there are fewer."
 --
 --   Call book b k answer     a call for a reading whose book, numbers and room are good
---   Naming book b a          a call for a paper whose book and number are good
+--   Asking book b a          a call for a paper whose book and number are good
 --   Bytes book               (of book) each number is a byte, below 256
 --   AllReadings b l          (of walk) the list l holds exactly the answer sets of b, each once, in the order that speaks of no walk
 --   Needs b k n              (of walk) the fixed walk needs n tries for the k-th reading, or to its end where there are fewer
@@ -16,9 +16,10 @@ use mathlib.Core.Logic.{_⊎_, _↔_}
 use Prim.Native.Nat.{ℕ, _-_, _≤_, _<_}
 use lib.ListN.{length, getD, drop}
 use Rattle.meaning.specs.declared.AtomNo.{AtomNo}
+use Rattle.meaning.specs.declared.kind.Kind.{Kind}
 use Rattle.meaning.specs.Books.{Atoms, Book}
 use Rattle.meaning.specs.AnswerSet.{AnswerSet}
-use Rattle.meaning.specs.Claim.{named}
+use Rattle.meaning.specs.Claim.{claim}
 use Rattle.meaning.specs.Told.{fewer, stopped}
 use Rattle.book.specs.Rows.{Bytes}
 use Rattle.walk.specs.Readings.{AllReadings}
@@ -35,7 +36,7 @@ pub record Call (book : List ℕ) (b : Book) (k : ℕ) (answer : List ℕ) : Typ
   pub good-number : 0 < k
   pub good-room : b .atoms ≤ length answer
 
-pub record Naming (book : List ℕ) (b : Book) (a : AtomNo) : Type 0 where
+pub record Asking (book : List ℕ) (b : Book) (a : AtomNo) : Type 0 where
   pub bytes : Bytes book
   pub good-book : GoodBook book b
   pub good-number : a .0 < b .atoms
@@ -59,22 +60,22 @@ TellsFewer e = (book : List ℕ) (b : Book) (k limit : ℕ) (answer : List ℕ) 
     → (l : List Atoms) → AllReadings b l → (n : ℕ) → Needs b k n → n ≤ limit
     → (e .find book k limit answer .told ≡ fewer n (length l)) ↔ (length l < k)
 
--- the same two of a call for a paper: "answer set 1 with limit L ...; then the paper's walk with a fresh L"; "fewer than k answer sets
+-- the same two of a call for a paper of either kind: "answer set 1 with limit L ...; then the paper's walk with a fresh L"; "fewer than k answer sets
 -- (naming: none)"
-abbrev pub NamingStops : Engine → Type 0
-NamingStops e = (book : List ℕ) (b : Book) (a : AtomNo) (limit : ℕ) (buffer : List ℕ) → Naming book b a
-    → (n m : ℕ) → Needs b 1 n → PaperNeeds b (named a) m
-    → (e .name book a limit buffer .told ≡ stopped limit)
+abbrev pub AskingStops : Engine → Type 0
+AskingStops e = (q : Kind) (book : List ℕ) (b : Book) (a : AtomNo) (limit : ℕ) (buffer : List ℕ) → Asking book b a
+    → (n m : ℕ) → Needs b 1 n → PaperNeeds b (claim q a) m
+    → (e .write q book a limit buffer .told ≡ stopped limit)
     ↔ ((limit < n) ⊎ ((n ≤ limit) × ((x : Atoms) × AnswerSet b x) × (limit < m)))
 
-abbrev pub NamingFewer : Engine → Type 0
-NamingFewer e = (book : List ℕ) (b : Book) (a : AtomNo) (limit : ℕ) (buffer : List ℕ) → Naming book b a
+abbrev pub AskingFewer : Engine → Type 0
+AskingFewer e = (q : Kind) (book : List ℕ) (b : Book) (a : AtomNo) (limit : ℕ) (buffer : List ℕ) → Asking book b a
     → (n : ℕ) → Needs b 1 n → n ≤ limit
-    → (e .name book a limit buffer .told ≡ fewer n 0) ↔ ((x : Atoms) → AnswerSet b x → ⊥)
+    → (e .write q book a limit buffer .told ≡ fewer n 0) ↔ ((x : Atoms) → AnswerSet b x → ⊥)
 
 pub record Demand2 (e : Engine) : Type 0 where
   pub gives-readings : GivesReadings e
   pub stops : Stops e
   pub tells-fewer : TellsFewer e
-  pub naming-stops : NamingStops e
-  pub naming-fewer : NamingFewer e
+  pub asking-stops : AskingStops e
+  pub asking-fewer : AskingFewer e

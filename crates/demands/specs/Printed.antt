@@ -53,3 +53,32 @@ abbrev pub six : List ℕ
 six =
     0 ∷ 0 ∷ 0 ∷ 1 ∷ 1 ∷ 0 ∷ 0 ∷ 2 ∷ 1 ∷ 1 ∷ 1 ∷ 3 ∷ 3 ∷ 1 ∷ 1 ∷ 0 ∷ 2 ∷ 1 ∷ 1 ∷ 0 ∷ 4 ∷ 5 ∷ 2 ∷ 1 ∷ 2 ∷ 3 ∷ 5
     ∷ 0 ∷ 0 ∷ 3 ∷ 0 ∷ 7 ∷ 0 ∷ 12 ∷ 0 ∷ 17 ∷ 0 ∷ 21 ∷ 0 ∷ 6 ∷ 6 ∷ 27 ∷ 0 ∷ 0x52 ∷ 0x42 ∷ []
+
+-- ---- papers that clear (document 02, request 2)
+
+-- the paper that names 0 in "Fact 0" with 43, and with 44, in the place of 46
+abbrev pub factAsClearing : List ℕ
+factAsClearing = 0x41 ∷ 0 ∷ 0x45 ∷ 0 ∷ 0 ∷ 1 ∷ 3 ∷ 0 ∷ 0x50 ∷ 0x43 ∷ []
+
+abbrev pub factUnmarked : List ℕ
+factUnmarked = 0x41 ∷ 0 ∷ 0x45 ∷ 0 ∷ 0 ∷ 1 ∷ 3 ∷ 0 ∷ 0x50 ∷ 0x44 ∷ []
+
+-- "0 if 1; 1 if 0": 55 02 00 01 45 | | 00 00 05 00 50 43; the same with 46; and 45 alone
+abbrev pub circularCleared : List ℕ
+circularCleared = 0x55 ∷ 2 ∷ 0 ∷ 1 ∷ 0x45 ∷ 0 ∷ 0 ∷ 5 ∷ 0 ∷ 0x50 ∷ 0x43 ∷ []
+
+abbrev pub circularAsNaming : List ℕ
+circularAsNaming = 0x55 ∷ 2 ∷ 0 ∷ 1 ∷ 0x45 ∷ 0 ∷ 0 ∷ 5 ∷ 0 ∷ 0x50 ∷ 0x46 ∷ []
+
+abbrev pub hastyCleared : List ℕ
+hastyCleared = 0x45 ∷ 0 ∷ 0 ∷ 1 ∷ 0 ∷ 0x50 ∷ 0x43 ∷ []
+
+-- the six-rule program, atom 4, which has no rule: 45 | 00 01 02 | 04 03 01 00 50 43
+abbrev pub sixCleared4 : List ℕ
+sixCleared4 = 0x45 ∷ 0 ∷ 1 ∷ 2 ∷ 4 ∷ 3 ∷ 1 ∷ 0 ∷ 0x50 ∷ 0x43 ∷ []
+
+-- and atom 5: 41 00 41 01 55 01 04 53 02 42 03 55 01 05 45 41 03 55 01 05 45 | 00 01 02 | 05 03 15 00 50 43
+abbrev pub sixCleared5 : List ℕ
+sixCleared5 =
+    0x41 ∷ 0 ∷ 0x41 ∷ 1 ∷ 0x55 ∷ 1 ∷ 4 ∷ 0x53 ∷ 2 ∷ 0x42 ∷ 3 ∷ 0x55 ∷ 1 ∷ 5 ∷ 0x45 ∷ 0x41 ∷ 3 ∷ 0x55 ∷ 1 ∷ 5 ∷ 0x45
+    ∷ 0 ∷ 1 ∷ 2 ∷ 5 ∷ 3 ∷ 0x15 ∷ 0 ∷ 0x50 ∷ 0x43 ∷ []

@@ -1,27 +1,32 @@
--- The five useless versions of document 01. What the fault of an engine here does not touch, it does as ours does; a parameter e or f may
+-- The five useless versions of document 01, and two that mix the kinds of paper. What the fault of an engine here does not touch, it does as ours does; a parameter e or f may
 -- be anything. A predicate is there for every engine with that fault, whatever else it does. Document 01, "What the promises say": "Five
 -- useless versions are to be tried."
 --
 --   refusesAll w i at    "One refuses each call": with the excuse w, and the paper with number i at the place `at`
 --   NeverFinds e         the same with excuses that may differ from call to call: e never tells a reading
---   NeverNames e         e never tells a paper
---   NeverAccepts e       e never tells that an atom is certain
+--   NeverWrites q e      e never tells a paper of this kind
+--   NeverAccepts q e     e never accepts a paper of this kind
 --   sameSet f            "One gives the same answer set": f finds it without a look at k
 --   alwaysAccepts        "or always accepts": every paper in which nothing of 1 to 23 is wrong
 --   closesOnce           "One closes once and calls the rest off"
 --   firstBranch          "or checks only the first branch": of each split; the second is passed over by its form
 --   doesNothing e        "One does nothing and reports success": whatever e reports
+--   clearsUncertain      clears whoever naming refuses with 12
+--   mixesKinds           checks every paper by naming's 45, and tells the kind of its mark
 --   inventsTries n       "One invents tries": always n, in finding. Of every engine it is shown (proofs/Useless) that demand 2 or 3 does
 --                        not hold of it if, at any call, it tells other tries than ours with a reading, with a paper or with 11
 use mathlib.Core.Path.{_≡_}
-use mathlib.Core.List.{List, [], _∷_}
-use Prim.Native.Nat.{ℕ, zero, suc, _+_}
-use lib.ListN.{length, getD}
+use mathlib.Core.List.{List, [], _∷_, _++_}
+use Prim.Native.Nat.{ℕ, zero, suc, _+_, _-_}
+use lib.ListN.{length, getD, take}
 use Rattle.meaning.specs.declared.AtomNo.{AtomNo}
+use Rattle.meaning.specs.declared.kind.Kind.{Kind}
+use Rattle.meaning.specs.declared.kind.Kind.the-variants.{Naming, Clearing}
 use Rattle.meaning.specs.declared.colouring.Colouring.{Colouring}
 use Rattle.meaning.specs.Books.{Book}
 use Rattle.meaning.specs.Colours.{Pair, onSide, put, start, clashing}
-use Rattle.meaning.specs.Claim.{Claim}
+use Rattle.meaning.specs.declared.kind.Claim.{Claim}
+use Rattle.meaning.specs.Claim.{claim}
 use Rattle.meaning.specs.Paper.{codeOn, codeOff, codeUnfounded, codeSplit, codeEnd}
 use Rattle.meaning.specs.Written.{nothing, pair}
 use Rattle.meaning.specs.Computed.{close}
@@ -31,14 +36,14 @@ use Rattle.book.specs.Format.{BookRead, good, bad, readOf, bookIn}
 use Rattle.walk.specs.Readings.{readingOf}
 use Rattle.walk.specs.Run.{rowOf, writeAt}
 use Rattle.walk.specs.Find.{set, findOf}
-use Rattle.writer.specs.Name.{paper, nameOf}
-use Rattle.checker.specs.Numbers.{certain}
+use Rattle.writer.specs.Write.{Handed, paper, nameOf, clearOf}
+use Rattle.checker.specs.Numbers.{accepted}
 use Rattle.checker.specs.Steps.{Stepped, goes, parts, ends, fails, stepOf}
 use Rattle.checker.specs.Branches.{Walked, done, andThen}
 use Rattle.checker.specs.Branches.{wrongAt}
 use Rattle.checker.specs.Check.{branchTold, checkOf}
-use Rattle.checker.specs.Rows.{atomOf, countOf, startOf, claimOf}
-use Rattle.demands.specs.Engine.{Engine}
+use Rattle.checker.specs.Rows.{kindOf, countOf, startOf, claimOf}
+use Rattle.demands.specs.Engine.{Engine, ourWrite}
 
 -- ---- refuses each call
 
@@ -58,33 +63,34 @@ excused (by-place i at) limit = refusedAt i at
 abbrev pub refusesAll : Excuse → ℕ → ℕ → Engine
 refusesAll w i at = record {
   find = λ book k limit answer. record { told = excused w limit; buffer = answer };
-  name = λ book a limit buffer. record { told = excused w limit; buffer = buffer };
+  write = λ q book a limit buffer. record { told = excused w limit; buffer = buffer };
   check = λ book s. refusedAt i at;
 }
 
 abbrev pub NeverFinds : Engine → Type 0
 NeverFinds e = (book : List ℕ) (k limit : ℕ) (answer : List ℕ) (t : ℕ) → e .find book k limit answer .told ≡ set t → ⊥
 
-abbrev pub NeverNames : Engine → Type 0
-NeverNames e = (book : List ℕ) (a : AtomNo) (limit : ℕ) (buffer : List ℕ) (t n : ℕ) → e .name book a limit buffer .told ≡ paper t n → ⊥
+abbrev pub NeverWrites : Kind → Engine → Type 0
+NeverWrites q e = (book : List ℕ) (a : AtomNo) (limit : ℕ) (buffer : List ℕ) (t n : ℕ)
+    → e .write q book a limit buffer .told ≡ paper t n → ⊥
 
-abbrev pub NeverAccepts : Engine → Type 0
-NeverAccepts e = (book s : List ℕ) (a : AtomNo) → e .check book s ≡ certain a → ⊥
+abbrev pub NeverAccepts : Kind → Engine → Type 0
+NeverAccepts q e = (book s : List ℕ) (a : AtomNo) → e .check book s ≡ accepted q a → ⊥
 
 -- ---- gives the same answer set, or always accepts
 
 abbrev pub sameSet : (List ℕ → ℕ → List ℕ → Answered ℕ) → Engine
-sameSet f = record { find = λ book k limit answer. f book limit answer; name = nameOf; check = checkOf }
+sameSet f = record { find = λ book k limit answer. f book limit answer; write = ourWrite; check = checkOf }
 
 -- our own refusals by 1 to 23, otherwise the answer t
-unfoldable pub formFirst : Told AtomNo → Told AtomNo → Told AtomNo
+unfoldable pub formFirst : Told Claim → Told Claim → Told Claim
 formFirst (success a) t = t
 formFirst (refusedWith i l) t = t
 formFirst (refusedAt i at) t = ifLt i 24 (refusedAt i at) t
 formFirst (refused i) t = t
 
 abbrev pub alwaysAccepts : Engine
-alwaysAccepts = record { find = findOf; name = nameOf; check = λ book s. formFirst (checkOf book s) (certain (atomOf s)) }
+alwaysAccepts = record { find = findOf; write = ourWrite; check = λ book s. formFirst (checkOf book s) (success (claimOf s)) }
 
 -- ---- closes once and calls the rest off, or checks only the first branch
 
@@ -103,7 +109,7 @@ onceOf (good n r index l) k limit answer =
 onceOf (bad i at) k limit answer = record { told = refusedAt i at; buffer = answer }
 
 abbrev pub closesOnce : Engine
-closesOnce = record { find = λ book k limit answer. onceOf (readOf book) k limit answer; name = nameOf; check = checkOf }
+closesOnce = record { find = λ book k limit answer. onceOf (readOf book) k limit answer; write = ourWrite; check = checkOf }
 
 -- the end of the branch at byte `at`, by the codes of its steps alone
 unfoldable pub skipOf : ℕ → List ℕ → ℕ → Walked
@@ -129,8 +135,8 @@ firstOf (suc f) b k s from at c =
 abbrev pub firstBranch : Engine
 firstBranch = record {
   find = findOf;
-  name = nameOf;
-  check = λ book s. formFirst (checkOf book s) (branchTold (bookIn book) s (atomOf s) (countOf s) (startOf s)
+  write = ourWrite;
+  check = λ book s. formFirst (checkOf book s) (branchTold (bookIn book) (claimOf s) s (countOf s) (startOf s)
       (firstOf (suc (startOf s)) (bookIn book) (claimOf s) s (startOf s) 0 start));
 }
 
@@ -139,7 +145,7 @@ firstBranch = record {
 abbrev pub doesNothing : Engine → Engine
 doesNothing e = record {
   find = λ book k limit answer. record { told = e .find book k limit answer .told; buffer = answer };
-  name = λ book a limit buffer. record { told = e .name book a limit buffer .told; buffer = buffer };
+  write = λ q book a limit buffer. record { told = e .write q book a limit buffer .told; buffer = buffer };
   check = e .check;
 }
 
@@ -161,6 +167,36 @@ abbrev pub inventsTries : ℕ → Engine
 inventsTries n = record {
   find = λ book k limit answer.
       record { told = withTries n (findOf book k limit answer .told); buffer = findOf book k limit answer .buffer };
-  name = nameOf;
+  write = ourWrite;
   check = checkOf;
 }
+
+-- ---- mixes the two kinds of paper (document 02, request 2)
+
+-- a paper is told where naming told 12; else what clearing tells
+unfoldable pub orCleared : Told Handed → List ℕ → Answered Handed → Answered Handed
+orCleared (success h) buffer r = r
+orCleared (refusedWith i l) buffer r = r
+orCleared (refusedAt i at) buffer r = r
+orCleared (refused i) buffer r = ifEq i 12 (record { told = paper 1 0; buffer = buffer }) r
+
+unfoldable pub clearsBy : Kind → List ℕ → AtomNo → ℕ → List ℕ → Answered Handed
+clearsBy Naming book a limit buffer = nameOf book a limit buffer
+clearsBy Clearing book a limit buffer = orCleared (nameOf book a limit buffer .told) buffer (clearOf book a limit buffer)
+
+abbrev pub clearsUncertain : Engine
+clearsUncertain = record { find = findOf; write = clearsBy; check = checkOf }
+
+-- what is accepted, told as of another kind
+unfoldable pub toldAs : Kind → Told Claim → Told Claim
+toldAs q (success k) = accepted q (k .atom)
+toldAs q (refusedWith i l) = refusedWith i l
+toldAs q (refusedAt i at) = refusedAt i at
+toldAs q (refused i) = refused i
+
+-- the paper with naming's mark
+abbrev pub asNaming : List ℕ → List ℕ
+asNaming s = take (length s - 1) s ++ (0x46 ∷ [])
+
+abbrev pub mixesKinds : Engine
+mixesKinds = record { find = findOf; write = ourWrite; check = λ book s. toldAs (kindOf s) (checkOf book (asNaming s)) }

@@ -1,4 +1,4 @@
--- Document 01's cases marked *, in a single table. L is 1,000 where it isn't said. Each buffer is lent with every byte 7, so that a byte
+-- Document 01's cases marked *, and those of request 2 in document 02 after them, in a single table. L is 1,000 where it isn't said. Each buffer is lent with every byte 7, so that a byte
 -- that is written, and one that is kept, can be seen.
 --
 --   Case             a call with what it is to tell, and with the buffer afterwards
@@ -8,27 +8,32 @@ use mathlib.Core.Path.{_≡_}
 use mathlib.Core.List.{List, [], _∷_, _++_}
 use Prim.Native.Nat.{ℕ}
 use lib.ListN.{replicate}
-use Rattle.meaning.specs.declared.AtomNo.{AtomNo}
+use Rattle.meaning.specs.declared.kind.Kind.the-variants.{Naming, Clearing}
+use Rattle.meaning.specs.declared.kind.Claim.{Claim}
 use Rattle.meaning.specs.Books.{atomNo}
 use Rattle.meaning.specs.Told.{Told, refusedAt, refused, fewer, stopped}
 use Rattle.walk.specs.Find.{set}
-use Rattle.writer.specs.Name.{Handed, paper}
-use Rattle.checker.specs.Numbers.{certain}
+use Rattle.writer.specs.Write.{Handed, paper}
+use Rattle.checker.specs.Numbers.{certain, clear}
 use Rattle.demands.specs.Engine.{Engine}
 use Rattle.demands.specs.Printed.{empty, fact, factPaper, hastyPaper, choice, contrary, circular, circularPaper, undone}
-use Rattle.demands.specs.Printed.{eitherWay, eitherWayPaper, six}
+use Rattle.demands.specs.Printed.{eitherWay, eitherWayPaper, six, factAsClearing, factUnmarked, circularCleared, circularAsNaming}
+use Rattle.demands.specs.Printed.{hastyCleared, sixCleared4, sixCleared5}
 
 pub data Case : Type 0 where
   -- book, k, L, the buffer before; what is told, the buffer afterwards
   finding : List ℕ → ℕ → ℕ → List ℕ → Told ℕ → List ℕ → Case
   -- book, atom, L, the buffer before; what is told, the buffer afterwards
   naming : List ℕ → ℕ → ℕ → List ℕ → Told Handed → List ℕ → Case
+  -- the same, of a call that clears
+  clearing : List ℕ → ℕ → ℕ → List ℕ → Told Handed → List ℕ → Case
   -- book, paper; what is told
-  checking : List ℕ → List ℕ → Told AtomNo → Case
+  checking : List ℕ → List ℕ → Told Claim → Case
 
 unfoldable pub Holds : Engine → Case → Type 0
 Holds e (finding book k limit before t after) = e .find book k limit before ≡ record { told = t; buffer = after }
-Holds e (naming book a limit before t after) = e .name book (atomNo a) limit before ≡ record { told = t; buffer = after }
+Holds e (naming book a limit before t after) = e .write Naming book (atomNo a) limit before ≡ record { told = t; buffer = after }
+Holds e (clearing book a limit before t after) = e .write Clearing book (atomNo a) limit before ≡ record { told = t; buffer = after }
 Holds e (checking book s t) = e .check book s ≡ t
 
 infixr 5 _and_
@@ -78,4 +83,24 @@ cases =
     ∷ finding six 1 1000 (sevens 7) (set 2) (1 ∷ 1 ∷ 1 ∷ 0 ∷ 0 ∷ 0 ∷ sevens 1)
     ∷ finding six 2 1000 (sevens 7) (set 3) (1 ∷ 1 ∷ 0 ∷ 1 ∷ 0 ∷ 0 ∷ sevens 1)
     ∷ finding six 3 1000 (sevens 7) (fewer 3 2) (sevens 7)
+    -- papers that clear: two rules that hold each other up; the same steps do not name; an atom that has a rule needs a step
+    ∷ clearing circular 0 1000 (sevens 12) (paper 1 11) (circularCleared ++ sevens 1)
+    ∷ checking circular circularCleared (clear (atomNo 0))
+    ∷ checking circular circularAsNaming (refusedAt 25 4)
+    ∷ checking circular hastyCleared (refusedAt 25 0)
+    -- 18: a reading holds the atom; 11: there is no reading
+    ∷ clearing fact 0 1000 (sevens 12) (refused 18) (sevens 12)
+    ∷ clearing choice 0 1000 (sevens 12) (refused 18) (sevens 12)
+    ∷ clearing contrary 0 1000 (sevens 12) (fewer 3 0) (sevens 12)
+    -- an atom without a rule; an atom whose rules are off in both readings; 9, 14 and 13
+    ∷ clearing six 4 1000 (sevens 11) (paper 1 10) (sixCleared4 ++ sevens 1)
+    ∷ checking six sixCleared4 (clear (atomNo 4))
+    ∷ clearing six 5 1000 (sevens 30) (paper 3 30) sixCleared5
+    ∷ checking six sixCleared5 (clear (atomNo 5))
+    ∷ clearing six 5 2 (sevens 30) (stopped 2) (sevens 30)
+    ∷ clearing six 5 1000 (sevens 29) (refused 14) (sevens 29)
+    ∷ clearing six 6 1000 (sevens 30) (refused 13) (sevens 30)
+    -- the paper that names 0, under the other mark and under neither
+    ∷ checking fact factAsClearing (refusedAt 25 2)
+    ∷ checking fact factUnmarked (refusedAt 21 8)
     ∷ []

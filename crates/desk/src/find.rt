@@ -1,56 +1,62 @@
 // `find K L ROOM BOOK`: the K-th reading, within L tries, in a buffer of ROOM bytes. Answers
 // `set TRIES a b c`, `fewer TRIES SETS`, `limit L` or `refused NUMBER [PLACE]`.
+ghost use Rattle.io.specs.Counts.{Counts};
 use crate::call::read_call;
+use crate::numbers::put_two;
 use book::Read;
 use book::read_book;
-use listing::print_set;
+use listing::put_set;
+use talk::Refused;
 use talk::first_bytes;
-use talk::print;
-use talk::print_number;
-use talk::print_refusal;
+use talk::put_number;
+use talk::put_refused;
+use talk::put_text;
+use talk::refused_book;
 use walk::Found;
 use walk::find;
 
-// Writes the atoms of the set that stands in the answer of a good book.
-fn print_answer(book: &[u8], answer: &[u8]) {
+// The atoms of the set that stands in the answer of a good book.
+fn put_answer(book: &[u8], answer: &[u8], out: &mut [u8], held: usize) -> usize
+    requires { ⌜ Counts held (now out) ⌝ }
+    ensures { λ r. ⌜ Counts r (now (out .exit)) ⌝ }
+{
     let Read::Good(shape) = read_book(book) else {
-        return;
+        return held;
     };
-    print_set(first_bytes(answer, shape.atoms as usize));
+    put_set(first_bytes(answer, shape.atoms as usize), out, held)
 }
 
-// Asks the engine, and writes what it answers.
-fn tell_found(book: &[u8], k: u32, limit: u32, answer: &mut [u8]) {
+// Asks the engine, and puts what it answers at the start of out.
+fn tell_found(book: &[u8], k: u32, limit: u32, answer: &mut [u8], out: &mut [u8]) -> usize
+    ensures { λ r. ⌜ Counts r (now (out .exit)) ⌝ }
+{
     match find(book, k, limit, answer) {
         Found::Set(tries) => {
-            print(b"set ");
-            print_number(tries as u64);
-            print_answer(book, answer);
+            let held = put_text(b"set ", out, 0);
+            let held = put_number(tries as u64, out, held);
+            put_answer(book, answer, out, held)
         }
-        Found::Fewer(tries, sets) => {
-            print(b"fewer ");
-            print_number(tries as u64);
-            print(b" ");
-            print_number(sets as u64);
-        }
+        Found::Fewer(tries, sets) => put_two(b"fewer ", tries as u64, sets as u64, out),
         Found::Stopped(tries) => {
-            print(b"limit ");
-            print_number(tries as u64);
+            let held = put_text(b"limit ", out, 0);
+            put_number(tries as u64, out, held)
         }
-        Found::Book(why) => print_refusal(why.number(), why.place()),
-        Found::NoRoom => print(b"refused 8"),
-        Found::NoNumber => print(b"refused 15"),
+        Found::Book(why) => put_refused(refused_book(why), out, 0),
+        Found::NoRoom => put_refused(Refused::Plain(8), out, 0),
+        Found::NoNumber => put_refused(Refused::Plain(15), out, 0),
     }
-    print(b"\n");
 }
 
-// Answers the command where its words are right, and gives whether they are.
-pub fn answer_find(words: &[u8], book: &mut [u8], room: &mut [u8]) -> bool {
+// Puts the answer to the command at the start of out, and gives its length: 0 where the command's
+// words are not right.
+pub fn answer_find(words: &[u8], book: &mut [u8], room: &mut [u8], out: &mut [u8]) -> usize
+    ensures { λ r. ⌜ Counts r (now (out .exit)) ⌝ }
+{
     let call = read_call(words, book, room);
-    if call.good {
-        let n = call.count;
-        let size = call.size;
-        tell_found(&book[..n], call.first, call.limit, &mut room[..size]);
+    if !call.good {
+        return 0;
     }
-    call.good
+    let n = call.count;
+    let size = call.size;
+    tell_found(&book[..n], call.first, call.limit, &mut room[..size], out)
 }

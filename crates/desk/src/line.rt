@@ -1,36 +1,55 @@
 // One line: a command and its words, which are parted by one space.
+ghost use Rattle.io.specs.Counts.{Counts};
 use crate::find::answer_find;
 use crate::paper_check::answer_check;
 use crate::paper_name::answer_name;
 use crate::readings::answer_readings;
 use check::same;
+use meaning::Kind;
 use talk::first_word;
 use talk::other_words;
 use talk::print;
+use talk::put_text;
 
-// Answers the line where it is a command, and gives whether it is one.
-fn answer_command(line: &[u8], book: &mut [u8], room: &mut [u8]) -> bool {
+// Puts the answer to the line at the start of out, where it is a command of one answer, and gives
+// its length; 0 where it is none.
+fn answer_command(line: &[u8], book: &mut [u8], room: &mut [u8], out: &mut [u8]) -> usize
+    ensures { λ r. ⌜ Counts r (now (out .exit)) ⌝ }
+{
     let command = first_word(line);
     let words = other_words(line);
     if same(command, b"find") {
-        return answer_find(words, book, room);
+        return answer_find(words, book, room, out);
     }
     if same(command, b"name") {
-        return answer_name(words, book, room);
+        return answer_name(words, Kind::Naming, book, room, out);
+    }
+    if same(command, b"clear") {
+        return answer_name(words, Kind::Clearing, book, room, out);
     }
     if same(command, b"check") {
-        return answer_check(words, book, room);
+        return answer_check(words, book, room, out);
     }
-    if same(command, b"readings") {
-        return answer_readings(words, book);
-    }
-    false
+    0
 }
 
-// Writes the answer to the line, or `bad line`. A book is read into the one buffer; the other is
-// lent to the engine.
-pub fn answer_line(line: &[u8], book: &mut [u8], room: &mut [u8]) {
-    if !answer_command(line, book, room) {
+// Writes the answer to the line at once, or `bad line`.
+fn answer_at_once(line: &[u8], book: &mut [u8], room: &mut [u8], out: &mut [u8]) {
+    let held = answer_command(line, book, room, out);
+    if held == 0 {
         print(b"bad line\n");
+        return;
     }
+    let held = put_text(b"\n", out, held);
+    print(&out[..held]);
+}
+
+// Writes the answer to the line: at once, but for `readings`, which goes in pieces. A book is read
+// into the one buffer, another is lent to the engine, and the last takes the answer.
+pub fn answer_line(line: &[u8], book: &mut [u8], room: &mut [u8], out: &mut [u8]) {
+    if same(first_word(line), b"readings") {
+        answer_readings(other_words(line), book);
+        return;
+    }
+    answer_at_once(line, book, room, out);
 }

@@ -8,18 +8,21 @@ mod call;
 mod find;
 mod input;
 mod line;
+mod numbers;
 mod paper_check;
 mod paper_name;
 mod readings;
 
 fn main() {
     if os::arg_count() != 1 {
-        talk::print(b"bad call: desk takes its commands from standard input\n");
+        talk::complain_of_call(b"desk takes its commands from standard input");
         return;
     }
     // The longest line that is taken has `check`, a book of 16,384 bytes and a paper of 65,536.
     let mut line = [0u8; 163847];
     let mut book = [0u8; 16384];
     let mut room = [0u8; 65536];
-    input::answer_all(&mut line, &mut book, &mut room);
+    // The longest answer but `readings` has `paper`, two numbers and the digits of all of the room.
+    let mut out = [0u8; 131200];
+    input::answer_all(&mut line, &mut book, &mut room, &mut out);
 }

@@ -1,46 +1,61 @@
-// `check BOOK PAPER`: answers `certain ATOM` or `refused NUMBER PLACE`.
+// `check BOOK PAPER`: answers `certain ATOM`, `clear ATOM` or `refused NUMBER PLACE`.
+ghost use Rattle.io.specs.Counts.{Counts};
 use checker::Checked;
 use checker::check;
+use meaning::Claim;
+use meaning::Kind;
 use talk::first_word;
 use talk::other_words;
-use talk::print;
-use talk::print_number;
-use talk::print_refusal;
+use talk::put_number;
+use talk::put_refused;
+use talk::put_text;
 use talk::read_bytes;
+use talk::refused_paper;
 
-// Asks the checker, and writes what it answers.
-fn tell_checked(book: &[u8], paper: &[u8]) {
-    match check(book, paper) {
-        Checked::Certain(atom) => {
-            print(b"certain ");
-            print_number(atom.0 as u64);
-        }
-        Checked::Book(why) => print_refusal(why.number(), why.place()),
-        Checked::Length => print_refusal(20, 0),
-        Checked::Mark(at) => print_refusal(21, at),
-        Checked::Trailer(at) => print_refusal(22, at),
-        Checked::Atom(at) => print_refusal(23, at),
-        Checked::Form(at) => print_refusal(24, at),
-        Checked::Fails(at) => print_refusal(25, at),
-        Checked::Gap(at) => print_refusal(26, at),
-        Checked::Witness(at) => print_refusal(27, at),
+// What holds of the atom of a claim of this kind.
+fn put_kind(kind: Kind, out: &mut [u8]) -> usize
+    ensures { λ r. ⌜ Counts r (now (out .exit)) ⌝ }
+{
+    match kind {
+        Kind::Naming => put_text(b"certain ", out, 0),
+        Kind::Clearing => put_text(b"clear ", out, 0),
     }
-    print(b"\n");
 }
 
-// Answers the command where its words are right, and gives whether they are. The paper is read into
-// the room.
-pub fn answer_check(words: &[u8], book: &mut [u8], room: &mut [u8]) -> bool {
+// The kind of claim that holds, and its atom.
+fn put_claim(claim: Claim, out: &mut [u8]) -> usize
+    ensures { λ r. ⌜ Counts r (now (out .exit)) ⌝ }
+{
+    let kind = claim.kind;
+    let held = put_kind(kind, out);
+    put_number(claim.atom.0 as u64, out, held)
+}
+
+// Asks the checker, and puts what it answers at the start of out.
+fn tell_checked(book: &[u8], paper: &[u8], out: &mut [u8]) -> usize
+    ensures { λ r. ⌜ Counts r (now (out .exit)) ⌝ }
+{
+    let answer = check(book, paper);
+    match answer {
+        Checked::Accepted(claim) => put_claim(claim, out),
+        _ => put_refused(refused_paper(answer), out, 0),
+    }
+}
+
+// Puts the answer to the command at the start of out, and gives its length: 0 where the command's
+// words are not right. The paper is read into the room.
+pub fn answer_check(words: &[u8], book: &mut [u8], room: &mut [u8], out: &mut [u8]) -> usize
+    ensures { λ r. ⌜ Counts r (now (out .exit)) ⌝ }
+{
     let decoded = read_bytes(first_word(words), book);
     if !decoded.good {
-        return false;
+        return 0;
     }
     let paper = read_bytes(other_words(words), room);
     if !paper.good {
-        return false;
+        return 0;
     }
     let n = decoded.count;
     let m = paper.count;
-    tell_checked(&book[..n], &room[..m]);
-    true
+    tell_checked(&book[..n], &room[..m], out)
 }

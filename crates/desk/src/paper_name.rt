@@ -1,55 +1,67 @@
-// `name ATOM L ROOM BOOK`: the paper that names the atom, each of its two walks within L tries, in
-// a buffer of ROOM bytes. Answers `paper TRIES LENGTH PAPER`, `fewer TRIES 0`, `limit L` or
-// `refused NUMBER [PLACE]`.
+// `name ATOM L ROOM BOOK` and `clear ATOM L ROOM BOOK`: the paper that names or clears the atom, each
+// of its two walks within L tries, in a buffer of ROOM bytes. Answers `paper TRIES LENGTH PAPER`,
+// `fewer TRIES 0`, `limit L` or `refused NUMBER [PLACE]`.
+ghost use Rattle.io.specs.Counts.{Counts};
 use crate::call::read_call;
+use crate::numbers::put_two;
 use meaning::AtomNo;
+use meaning::Claim;
+use meaning::Kind;
 use talk::first_bytes;
-use talk::print;
-use talk::print_bytes;
-use talk::print_number;
-use talk::print_refusal;
+use talk::put_bytes;
+use talk::put_number;
+use talk::put_refused;
+use talk::put_text;
+use talk::refused_name;
 use writer::Named;
-use writer::name;
+use writer::write_claim;
 
-// Asks the engine, and writes what it answers.
-fn tell_named(book: &[u8], atom: AtomNo, limit: u32, paper: &mut [u8]) {
-    match name(book, atom, limit, paper) {
+// Asks the engine, and puts what it answers at the start of out.
+fn tell_named(book: &[u8], claim: Claim, limit: u32, paper: &mut [u8], out: &mut [u8]) -> usize
+    ensures { λ r. ⌜ Counts r (now (out .exit)) ⌝ }
+{
+    let answer = write_claim(book, claim, limit, paper);
+    match answer {
         Named::Paper(tries, length) => {
-            print(b"paper ");
-            print_number(tries as u64);
-            print(b" ");
-            print_number(length as u64);
-            print(b" ");
-            print_bytes(first_bytes(paper, length));
+            let held = put_two(b"paper ", tries as u64, length as u64, out);
+            let held = put_text(b" ", out, held);
+            put_bytes(first_bytes(paper, length), out, held)
         }
-        Named::Fewer(tries) => {
-            print(b"fewer ");
-            print_number(tries as u64);
-            print(b" 0");
-        }
+        Named::Fewer(tries) => put_two(b"fewer ", tries as u64, 0, out),
         Named::Stopped(tries) => {
-            print(b"limit ");
-            print_number(tries as u64);
+            let held = put_text(b"limit ", out, 0);
+            put_number(tries as u64, out, held)
         }
-        Named::Book(why) => print_refusal(why.number(), why.place()),
-        Named::NotCertain => print(b"refused 12"),
-        Named::NoAtom => print(b"refused 13"),
-        Named::TooLong => print(b"refused 14"),
+        _ => put_refused(refused_name(answer), out, 0),
     }
-    print(b"\n");
 }
 
-// Answers the command where its words are right, and gives whether they are.
-pub fn answer_name(words: &[u8], book: &mut [u8], room: &mut [u8]) -> bool {
+// Puts the answer to the command at the start of out, and gives its length: 0 where the command's
+// words are not right.
+pub fn answer_name(
+    words: &[u8],
+    kind: Kind,
+    book: &mut [u8],
+    room: &mut [u8],
+    out: &mut [u8],
+) -> usize
+    ensures { λ r. ⌜ Counts r (now (out .exit)) ⌝ }
+{
     let call = read_call(words, book, room);
+    if !call.good {
+        return 0;
+    }
     if 255 < call.first {
-        return false;
+        return 0;
     }
-    if call.good {
-        let n = call.count;
-        let size = call.size;
-        let atom = AtomNo(call.first as u8);
-        tell_named(&book[..n], atom, call.limit, &mut room[..size]);
-    }
-    call.good
+    let n = call.count;
+    let size = call.size;
+    let atom = AtomNo(call.first as u8);
+    tell_named(
+        &book[..n],
+        Claim { kind, atom },
+        call.limit,
+        &mut room[..size],
+        out,
+    )
 }

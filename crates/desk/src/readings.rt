@@ -3,14 +3,14 @@ use listing::list;
 use talk::print;
 use talk::read_bytes;
 
-// Answers the command where its words are right, and gives whether they are.
-pub fn answer_readings(words: &[u8], book: &mut [u8]) -> bool {
+// Answers the command, or that its words are not right.
+pub fn answer_readings(words: &[u8], book: &mut [u8]) {
     let decoded = read_bytes(words, book);
     if !decoded.good {
-        return false;
+        print(b"bad line\n");
+        return;
     }
     let n = decoded.count;
     list(&book[..n], b'|');
     print(b"\n");
-    true
 }

@@ -7,5 +7,5 @@ mod piece;
 mod rows;
 mod whole;
 
-pub use rows::print_set;
+pub use rows::put_set;
 pub use whole::list;

@@ -20,7 +20,7 @@ fn put_atom(a: usize, byte: u8, piece: &mut [u8], held: usize) -> usize
 }
 
 // A space and its number for each atom of the row.
-fn put_set(row: &[u8], piece: &mut [u8], held: usize) -> usize
+pub fn put_set(row: &[u8], piece: &mut [u8], held: usize) -> usize
     requires { ⌜ Counts held (now piece) ⌝ }
     ensures { λ r. ⌜ Counts r (now (piece .exit)) ⌝ }
 {
@@ -42,13 +42,6 @@ fn put_line(n: u64, row: &[u8], line_end: u8, piece: &mut [u8], held: usize) -> 
     let colon = put(b':', piece, number);
     let set = put_set(row, piece, colon);
     put(line_end, piece, set)
-}
-
-// Writes a space and its number for each atom of the row.
-pub fn print_set(row: &[u8]) {
-    let mut piece = [0u8; 1020];
-    let held = put_set(row, &mut piece, 0);
-    print(&piece[..held]);
 }
 
 // Writes the lines of the first rows of a page; `before` readings were listed before. Gives the end

@@ -7,9 +7,12 @@ use book::Shape;
 use book::read_book;
 use meaning::Colouring;
 use std::num::wrapping_add_u64;
+use talk::Refused;
 use talk::print;
-use talk::print_number;
-use talk::print_refusal;
+use talk::put_number;
+use talk::put_refused;
+use talk::put_text;
+use talk::refused_book;
 use walk::Page;
 use walk::page;
 
@@ -39,18 +42,33 @@ impl Progress {
 
 // Writes `WORD SETS tries TRIES` and the line end: the last line of a listing.
 fn print_end(word: &[u8], sets: u64, tries: u32, line_end: u8) {
-    print(word);
-    print(b" ");
-    print_number(sets);
-    print(b" tries ");
-    print_number(tries as u64);
-    print(&[line_end]);
+    let mut line = [0u8; 128];
+    let held = put_text(word, &mut line, 0);
+    let held = put_text(b" ", &mut line, held);
+    let held = put_number(sets, &mut line, held);
+    let held = put_text(b" tries ", &mut line, held);
+    let held = put_number(tries as u64, &mut line, held);
+    let held = put_text(&[line_end], &mut line, held);
+    print(&line[..held]);
 }
 
-// Writes `refused NUMBER PLACE` and the line end.
-fn print_refused(number: u8, place: usize, line_end: u8) {
-    print_refusal(number, place);
-    print(&[line_end]);
+// Writes `refused NUMBER PLACE`, or `refused NUMBER` where there is no place, and the line end.
+fn print_refused(refused: Refused, line_end: u8) {
+    let mut line = [0u8; 128];
+    let held = put_refused(refused, &mut line, 0);
+    let held = put_text(&[line_end], &mut line, held);
+    print(&line[..held]);
+}
+
+// Writes `rules R atoms A` and the line end: the first line of a listing.
+fn print_start(shape: Shape, line_end: u8) {
+    let mut line = [0u8; 128];
+    let held = put_text(b"rules ", &mut line, 0);
+    let held = put_number(shape.rules as u64, &mut line, held);
+    let held = put_text(b" atoms ", &mut line, held);
+    let held = put_number(shape.atoms as u64, &mut line, held);
+    let held = put_text(&[line_end], &mut line, held);
+    print(&line[..held]);
 }
 
 // How many rows a full page has; a book without atoms has one reading.
@@ -117,8 +135,8 @@ fn list_page(
             let sets = print_last(rows, atoms, count, before, line_end);
             print_end(b"stopped", sets, LIMIT, line_end);
         }
-        Page::Book(why) => print_refused(why.number(), why.place(), line_end),
-        Page::NoRoom => print_refused(8, 0, line_end),
+        Page::Book(why) => print_refused(refused_book(why), line_end),
+        Page::NoRoom => print_refused(Refused::Plain(8), line_end),
     }
     so_far.ended()
 }
@@ -143,13 +161,9 @@ fn list_pages(book: &[u8], shape: Shape, line_end: u8) {
 // Writes what the program `readings` prints for the book, with `line_end` at the end of each line.
 pub fn list(book: &[u8], line_end: u8) {
     match read_book(book) {
-        Read::Refused(why) => print_refused(why.number(), why.place(), line_end),
+        Read::Refused(why) => print_refused(refused_book(why), line_end),
         Read::Good(shape) => {
-            print(b"rules ");
-            print_number(shape.rules as u64);
-            print(b" atoms ");
-            print_number(shape.atoms as u64);
-            print(&[line_end]);
+            print_start(shape, line_end);
             list_pages(book, shape, line_end);
         }
     }

@@ -151,6 +151,11 @@ module _ (b : Book) where
     lost-out a e = refuted (λ p.
         let (r, h, m, q) = heads-by b (generating b x) a (in-heads a p) in clash m (not-true _ (allIn-at b _ a e r h q)))
 
+    -- the pair that stands for an answer set has all rules of an atom off just where the set lacks it
+    pub answer-lost : (a : AtomNo) → allIn b (colouringOf b x .off) a ≡ not (x a)
+    answer-lost a = same _ _ (λ e. ap not (lost-out a e)) (λ n. allIn-all b _ a (λ r h q.
+        ap not (refuted (λ m. clash (rw q at (heads-in _ (heads-of b _ r h m))) (not-true _ n)))))
+
     pub answer-closed : Closed b (colouringOf b x)
     unfolding mayOn blocked starved
     answer-closed = record {

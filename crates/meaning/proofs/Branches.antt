@@ -10,7 +10,8 @@ use Rattle.meaning.specs.Sets.{_∈_}
 use Rattle.meaning.specs.Books.{Atoms, Book, InBook}
 use Rattle.meaning.specs.AnswerSet.{AnswerSet}
 use Rattle.meaning.specs.Colours.{Pair, Side, onSide, offSide, side, put, mayOn, blocked, Closed, Within, colouringOf}
-use Rattle.meaning.specs.Claim.{Claim, meant}
+use Rattle.meaning.specs.declared.kind.Claim.{Claim}
+use Rattle.meaning.specs.Claim.{meant}
 use Rattle.meaning.specs.Paper.{unfounded, Branch, step-41, step-42, step-55, step-53, step-45}
 use Rattle.meaning.proofs.Rules.{within-off, one-under, put-within}
 use Rattle.meaning.proofs.Answers.{answer-closed, answer-total, unfounded-off}

@@ -1,29 +1,44 @@
 -- The laws of a claim: what a pair shows holds of every answer set that stands above it, and what holds of an answer set is shown by the
--- pair that stands for it (blueprint, section 6). The first two laws and the last are the only ones that take a claim apart.
+-- pair that stands for it (blueprint, section 6). The first two laws, and the law that says what a right claim is, are the only ones that
+-- go by the kind of claim.
 use mathlib.Core.Path.{_≡_, sym, _∙_}
-use mathlib.Core.Logic.{⊎-elim}
-use mathlib.Core.Bool.{true, false}
+use mathlib.Core.Logic.{⊎-elim, _↔_}
+use mathlib.Core.Bool.{true, false, not}
+use borrow.Author.Tests.{not-true}
 use Rattle.meaning.specs.declared.AtomNo.{AtomNo}
-use Rattle.meaning.specs.Sets.{_∈_, _∉_}
+use Rattle.meaning.specs.declared.kind.Kind.{Kind}
+use Rattle.meaning.specs.declared.kind.Kind.the-variants.{Naming, Clearing}
+use Rattle.meaning.specs.declared.kind.Claim.{Claim}
+use Rattle.meaning.specs.Sets.{_∈_, _∉_, _⊆_}
 use Rattle.meaning.specs.Books.{Atoms, Book}
-use Rattle.meaning.specs.AnswerSet.{AnswerSet, Throughout, Certain}
+use Rattle.meaning.specs.AnswerSet.{AnswerSet, Throughout, Certain, Clear}
 use Rattle.meaning.specs.Colours.{Pair, Within, Closed, Total, Consistent, clashing, colouringOf, heads}
-use Rattle.meaning.specs.Claim.{Claim, named, meant, shown, ended}
+use Rattle.meaning.specs.Claim.{claim, meantBy, meant, shownBy, shown, ended, Holding}
 use Rattle.meaning.proofs.Tests.{either, clash, refuted}
-use Rattle.meaning.proofs.Rules.{heads-mono, within-on, within-both, clashing-mono, consistent-clashing}
-use Rattle.meaning.proofs.Answers.{answer-heads, answer-consistent, total-answer, total-stands}
+use Rattle.meaning.proofs.Rules.{heads-mono, allIn-mono, within-on, within-off, within-both, clashing-mono, consistent-clashing}
+use Rattle.meaning.proofs.Answers.{answer-heads, answer-lost, answer-consistent, total-answer, total-stands}
 
 module _ (b : Book) where
+  by-kind-mono : (q : Kind) {c d : Pair} → Within b c d → shownBy q b c ⊆ shownBy q b d
+  unfolding shownBy
+  by-kind-mono Naming w = heads-mono b (within-on b w)
+  by-kind-mono Clearing w = allIn-mono b (within-off b w)
+
   -- what is shown stays shown as the pair grows; so it depends on the rules of the book only
   pub shown-mono : (k : Claim) {c d : Pair} → Within b c d → shown b k c ≡ true → shown b k d ≡ true
   unfolding shown
-  shown-mono (named a) w e = heads-mono b (within-on b w) a e
+  shown-mono k w e = by-kind-mono (k .kind) w (k .atom) e
 
   module _ (x : Atoms) (answer : AnswerSet b x) where
+    by-kind-meant : (q : Kind) (a : AtomNo) → shownBy q b (colouringOf b x) a ≡ meantBy q (x a)
+    unfolding shownBy meantBy
+    by-kind-meant Naming a = answer-heads b x answer a
+    by-kind-meant Clearing a = answer-lost b x answer a
+
     -- the pair that stands for an answer set shows just the claims that hold of it
     pub shown-meant : (k : Claim) → shown b k (colouringOf b x) ≡ meant k x
     unfolding shown meant
-    shown-meant (named a) = answer-heads b x answer a
+    shown-meant k = by-kind-meant (k .kind) (k .atom)
 
     pub claim-shown : (k : Claim) → x ∈ meant k → shown b k (colouringOf b x) ≡ true
     claim-shown k m = shown-meant k ∙ m
@@ -42,7 +57,12 @@ module _ (b : Book) where
         above : Within b (colouringOf b (heads b (c .on))) c
         above = let s = total-stands b c closed total consistent in within-both b (λ r h m. s r h .0 ∙ m) (λ r h m. s r h .1 ∙ m)
 
-  -- a naming that holds throughout is a certain atom
-  pub named-certain : (a : AtomNo) → Throughout b (meant (named a)) → Certain b a
-  unfolding meant
-  named-certain a t = t
+  -- a right claim of either kind: the atom is certain, or it is clear
+  pub claim-holds : (q : Kind) (a : AtomNo) → Throughout b (meant (claim q a)) ↔ Holding q b a
+  unfolding meant meantBy Holding
+  claim-holds Naming a = (λ t. t, λ t. t)
+  claim-holds Clearing a = (λ t. t, λ t. t)
+
+  -- nobody is both certain and clear: the answer set that there is would hold the atom and lack it
+  pub not-both : (a : AtomNo) → Certain b a → Clear b a → ⊥
+  not-both a c n = let (x, answer) = c .one in clash (c .each x answer) (not-true _ (n .each x answer))

@@ -16,7 +16,8 @@ use Rattle.meaning.specs.Books.{Rules, among, Book, count, InBook}
 use Rattle.meaning.specs.AnswerSet.{AnswerSet, Throughout}
 use Rattle.meaning.specs.Colours.{Pair, plus, heads, allIn, mayOn, blocked, uncoloured, Under, Support, Closed, Total, Consistent}
 use Rattle.meaning.specs.Colours.{clashing}
-use Rattle.meaning.specs.Claim.{Claim, meant, ended}
+use Rattle.meaning.specs.declared.kind.Claim.{Claim}
+use Rattle.meaning.specs.Claim.{meant, ended}
 use Rattle.meaning.specs.Paper.{numbers, unfounded}
 use Rattle.meaning.specs.Written.{of}
 use Rattle.meaning.specs.Computed.{support}

@@ -16,6 +16,7 @@ pub mod Answers
 pub mod LeastModel
 pub mod Order
 pub mod Adequacy
+pub mod Marks
 pub mod Claim
 pub mod Branches
 pub mod Witness

@@ -13,7 +13,7 @@ use Rattle.meaning.specs.Sets.{every, some, everyBelow, someBelow}
 use Rattle.meaning.specs.Books.{Atoms, atomNo, ruleNo, sameAtom, sameRule, Rule, Book, count, rule, among, everyRule, someRule}
 use Rattle.meaning.specs.AnswerSet.{generates, generating}
 use Rattle.meaning.specs.Colours.{onSide, put, start, heads, allIn, mayOn, blocked, uncoloured, clashing}
-use Rattle.meaning.specs.Claim.{named, claimed, mark, shown, ended}
+use Rattle.meaning.specs.Claim.{named, claimed, markOf, mark, shownBy, shown, ended}
 use Rattle.meaning.specs.Paper.{step-41, step-53, step-45, grounded, once, fails, Witness, trailer, Keeps}
 use Rattle.meaning.specs.Written.{of, addFrom, added}
 use Rattle.meaning.specs.Computed.{iterate, upheld, supportMore, support}
@@ -54,7 +54,7 @@ pub first-steps :
     × (next fact (named (atomNo 0)) (put onSide (ruleNo 0 ∷ []) start) ≡ ends)
     × (next circle (named (atomNo 0)) start ≡ drops (ruleNo 0 ∷ (ruleNo 1 ∷ [])))
     × (next either-way (named (atomNo 2)) start ≡ splits (ruleNo 0))
-unfolding next firstOf ended clashing shown heads allIn mayOn blocked uncoloured put everyRule someRule everyBelow someBelow every some
+unfolding next firstOf ended clashing shown shownBy heads allIn mayOn blocked uncoloured put everyRule someRule everyBelow someBelow every some
     count rule sameAtom sameRule lowest lowestFrom oneOr rulesIn rulesFrom listedIf
     unsupported of addFrom added iterate upheld supportMore support
 first-steps = (refl, refl, refl, refl)
@@ -85,7 +85,7 @@ module _ (b : Book) (w : List RuleNo) where
 
 -- "41 00 45 | 00 | 00 01 03 00 50 46"
 pub fact-paper : Keeps fact (named (atomNo 0)) (0x41 ∷ (0 ∷ (0x45 ∷ (0 ∷ (0 ∷ (1 ∷ (3 ∷ (0 ∷ (0x50 ∷ (0x46 ∷ []))))))))))
-unfolding trailer claimed mark ended clashing shown heads mayOn put grounded once fails everyRule someRule everyBelow someBelow every some
+unfolding trailer claimed mark markOf ended clashing shown shownBy heads mayOn put grounded once fails everyRule someRule everyBelow someBelow every some
     count rule sameAtom sameRule
 fact-paper = record {
   steps = 0x41 ∷ (0 ∷ (0x45 ∷ []));
@@ -103,7 +103,7 @@ either-way-steps =
 
 pub either-way-paper : Keeps either-way (named (atomNo 2))
     (either-way-steps ++ (2 ∷ (0 ∷ (2 ∷ (2 ∷ (0x10 ∷ (0 ∷ (0x50 ∷ (0x46 ∷ [])))))))))
-unfolding trailer claimed mark ended clashing shown heads allIn mayOn uncoloured put grounded once fails everyRule someRule everyBelow
+unfolding trailer claimed mark markOf ended clashing shown shownBy heads allIn mayOn uncoloured put grounded once fails everyRule someRule everyBelow
     someBelow every some count rule sameAtom sameRule
 either-way-paper = record {
   steps = either-way-steps;

@@ -6,13 +6,16 @@ use Prim.Native.Nat.{ℕ}
 use Rattle.meaning.specs.declared.AtomNo.{AtomNo}
 use Rattle.meaning.specs.Sets.{_∈_, _∉_}
 use Rattle.meaning.specs.Books.{Atoms, among, Book}
-use Rattle.meaning.specs.AnswerSet.{AnswerSet, Throughout, Certain}
+use Rattle.meaning.specs.AnswerSet.{AnswerSet, Throughout, Certain, Clear}
 use Rattle.meaning.specs.Colours.{Pair, start, heads, Within}
-use Rattle.meaning.specs.Claim.{Claim, named, meant}
+use Rattle.meaning.specs.declared.kind.Kind.{Kind}
+use Rattle.meaning.specs.declared.kind.Kind.the-variants.{Naming, Clearing}
+use Rattle.meaning.specs.declared.kind.Claim.{Claim}
+use Rattle.meaning.specs.Claim.{claim, named, cleared, meant, Holding}
 use Rattle.meaning.specs.Paper.{Branch, Keeps}
 use Rattle.meaning.proofs.Tests.{clash}
 use Rattle.meaning.proofs.Rules.{within-both}
-use Rattle.meaning.proofs.Claim.{named-certain}
+use Rattle.meaning.proofs.Claim.{claim-holds, not-both}
 use Rattle.meaning.proofs.Branches.{branch-sound}
 use Rattle.meaning.proofs.Witness.{witness-answer}
 
@@ -35,5 +38,18 @@ module _ (b : Book) where
       each = branch-each (p .branch);
     }
 
+  -- a paper of either kind that keeps the printed rules is right
+  pub keeps-holds : (q : Kind) (a : AtomNo) {paper : List ℕ} → Keeps b (claim q a) paper → Holding q b a
+  keeps-holds q a p = claim-holds b q a .0 (keeps-throughout (claim q a) p)
+
   pub keeps-certain : (a : AtomNo) {paper : List ℕ} → Keeps b (named a) paper → Certain b a
-  keeps-certain a p = named-certain b a (keeps-throughout (named a) p)
+  unfolding Holding
+  keeps-certain a p = keeps-holds Naming a p
+
+  pub keeps-clear : (a : AtomNo) {paper : List ℕ} → Keeps b (cleared a) paper → Clear b a
+  unfolding Holding
+  keeps-clear a p = keeps-holds Clearing a p
+
+  -- no book has papers of both kinds for one atom
+  pub keeps-one-kind : (a : AtomNo) {s t : List ℕ} → Keeps b (named a) s → Keeps b (cleared a) t → ⊥
+  keeps-one-kind a p q = not-both b a (keeps-certain a p) (keeps-clear a q)

@@ -1,21 +1,21 @@
 -- Laws of the rules of a book, of heads and of pairs of sets of rules: what each test says of the rules, and back, and that the
 -- conditions only grow with the pair (blueprint, C1).
-use mathlib.Core.Path.{_≡_, refl, sym}
+use mathlib.Core.Path.{_≡_, refl, sym, ap}
 use mathlib.Core.Logic.{_⊎_, ⊎-elim, ⊎-map}
-use mathlib.Core.Bool.{true, false, false≢true}
+use mathlib.Core.Bool.{true, false, not, false≢true}
 use mathlib.Core.List.{List, [], _∷_, List·Memᴰ, List·Memᴰ·head, List·Memᴰ·tail}
 use Prim.Native.Nat.{ℕ, zero, suc, _≤_, _<_, suc-le-suc}
 use native.Mathlib.Nat.{le-of-suc-le-suc}
 use native.Mathlib.Omega.{arith}
 use lib.ListN.{length, getD}
-use borrow.Author.Tests.{eqb-true, eq-eqb, not-false}
+use borrow.Author.Tests.{eqb-true, eq-eqb, not-true, not-false}
 use Rattle.meaning.specs.declared.AtomNo.{AtomNo}
 use Rattle.meaning.specs.declared.RuleNo.{RuleNo}
 use Rattle.meaning.specs.Sets.{_∈_, _∉_, _⊆_, every, some}
 use Rattle.meaning.specs.Books.{Rules, sameAtom, sameRule, ruleNo, among, Rule, Book, count, rule, InBook, everyRule, someRule}
 use Rattle.meaning.specs.Colours.{Pair, Side, onSide, offSide, side, put, heads, allIn, mayOn, blocked, starved, Under, Within}
 use Rattle.meaning.specs.Colours.{clashing, Consistent, uncoloured}
-use Rattle.meaning.proofs.Tests.{both, left, right, either, first, other, implied, implies, clash, refuted, lt-or-le}
+use Rattle.meaning.proofs.Tests.{both, left, right, either, first, other, implied, implies, clash, refuted, proved, same, lt-or-le}
 use Rattle.meaning.proofs.Sets.{every-mono, some-mono, below-at, below-all, below-some, below-one}
 
 -- ---- numbers of one kind
@@ -132,6 +132,12 @@ module _ (b : Book) where
 
   pub heads-mono : {s t : Rules} → Under b s t → heads b s ⊆ heads b t
   heads-mono {s} {t} f a e = let (r, h, m, q) = heads-by s a e in rw (← q) (heads-of t r h (f r h m))
+
+  -- all rules of an atom are in a set just where none of them is outside it
+  pub all-in-not-heads : (s : Rules) (a : AtomNo) → allIn b s a ≡ not (heads b (λ r. not (s r)) a)
+  all-in-not-heads s a = same _ _
+      (λ e. ap not (refuted (λ z. let (r, h, m, q) = heads-by (λ r. not (s r)) a z in clash (allIn-at s a e r h q) (not-true _ m))))
+      (λ n. allIn-all s a (λ r h q. proved (λ m. clash (rw q at (heads-of (λ r. not (s r)) r h (ap not m))) (not-true _ n))))
 
   pub allIn-mono : {s t : Rules} → Under b s t → allIn b s ⊆ allIn b t
   allIn-mono {s} {t} f a e = allIn-all t a (λ r h q. f r h (allIn-at s a e r h q))

@@ -7,6 +7,7 @@
 --   AnswerSet b x        "X is an answer set if X is the smallest set closed under its reduct."
 --   Throughout b fact    the book has at least one answer set, and the fact holds of each
 --   Certain b a          "An atom is certain if the book has at least one answer set and the atom is in each."
+--   Clear b a            the book has at least one answer set and the atom is in none (document 02, request 2)
 --   generating b x       the rules whose positive atoms are all in x and whose negative atoms are all outside it
 use mathlib.Core.Path.{_≡_}
 use mathlib.Core.Bool.{Bool, true, false, not, _&&_, _||_}
@@ -39,6 +40,9 @@ pub record Throughout (b : Book) (fact : Set Atoms) : Type 0 where
 
 abbrev pub Certain : Book → AtomNo → Type 0
 Certain b a = Throughout b (λ x. x a)
+
+abbrev pub Clear : Book → AtomNo → Type 0
+Clear b a = Throughout b (λ x. not (x a))
 
 unfoldable pub generates : Atoms → Rule → Bool
 generates x r = every x (r .pos) && not (some x (r .neg))

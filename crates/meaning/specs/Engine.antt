@@ -13,7 +13,8 @@ use Rattle.meaning.specs.Sets.{every}
 use Rattle.meaning.specs.Books.{Atoms, Rules, among, Book, count, rule}
 use Rattle.meaning.specs.AnswerSet.{generating}
 use Rattle.meaning.specs.Colours.{Pair, heads, mayOn, blocked, uncoloured}
-use Rattle.meaning.specs.Claim.{Claim, ended}
+use Rattle.meaning.specs.declared.kind.Claim.{Claim}
+use Rattle.meaning.specs.Claim.{ended}
 use Rattle.meaning.specs.Written.{of}
 use Rattle.meaning.specs.Computed.{support}
 use Rattle.meaning.specs.Lowest.{Pick, none, one, onPick, lowest, rulesIn}

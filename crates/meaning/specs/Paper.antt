@@ -18,7 +18,8 @@ use Rattle.meaning.specs.declared.RuleNo.{RuleNo}
 use Rattle.meaning.specs.Sets.{_∈_, _∉_, every, some, ascending}
 use Rattle.meaning.specs.Books.{Atoms, Rules, among, Rule, Book, rule, InBook}
 use Rattle.meaning.specs.Colours.{Pair, onSide, offSide, put, plus, start, heads, allIn, mayOn, blocked, uncoloured}
-use Rattle.meaning.specs.Claim.{Claim, claimed, mark, ended}
+use Rattle.meaning.specs.declared.kind.Claim.{Claim}
+use Rattle.meaning.specs.Claim.{claimed, mark, ended}
 
 abbrev pub numbers : List RuleNo → List ℕ
 numbers l = map (λ r. r .0) l

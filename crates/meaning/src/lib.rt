@@ -1,20 +1,23 @@
-// What a rule book means: the two kinds of number, the colouring, the paper's mark and codes.
+// What a rule book means: the two kinds of number, the colouring, a paper's claim, marks and codes.
 //
 // This crate stands on nothing. Its definitions are in specs/, in the order that specs/Lib.antt
 // gives; its laws, which need no code, are in proofs/. Every other crate uses the types below.
 
 mod colouring;
+mod kind;
 
 pub use colouring::Colouring;
+pub use kind::CLEARING_MARK;
+pub use kind::Claim;
+pub use kind::Kind;
+pub use kind::Marked;
+pub use kind::NAMING_MARK;
 
 // The number of an atom, one byte in a book.
 pub struct AtomNo(pub u8);
 
 // The number of a rule, one byte in a paper. It is never given where an atom is due.
 pub struct RuleNo(pub u8);
-
-// The last two bytes of a paper that names an atom: 50 46.
-pub const NAMING_MARK: [u8; 2] = [0x50, 0x46];
 
 // The codes of a paper's five steps: a rule goes on, a rule goes off, a list of rules goes off, a
 // split, the end of a branch.

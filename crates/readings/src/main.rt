@@ -2,15 +2,12 @@
 //
 //     readings < BOOKFILE
 
-// One byte more than the longest book has, so that a longer input is refused and not cut.
-const ROOM: usize = 9442;
-
 fn main() {
     if os::arg_count() != 1 {
-        talk::print(b"bad call: readings < BOOKFILE\n");
+        talk::complain_of_call(b"readings < BOOKFILE");
         return;
     }
-    let mut book = [0u8; ROOM];
+    let mut book = [0u8; talk::BOOK_ROOM];
     let taken = talk::read_input(&mut book);
     if !taken.good {
         return;

@@ -1,19 +1,24 @@
 // Shows the rules of a book in words, one a line, so that one sees that the bytes are the rules
-// agreed on. A damaged book is refused with its number and place.
+// agreed on; then how many atoms there are, and which have no rule. A damaged book is refused with
+// its number and place.
 //
 //     showing BOOKFILE
 
+mod atoms;
 mod rule;
 
 ghost use Rattle.book.specs.Format.{ReadAs};
+use atoms::show_atoms;
 use book::Read;
 use book::Shape;
 use book::read_book;
 use meaning::RuleNo;
 use rule::show_rule;
+use talk::BOOK_ROOM;
 use talk::explain_book;
+use talk::open_call;
 use talk::print;
-use talk::read_argument;
+
 // Writes a line for each rule, or that there is none.
 fn show_rules(book: &[u8], shape: Shape)
     requires { ⌜ ReadAs (now book) shape ⌝ }
@@ -29,25 +34,27 @@ fn show_rules(book: &[u8], shape: Shape)
     }
 }
 
-// Writes the rules of a good book, or why the bytes are none.
+// Writes the rules and the atoms.
+fn show_all(book: &[u8], shape: Shape)
+    requires { ⌜ ReadAs (now book) shape ⌝ }
+{
+    show_rules(book, shape);
+    show_atoms(book, shape);
+}
+
+// Writes what stands in a good book, or why the bytes are none.
 fn show_book(book: &[u8]) {
     match read_book(book) {
-        Read::Refused(why) => explain_book(why),
-        Read::Good(shape) => show_rules(book, shape),
+        Read::Refused(why) => explain_book(why, book),
+        Read::Good(shape) => show_all(book, shape),
     }
 }
 
 fn main() {
-    if os::arg_count() != 2 {
-        print(b"bad call: showing BOOKFILE\n");
-        return;
+    let mut book = [0u8; BOOK_ROOM];
+    let taken = open_call(os::arg_count() == 2, b"showing BOOKFILE", &mut book);
+    if taken.good {
+        let n = taken.count;
+        show_book(&book[..n]);
     }
-    // One byte more than the longest book has, so that a longer file is refused and not cut.
-    let mut book = [0u8; 9442];
-    let taken = read_argument(1, &mut book);
-    if !taken.good {
-        return;
-    }
-    let n = taken.count;
-    show_book(&book[..n]);
 }

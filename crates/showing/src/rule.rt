@@ -1,6 +1,7 @@
 // One rule in words, as `rule 2: 0 if 3 and not 1`.
 ghost use Prim.Native.Nat.{_<_};
 ghost use Rattle.book.specs.Format.{ReadAs};
+ghost use Rattle.io.specs.Counts.{Counts};
 use book::Shape;
 use book::head;
 use book::negatives;
@@ -8,43 +9,58 @@ use book::positives;
 use meaning::AtomNo;
 use meaning::RuleNo;
 use talk::print;
-use talk::print_number;
+use talk::put_number;
+use talk::put_text;
 
-fn show_atom(a: AtomNo) {
-    print_number(a.0 as u64);
-}
-
-// Writes `if` before the first atom of a body and `and` before every other.
-fn join(is_first: bool) {
+// `if` before the first atom of a body and `and` before every other.
+fn put_joint(is_first: bool, line: &mut [u8], held: usize) -> usize
+    requires { ⌜ Counts held (now line) ⌝ }
+    ensures { λ r. ⌜ Counts r (now (line .exit)) ⌝ }
+{
     if is_first {
-        print(b" if ");
-    } else {
-        print(b" and ");
+        return put_text(b" if ", line, held);
     }
+    put_text(b" and ", line, held)
 }
 
-// Writes the atoms of one part of a body, each behind `word`; `is_first` tells whether the body
-// starts with them.
-fn show_part(part: &[u8], is_first: bool, word: &[u8]) {
+// An atom of a body, behind what joins it to the atoms before and its word.
+fn put_atom(a: AtomNo, is_first: bool, word: &[u8], line: &mut [u8], held: usize) -> usize
+    requires { ⌜ Counts held (now line) ⌝ }
+    ensures { λ r. ⌜ Counts r (now (line .exit)) ⌝ }
+{
+    let held = put_joint(is_first, line, held);
+    let held = put_text(word, line, held);
+    put_number(a.0 as u64, line, held)
+}
+
+// The atoms of one part of a body, each behind `word`; `is_first` tells whether the body starts
+// with them.
+fn put_part(part: &[u8], is_first: bool, word: &[u8], line: &mut [u8], held: usize) -> usize
+    requires { ⌜ Counts held (now line) ⌝ }
+    ensures { λ r. ⌜ Counts r (now (line .exit)) ⌝ }
+{
+    let mut end = held;
     let mut i = 0;
     while i < part.len() {
-        join(is_first && i == 0);
-        print(word);
-        show_atom(AtomNo(part[i]));
+        end = put_atom(AtomNo(part[i]), is_first && i == 0, word, line, end);
         i += 1;
     }
+    end
 }
 
-// Writes the rule and the line end.
+// Writes the rule and the line end. The longest line has 33 atoms, under 14 bytes each.
 pub fn show_rule(book: &[u8], shape: Shape, r: RuleNo)
     requires { ⌜ ReadAs (now book) shape × (r .0 < shape .rules) ⌝ }
 {
-    print(b"rule ");
-    print_number(r.0 as u64);
-    print(b": ");
-    show_atom(head(book, shape, r));
+    let mut line = [0u8; 512];
+    let held = put_text(b"rule ", &mut line, 0);
+    let held = put_number(r.0 as u64, &mut line, held);
+    let held = put_text(b": ", &mut line, held);
+    let held = put_number(head(book, shape, r).0 as u64, &mut line, held);
     let body = positives(book, shape, r);
-    show_part(body, true, b"");
-    show_part(negatives(book, shape, r), body.len() == 0, b"not ");
-    print(b"\n");
+    let held = put_part(body, true, b"", &mut line, held);
+    let others = negatives(book, shape, r);
+    let held = put_part(others, body.len() == 0, b"not ", &mut line, held);
+    let held = put_text(b"\n", &mut line, held);
+    print(&line[..held]);
 }

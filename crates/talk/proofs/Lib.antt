@@ -1,4 +1,5 @@
--- The laws of what is taken from a line.
+-- The laws of what is taken from a line and of what is told.
 pub mod Parting
 pub mod Turns
 pub mod Spelling
+pub mod ToldRefusals

@@ -1,4 +1,5 @@
--- What is taken from a line of words. Read in this order.
+-- What is taken from a line of words, and what is told of a refusal. Read in this order.
 pub mod Words
 pub mod Decimal
 pub mod Hexadecimal
+pub mod Refusals

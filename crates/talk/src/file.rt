@@ -1,7 +1,15 @@
 // Reading a whole file, or standard input.
 ghost use Rattle.io.specs.Counts.{Counts};
+use crate::line::put_name;
+use crate::line::put_text;
 use crate::output::print;
-use crate::output::print_name;
+
+// Room for a book: one byte more than the longest has, so that a longer file is refused and not
+// cut.
+pub const BOOK_ROOM: usize = 9442;
+
+// Room for a paper, likewise.
+pub const PAPER_ROOM: usize = 60001;
 
 // Whether a file was read, and how many of its bytes stand at the start of the buffer.
 pub struct Taken {
@@ -11,11 +19,13 @@ pub struct Taken {
 
 // Writes `bad file: NAME: WHY` and the line end.
 pub fn complain(path: &[u8], why: &[u8]) {
-    print(b"bad file: ");
-    print_name(path);
-    print(b": ");
-    print(why);
-    print(b"\n");
+    let mut line = [0u8; 4608];
+    let held = put_text(b"bad file: ", &mut line, 0);
+    let held = put_name(path, &mut line, held);
+    let held = put_text(b": ", &mut line, held);
+    let held = put_text(why, &mut line, held);
+    let held = put_text(b"\n", &mut line, held);
+    print(&line[..held]);
 }
 
 // Says in a line why the file cannot be opened.
@@ -95,4 +105,28 @@ pub fn read_argument(i: usize, out: &mut [u8]) -> Taken
         };
     }
     read_file(&path[..n], out)
+}
+
+// Writes `bad call: ` and how the program is called.
+pub fn complain_of_call(usage: &[u8]) {
+    let mut line = [0u8; 128];
+    let held = put_text(b"bad call: ", &mut line, 0);
+    let held = put_text(usage, &mut line, held);
+    let held = put_text(b"\n", &mut line, held);
+    print(&line[..held]);
+}
+
+// How the programs for people open: where the call is right, the book that its first argument names
+// is read. Otherwise a line says what is wrong.
+pub fn open_call(is_right: bool, usage: &[u8], book: &mut [u8]) -> Taken
+    ensures { λ r. ⌜ Counts (r .count) (now (book .exit)) ⌝ }
+{
+    if !is_right {
+        complain_of_call(usage);
+        return Taken {
+            good: false,
+            count: 0,
+        };
+    }
+    read_argument(1, book)
 }

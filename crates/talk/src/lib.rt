@@ -1,5 +1,6 @@
 // What the programs share: words, numbers and bytes taken from a line, files read, and words,
-// numbers, bytes and refusals written to standard output. Stands on book and meaning.
+// numbers, bytes and refusals written to standard output, a line at once. Stands on the answers of
+// book, checker and writer.
 //
 // Functions that give a value promise which. Of those that read or write a file no contract can say
 // what they read or write; their comments do.
@@ -7,26 +8,39 @@
 mod decimal;
 mod file;
 mod hexadecimal;
+mod hints;
+mod line;
 mod output;
 mod part;
+mod refusals;
 mod sentences;
 mod words;
 
 pub use decimal::Number;
 pub use decimal::read_number;
+pub use file::BOOK_ROOM;
+pub use file::PAPER_ROOM;
 pub use file::Taken;
 pub use file::complain;
+pub use file::complain_of_call;
+pub use file::open_call;
 pub use file::read_argument;
 pub use file::read_input;
 pub use hexadecimal::Decoded;
 pub use hexadecimal::read_bytes;
+pub use line::put_bytes;
+pub use line::put_name;
+pub use line::put_number;
+pub use line::put_text;
 pub use output::print;
-pub use output::print_bytes;
-pub use output::print_name;
-pub use output::print_number;
-pub use output::print_refusal;
 pub use part::first_bytes;
+pub use refusals::Refused;
+pub use refusals::refused_book;
+pub use refusals::refused_name;
+pub use refusals::refused_paper;
 pub use sentences::explain;
 pub use sentences::explain_book;
+pub use sentences::explain_paper;
+pub use sentences::put_refused;
 pub use words::first_word;
 pub use words::other_words;

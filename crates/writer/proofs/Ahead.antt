@@ -9,7 +9,7 @@ use lib.ListN.{length, set, length-set}
 use Rattle.meaning.specs.declared.RuleNo.{RuleNo}
 use Rattle.meaning.specs.Books.{Book, count}
 use Rattle.meaning.specs.Colours.{Pair, onSide, offSide, plus, put}
-use Rattle.meaning.specs.Claim.{Claim}
+use Rattle.meaning.specs.declared.kind.Claim.{Claim}
 use Rattle.meaning.specs.Paper.{numbers, codeOn, codeOff, codeUnfounded}
 use Rattle.meaning.specs.Written.{of, lent}
 use Rattle.meaning.specs.Lowest.{rulesIn}

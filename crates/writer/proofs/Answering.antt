@@ -1,15 +1,15 @@
--- A naming as the code goes through it (specs/Name; document 01, "Naming: 13; then answer set 1 with limit L ...; then the paper's walk
--- with a fresh L (9, 12); then 14"): what is told after the first walk, and after the paper's walk.
+-- A naming or a clearing as the code goes through it (specs/Write; document 01, "Naming: 13; then answer set 1 with limit L ...; then the
+-- paper's walk with a fresh L (9, 12); then 14"): what is told after the first walk, and after the paper's walk.
 use mathlib.Core.Path.{_≡_, refl, sym, _∙_, ap}
 use mathlib.Core.List.{List, []}
 use Prim.Native.Nat.{ℕ, _<_, _≤_}
 use native.Mathlib.Omega.{arith}
 use lib.ListN.{length, replicate, length-replicate}
-use Rattle.meaning.specs.declared.AtomNo.{AtomNo}
 use Rattle.meaning.specs.declared.colouring.Colouring.{Colouring}
 use Rattle.meaning.specs.Books.{Book}
-use Rattle.meaning.specs.Claim.{Claim, named, claimed}
-use Rattle.meaning.specs.Told.{refusedAt, refused, fewer, stopped, Answered}
+use Rattle.meaning.specs.declared.kind.Claim.{Claim}
+use Rattle.meaning.specs.Claim.{claimed}
+use Rattle.meaning.specs.Told.{Told, refusedAt, refused, fewer, stopped, Answered}
 use Rattle.meaning.specs.Written.{nothing, pair}
 use Rattle.meaning.proofs.Choice.{lt-yes, lt-no}
 use Rattle.meaning.proofs.Written.{pair-nothing}
@@ -27,8 +27,8 @@ use Rattle.walk.specs.declared.tally.Halt.the-variants.{Going, Full, Limit}
 use Rattle.writer.specs.Branches.{branches}
 use Rattle.writer.specs.Scan.{Progress, writing, scan}
 use Rattle.writer.specs.Needs.{wholePaper}
-use Rattle.writer.specs.Name.{Handed, firstWalk, paperWalk, handOver, afterPaperWalk}
-use Rattle.writer.specs.Name.{afterFirstWalk, nameIn, nameRead, nameOf}
+use Rattle.writer.specs.Write.{Handed, lacking, firstWalk, paperWalk, handOver, afterPaperWalk}
+use Rattle.writer.specs.Write.{afterFirstWalk, writeIn, writeRead, writeOf}
 use Rattle.writer.specs.Draft.{whole, courseOf, Stage}
 use Rattle.writer.specs.declared.split.Course.the-variants.{Writing, Limited, Refuted}
 use Rattle.writer.specs.declared.split.Drafted.{Drafted}
@@ -52,72 +52,72 @@ stage-paper b k limit e d = rw (e, pair-nothing) at d
 
 module _ (b : Book) (k : Claim) (limit : ℕ) (buffer : List ℕ) (below : claimed k .0 < b .atoms) {t : Tally} {row : List ℕ}
     (e : _≡_ {A = State} (record { tally = t; out = row }) (firstWalk b limit)) where
-  name-first : nameIn b k limit buffer ≡ afterFirstWalk (t .halt) b k limit (record { tally = t; out = row }) buffer
-  unfolding nameIn
-  name-first = lt-yes _ _ _ _ below ∙ rw (← e)
+  write-first : writeIn b k limit buffer ≡ afterFirstWalk (t .halt) b k limit (record { tally = t; out = row }) buffer
+  unfolding writeIn
+  write-first = lt-yes _ _ _ _ below ∙ rw (← e)
 
-  pub name-fewer : t .halt ≡ Going → only buffer (fewer (t .tries) 0) ≡ nameIn b k limit buffer
+  pub write-fewer : t .halt ≡ Going → only buffer (fewer (t .tries) 0) ≡ writeIn b k limit buffer
   unfolding afterFirstWalk
-  name-fewer h = sym (name-first ∙ rw h)
+  write-fewer h = sym (write-first ∙ rw h)
 
-  pub name-first-limit : t .halt ≡ Limit → only buffer (stopped limit) ≡ nameIn b k limit buffer
+  pub write-first-limit : t .halt ≡ Limit → only buffer (stopped limit) ≡ writeIn b k limit buffer
   unfolding afterFirstWalk
-  name-first-limit h = sym (name-first ∙ rw h)
+  write-first-limit h = sym (write-first ∙ rw h)
 
   module _ (h : t .halt ≡ Full) {q : Drafted} {draft : List ℕ} (d : Stage q draft (paperWalk b k limit)) where
-    name-paper : nameIn b k limit buffer ≡ afterPaperWalk (courseOf (q .course)) b k limit (paperWalk b k limit) row buffer
+    write-paper : writeIn b k limit buffer ≡ afterPaperWalk (courseOf (q .course)) b k limit (paperWalk b k limit) row buffer
     unfolding afterFirstWalk
-    name-paper = name-first ∙ rw (h, d .course)
+    write-paper = write-first ∙ rw (h, d .course)
 
-    pub name-limited : q .course ≡ Limited → only buffer (stopped limit) ≡ nameIn b k limit buffer
+    pub write-limited : q .course ≡ Limited → only buffer (stopped limit) ≡ writeIn b k limit buffer
     unfolding afterPaperWalk
-    name-limited f = sym (name-paper ∙ rw f)
+    write-limited f = sym (write-paper ∙ rw f)
 
-    pub name-refuted : q .course ≡ Refuted → only buffer (refused 12) ≡ nameIn b k limit buffer
+    pub write-refuted : q .course ≡ Refuted → {t : Told Handed} → t ≡ refused (lacking (k .kind)) → only buffer t ≡ writeIn b k limit buffer
     unfolding afterPaperWalk
-    name-refuted f = sym (name-paper ∙ rw f)
+    write-refuted f e = ap (only buffer) e ∙ sym (write-paper ∙ rw f)
 
-    pub name-handed : q .course ≡ Writing → {a : Answered Handed}
-        → a ≡ handOver (q .tries) (wholePaper b k (paperWalk b k limit .bytes) (setIn row)) buffer → a ≡ nameIn b k limit buffer
+    pub write-handed : q .course ≡ Writing → {a : Answered Handed}
+        → a ≡ handOver (q .tries) (wholePaper b k (paperWalk b k limit .bytes) (setIn row)) buffer → a ≡ writeIn b k limit buffer
     unfolding afterPaperWalk
-    name-handed f g = g ∙ rw (d .tries) (sym (name-paper ∙ rw f))
+    write-handed f g = g ∙ rw (d .tries) (sym (write-paper ∙ rw f))
 
 -- ---- the book
 
 apart : {A : Type 0} → _≡_ {A = ℕ} 0 1 → A
 apart e = absurd (omega arith)
 
--- what is told of a reading decides how the naming goes on
-module _ (a : AtomNo) (limit : ℕ) (buffer : List ℕ) where
-  read-good : (x : BookRead) {n k index : ℕ} → toldOf x ≡ shape n k index
-      → nameRead x a limit buffer ≡ nameIn (bookOf x) (named a) limit buffer
-  unfolding toldOf nameRead bookOf
-  read-good (good n k index l) e = refl
+-- what is told of a reading decides how the call goes on
+module _ (k : Claim) (limit : ℕ) (buffer : List ℕ) where
+  read-good : (x : BookRead) {n r index : ℕ} → toldOf x ≡ shape n r index
+      → writeRead x k limit buffer ≡ writeIn (bookOf x) k limit buffer
+  unfolding toldOf writeRead bookOf
+  read-good (good n r index l) e = refl
   read-good (bad i at) e = apart (cc)
 
   read-bad : (x : BookRead) {i at : ℕ} → toldOf x ≡ refusedAt i at
-      → only buffer (refusedAt i at) ≡ nameRead x a limit buffer
-  unfolding toldOf nameRead
-  read-bad (good n k index l) e = apart (cc)
+      → only buffer (refusedAt i at) ≡ writeRead x k limit buffer
+  unfolding toldOf writeRead
+  read-bad (good n r index l) e = apart (cc)
   read-bad (bad j to) e = cc
 
   module _ (s : List ℕ) {x : Read} (e : bookTold x ≡ toldOf (readOf s)) where
-    pub name-bad : {f : Refusal} → x ≡ Refused f
-        → only buffer (refusedAt (numberOf f) (placeOf f)) ≡ nameOf s a limit buffer
-    unfolding nameOf
-    name-bad f = read-bad (readOf s) (sym e ∙ ap bookTold f)
+    pub write-bad : {f : Refusal} → x ≡ Refused f
+        → only buffer (refusedAt (numberOf f) (placeOf f)) ≡ writeOf s k limit buffer
+    unfolding writeOf
+    write-bad f = read-bad (readOf s) (sym e ∙ ap bookTold f)
 
     module _ {h : Shape} (g : x ≡ Good h) where
       pub read-as : ReadAs s h
       read-as = sym e ∙ ap bookTold g
 
-      name-book : nameOf s a limit buffer ≡ nameIn (bookIn s) (named a) limit buffer
-      unfolding nameOf bookIn
-      name-book = read-good (readOf s) read-as
+      write-book : writeOf s k limit buffer ≡ writeIn (bookIn s) k limit buffer
+      unfolding writeOf bookIn
+      write-book = read-good (readOf s) read-as
 
-      pub name-good : {r : Answered Handed} → r ≡ nameIn (bookIn s) (named a) limit buffer → r ≡ nameOf s a limit buffer
-      name-good f = f ∙ sym name-book
+      pub write-good : {r : Answered Handed} → r ≡ writeIn (bookIn s) k limit buffer → r ≡ writeOf s k limit buffer
+      write-good f = f ∙ sym write-book
 
-      pub name-no-atom : h .atoms ≤ a .0 → only buffer (refused 13) ≡ nameOf s a limit buffer
-      unfolding nameIn claimed
-      name-no-atom l = sym (name-book ∙ lt-no _ _ _ _ (omega (arith, shape-atoms s h read-as)))
+      pub write-no-atom : h .atoms ≤ k .atom .0 → only buffer (refused 13) ≡ writeOf s k limit buffer
+      unfolding writeIn claimed
+      write-no-atom l = sym (write-book ∙ lt-no _ _ _ _ (omega (arith, shape-atoms s h read-as)))

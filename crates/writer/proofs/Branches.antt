@@ -12,7 +12,7 @@ use Rattle.meaning.specs.declared.RuleNo.{RuleNo}
 use Rattle.meaning.specs.Sets.{_∈_, _∉_}
 use Rattle.meaning.specs.Books.{Rules, among, Book, count, InBook}
 use Rattle.meaning.specs.Colours.{Pair, Side, onSide, offSide, side, plus, put, uncoloured, Under, Within}
-use Rattle.meaning.specs.Claim.{Claim}
+use Rattle.meaning.specs.declared.kind.Claim.{Claim}
 use Rattle.meaning.specs.Paper.{numbers, codeOn, codeOff, codeUnfounded, codeSplit, codeEnd}
 use Rattle.meaning.specs.Lowest.{rulesIn}
 use Rattle.meaning.specs.Engine.{Next, ends, puts-on, puts-off, drops, splits, stuck, next}

@@ -1,5 +1,6 @@
 -- Worked books of document 01, named through their bytes, by computation: the two papers printed there byte for byte, the limit, an atom
--- that is in one reading only, a book without a reading, an atom that the book does not have, and a buffer that is too short.
+-- that is in one reading only, a book without a reading, an atom that the book does not have, and a buffer that is too short. Then some of
+-- them cleared: an atom that is in one reading only is neither named nor cleared.
 use mathlib.Core.Path.{_≡_, refl}
 use mathlib.Core.List.{List, [], _∷_, _++_}
 use Prim.Native.Nat.{ℕ}
@@ -8,7 +9,7 @@ use Rattle.meaning.specs.Sets.{every, some, everyBelow, someBelow}
 use Rattle.meaning.specs.Books.{atomNo, sameAtom, sameRule, count, rule, everyRule, someRule}
 use Rattle.meaning.specs.AnswerSet.{generates, generating}
 use Rattle.meaning.specs.Colours.{put, heads, allIn, mayOn, blocked, starved, clashing, uncoloured}
-use Rattle.meaning.specs.Claim.{claimed, mark, shown, ended}
+use Rattle.meaning.specs.Claim.{claimed, markOf, mark, shownBy, shown, ended}
 use Rattle.meaning.specs.Paper.{trailer}
 use Rattle.meaning.specs.Written.{of, addFrom, added}
 use Rattle.meaning.specs.Computed.{iterate, upheld, supportMore, support, goesOff, closeMore, marked, close}
@@ -23,8 +24,8 @@ use Rattle.walk.specs.Page.{setIn}
 use Rattle.writer.specs.Branches.{behind, branchBy, branchIn, branch, below, branchesIn, branches}
 use Rattle.writer.specs.Scan.{courseAt, met, scan}
 use Rattle.writer.specs.Needs.{wholePaper}
-use Rattle.writer.specs.Name.{paper, firstWalk, paperWalk, handOver, afterPaperWalk}
-use Rattle.writer.specs.Name.{afterFirstWalk, nameIn, nameRead, nameOf}
+use Rattle.writer.specs.Write.{paper, firstWalk, paperWalk, handOver, afterPaperWalk}
+use Rattle.writer.specs.Write.{lacking, afterFirstWalk, writeIn, writeRead, writeOf, nameOf, clearOf}
 
 -- "Fact 0: 00 00 00 | 00 00 | 01 01 03 00 52 42"
 abbrev fact : List ℕ
@@ -53,6 +54,13 @@ either-way-paper =
     0x53 ∷ 0 ∷ 0x45 ∷ 0x53 ∷ 1 ∷ 0x45 ∷ 0x53 ∷ 2 ∷ 0x41 ∷ 0 ∷ 0x45 ∷ 0x41 ∷ 3 ∷ 0x41 ∷ 1 ∷ 0x45
     ∷ 2 ∷ 0 ∷ 2 ∷ 2 ∷ 0x10 ∷ 0 ∷ 0x50 ∷ 0x46 ∷ []
 
+-- "0 if 1; 1 if 0", and the paper that clears 0: 55 02 00 01 45 | | 00 00 05 00 50 43
+abbrev circle : List ℕ
+circle = 0 ∷ 1 ∷ 0 ∷ 1 ∷ 1 ∷ 1 ∷ 0 ∷ 0 ∷ 0 ∷ 0 ∷ 4 ∷ 0 ∷ 2 ∷ 2 ∷ 8 ∷ 0 ∷ 0x52 ∷ 0x42 ∷ []
+
+abbrev circle-paper : List ℕ
+circle-paper = 0x55 ∷ 2 ∷ 0 ∷ 1 ∷ 0x45 ∷ 0 ∷ 0 ∷ 5 ∷ 0 ∷ 0x50 ∷ 0x43 ∷ []
+
 -- a buffer of n bytes, each 7
 abbrev sevens : ℕ → List ℕ
 sevens n = replicate n 7
@@ -65,11 +73,15 @@ pub worked :
     × (nameOf contrary (atomNo 0) 1000 (sevens 12) ≡ record { told = fewer 3 0; buffer = sevens 12 })
     × (nameOf choice (atomNo 0) 1000 (sevens 12) ≡ record { told = refused 12; buffer = sevens 12 })
     × (nameOf either-way (atomNo 2) 1000 (sevens 24) ≡ record { told = paper 7 24; buffer = either-way-paper })
+    × (clearOf circle (atomNo 0) 1000 (sevens 12) ≡ record { told = paper 1 11; buffer = circle-paper ++ sevens 1 })
+    × (clearOf fact (atomNo 0) 1000 (sevens 12) ≡ record { told = refused 18; buffer = sevens 12 })
+    × (clearOf contrary (atomNo 0) 1000 (sevens 12) ≡ record { told = fewer 3 0; buffer = sevens 12 })
+    × (clearOf choice (atomNo 0) 1000 (sevens 12) ≡ record { told = refused 18; buffer = sevens 12 })
 unfolding every some everyBelow someBelow sameAtom sameRule count rule everyRule someRule generates generating put heads allIn
-    mayOn blocked starved clashing uncoloured claimed mark shown ended trailer of addFrom added iterate upheld supportMore support
+    mayOn blocked starved clashing uncoloured claimed markOf mark shownBy shown ended trailer of addFrom added iterate upheld supportMore support
     goesOff closeMore marked close onPick oneOr lowestFrom lowest listedIf rulesFrom rulesIn
     firstOf unsupported next listable listing witnessOf ifb ifLt ifEq u16At partOf andThen bytesOf recordOf lengthOf ruleOf
     recordsOf rulesOf ifFine bodyOf readOf after eventsIn events rowFrom rowOf writeAt readingMet tried eventMet run setIn
     behind branchBy branchIn branch below branchesIn branches courseAt met scan firstWalk paperWalk wholePaper handOver
-    afterPaperWalk afterFirstWalk nameIn nameRead nameOf
-worked = (refl, refl, refl, refl, refl, refl, refl)
+    afterPaperWalk afterFirstWalk writeIn writeRead writeOf lacking
+worked = (refl, refl, refl, refl, refl, refl, refl, refl, refl, refl, refl)

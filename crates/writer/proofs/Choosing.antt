@@ -1,5 +1,5 @@
 -- The next step as the code comes to it (specs/Steps; document 01, "The engine's own paper"): 45 by the tests of a contradiction and of the
--- claimed atom, then the first of 41, 42, 55 and 53 whose search finds a rule. The searches ask tables of atoms, and find what is asked of
+-- claim, then the first of 41, 42, 55 and 53 whose search finds a rule. The searches ask tables of atoms, and find what is asked of
 -- the pair itself.
 use mathlib.Core.Path.{_≡_, refl, sym, _∙_, ap}
 use mathlib.Core.Bool.{Bool, true, false, not, _&&_}
@@ -7,11 +7,13 @@ use mathlib.Core.List.{List, [], _∷_}
 use Prim.Native.Nat.{ℕ, _<_}
 use native.Mathlib.Omega.{arith}
 use lib.ListN.{length, getD}
-use Rattle.meaning.specs.declared.AtomNo.{AtomNo}
 use Rattle.meaning.specs.declared.RuleNo.{RuleNo}
 use Rattle.meaning.specs.Books.{Rules, Book, InBook}
 use Rattle.meaning.specs.Colours.{Pair, heads, allIn, mayOn, blocked, uncoloured, clashing}
-use Rattle.meaning.specs.Claim.{Claim, named, shown, ended}
+use Rattle.meaning.specs.declared.kind.Kind.{Kind}
+use Rattle.meaning.specs.declared.kind.Kind.the-variants.{Naming, Clearing}
+use Rattle.meaning.specs.declared.kind.Claim.{Claim}
+use Rattle.meaning.specs.Claim.{claimed, shownBy, shown, ended}
 use Rattle.meaning.specs.Written.{of, lent}
 use Rattle.meaning.specs.Lowest.{Pick, none, one, lowest, rulesIn}
 use Rattle.meaning.specs.Engine.{Next, ends, puts-on, puts-off, drops, splits, stuck, less, firstOf, unsupported, next}
@@ -21,13 +23,12 @@ use Rattle.book.specs.declared.reader.Shape.{Shape}
 use Rattle.book.specs.Format.{bookIn, ReadAs}
 use Rattle.book.specs.Tables.{atomTable, atomsIn}
 use Rattle.book.proofs.AtomSets.{table-in}
-use Rattle.book.proofs.Bodies.{table-says}
 use Rattle.book.proofs.Places.{in-shape}
 use Rattle.book.proofs.Asked.{goes-on-mayOn, is-blocked-blocked}
 use Rattle.walk.specs.Picked.{picked}
 use Rattle.walk.specs.declared.colours.Picked.{Picked}
 use Rattle.walk.specs.declared.colours.Picked.the-variants.{Nothing, Rule}
-use Rattle.writer.specs.Steps.{newOn, newOff, Does}
+use Rattle.writer.specs.Steps.{tabledBy, tabled, newOn, newOff, Does}
 use Rattle.writer.specs.declared.step.Step.{Step}
 
 -- ---- an answer
@@ -66,23 +67,39 @@ module _ (s : List ℕ) (h : Shape) (e : ReadAs s h) (n : h .atoms < 256) (on of
 
 -- ---- 45
 
-module _ (b : Book) (a : AtomNo) (on off : List Bool) where
-  pub ended-clash : clashing b (lent on off) ≡ true → ended b (named a) (lent on off) ≡ true
+-- place i of a table, which is that of the claimed atom
+module _ (k : Claim) (headed lost : List Bool) (i : ℕ) (e : i ≡ k .atom .0) where
+  pub tabled-naming : k .kind ≡ Naming → getD headed i false ≡ tabled k headed lost
+  unfolding tabled tabledBy atomsIn
+  tabled-naming q = rw (q, e)
+
+  pub tabled-clearing : k .kind ≡ Clearing → getD lost i false ≡ tabled k headed lost
+  unfolding tabled tabledBy atomsIn
+  tabled-clearing q = rw (q, e)
+
+module _ (b : Book) (k : Claim) (on off : List Bool) where
+  pub ended-clash : clashing b (lent on off) ≡ true → ended b k (lent on off) ≡ true
   unfolding ended
   ended-clash e = first _ e
 
-  -- what the table says of the claimed atom
-  module _ (headed : List Bool) (f : headed ≡ atomTable (heads b (of on))) (small : a .0 < 255) (i : ℕ) (e : i ≡ a .0) where
-    shown-by : (v : Bool) → getD headed i false ≡ v → heads b (of on) a ≡ v
-    shown-by v t = sym (table-in (heads b (of on)) a small) ∙ ap (λ q. atomsIn q a) (sym f) ∙ table-says headed i (a .0) v e t
+  -- what the tables say of the claim
+  module _ (headed lost : List Bool) (f : headed ≡ atomTable (heads b (of on))) (g : lost ≡ atomTable (allIn b (of off)))
+      (small : claimed k .0 < 255) {v : Bool} (e : v ≡ tabled k headed lost) where
+    tabled-shown : v ≡ shown b k (lent on off)
+    unfolding tabled tabledBy shown shownBy claimed
+    tabled-shown = e ∙ by-kind (k .kind)
+      where
+        by-kind : (q : Kind) → tabledBy q headed lost (k .atom) ≡ shownBy q b (lent on off) (k .atom)
+        by-kind Naming = rw f (table-in (heads b (of on)) (k .atom) small)
+        by-kind Clearing = rw g (table-in (allIn b (of off)) (k .atom) small)
 
-    pub ended-shown : getD headed i false ≡ true → ended b (named a) (lent on off) ≡ true
-    unfolding ended shown
-    ended-shown t = other (clashing b (lent on off)) (shown-by true t)
+    pub ended-shown : v ≡ true → ended b k (lent on off) ≡ true
+    unfolding ended
+    ended-shown t = other (clashing b (lent on off)) (sym tabled-shown ∙ t)
 
-    pub not-ended : clashing b (lent on off) ≡ false → getD headed i false ≡ false → ended b (named a) (lent on off) ≡ false
-    unfolding ended shown
-    not-ended c t = neither c (shown-by false t)
+    pub not-ended : clashing b (lent on off) ≡ false → v ≡ false → ended b k (lent on off) ≡ false
+    unfolding ended
+    not-ended c t = neither c (sym tabled-shown ∙ t)
 
 -- ---- which of the five it is
 

@@ -12,7 +12,7 @@ use Rattle.meaning.specs.declared.RuleNo.{RuleNo}
 use Rattle.meaning.specs.declared.colouring.Colouring.{Colouring}
 use Rattle.meaning.specs.Books.{Book, count}
 use Rattle.meaning.specs.Colours.{Pair, Side, onSide, offSide, put}
-use Rattle.meaning.specs.Claim.{Claim}
+use Rattle.meaning.specs.declared.kind.Claim.{Claim}
 use Rattle.meaning.specs.Written.{colourOn, colourOff, pair}
 use Rattle.meaning.proofs.Written.{pair-on, pair-off}
 use Rattle.meaning.proofs.Engine.{next-splits}

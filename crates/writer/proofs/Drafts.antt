@@ -1,12 +1,15 @@
 -- What stands in the draft (specs/Draft): one byte more is stored behind the others or, where the array is full, counted; runs of bytes
 -- written one after the other are one run; and behind 60,000 bytes it no longer matters what is written.
-use mathlib.Core.Path.{refl, _∙_, ap}
+use mathlib.Core.Path.{_≡_, refl, _∙_, ap}
 use mathlib.Core.List.{List, [], _∷_, _++_, append-assoc, append-nil}
 use Prim.Native.Nat.{ℕ, _+_, _≤_, _<_}
 use native.Mathlib.Numerals.{add-one}
 use native.Mathlib.Omega.{arith}
-use lib.ListN.{set, length-append, length-set}
+use lib.ListN.{getD, set, length-append, length-set}
 use lib.Seq.{take-suc-set}
+use Rattle.meaning.specs.declared.kind.Kind.{Kind}
+use Rattle.meaning.specs.Claim.{markOf}
+use Rattle.meaning.proofs.Marks.{mark-bytes}
 use Rattle.writer.specs.Draft.{Stands, whole, passed, Writes}
 
 pub stands-most : {l : List ℕ} {n : ℕ} {out : List ℕ} → Stands l n out → n ≤ 60001
@@ -39,3 +42,8 @@ writes-nil n out = record { behind = λ k s. rw append-nil s }
 
 pub writes-then : {l m : List ℕ} {i j n : ℕ} {a b c : List ℕ} → Writes l i a j b → Writes m j b n c → Writes (l ++ m) i a n c
 writes-then {l} {m} v w = record { behind = λ k s. rw append-assoc at (w .behind (k ++ l) (v .behind k s)) }
+
+-- a mark, written byte by byte
+pub writes-mark : (q : Kind) {m : List ℕ} {i j n : ℕ} {a b c : List ℕ} → m ≡ markOf q → Writes (getD m 0 0 ∷ []) i a j b
+    → Writes (getD m 1 0 ∷ []) j b n c → Writes (markOf q) i a n c
+writes-mark q e v w = rw (mark-bytes q) at (rw e at (writes-then v w))

@@ -23,7 +23,7 @@ use Rattle.walk.specs.declared.tally.Halt.the-variants.{Going, Full, Limit}
 use Rattle.walk.proofs.Readings.{readings-append, readings-all}
 use Rattle.walk.proofs.Rows.{set-in-row}
 use Rattle.walk.proofs.Demand.{find-set, find-stopped, find-fewer, find-row}
-use Rattle.writer.specs.Name.{firstWalk}
+use Rattle.writer.specs.Write.{firstWalk}
 
 -- two answers that differ in their kind
 kinds : {A : Type 0} → _≡_ {A = ℕ} 0 1 → A

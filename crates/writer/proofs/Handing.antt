@@ -1,4 +1,4 @@
--- The draft handed over (specs/Name, handOver; document 01, "14: engine's paper longer than the buffer or 60,000"): a copy byte by byte,
+-- The draft handed over (specs/Write, handOver; document 01, "14: engine's paper longer than the buffer or 60,000"): a copy byte by byte,
 -- and what the draft's length says of the paper's. And the paper put together: the steps that stand in the draft, the witness, the trailer.
 use mathlib.Core.Path.{_≡_, sym}
 use mathlib.Core.List.{List, _++_, append-assoc}
@@ -9,13 +9,13 @@ use native.Mathlib.Omega.{arith}
 use lib.ListN.{length, getD, take, drop, set, length-append}
 use lib.Seq.{paste-suc, length-take-le}
 use Rattle.meaning.specs.Books.{Atoms, Book}
-use Rattle.meaning.specs.Claim.{Claim}
+use Rattle.meaning.specs.declared.kind.Claim.{Claim}
 use Rattle.meaning.specs.Paper.{numbers, trailer}
 use Rattle.meaning.specs.Engine.{witnessOf}
 use Rattle.meaning.specs.Told.{refused}
 use Rattle.walk.specs.Run.{writeAt}
 use Rattle.writer.specs.Needs.{wholePaper}
-use Rattle.writer.specs.Name.{paper, handOver}
+use Rattle.writer.specs.Write.{paper, handOver}
 use Rattle.writer.specs.Draft.{Stands, whole, passed, Writes}
 use Rattle.writer.proofs.Stages.{only, hand-no-room, hand-long, hand-over}
 

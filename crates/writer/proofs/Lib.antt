@@ -6,7 +6,7 @@ pub mod Papers
 pub mod Stages
 pub mod First
 pub mod Ways
-pub mod Naming
+pub mod Claiming
 pub mod Told
 pub mod Cases
 pub mod Drafts

@@ -12,7 +12,7 @@ use lib.ListN.{length, length-append}
 use Rattle.meaning.specs.Sets.{_∈_, _∉_, every}
 use Rattle.meaning.specs.Books.{Book, count}
 use Rattle.meaning.specs.Colours.{Pair, start}
-use Rattle.meaning.specs.Claim.{Claim}
+use Rattle.meaning.specs.declared.kind.Claim.{Claim}
 use Rattle.meaning.specs.Choice.{ifb}
 use Rattle.meaning.proofs.Tests.{both, left, right, not-first, not-second, absent, decided}
 use Rattle.meaning.proofs.Sets.{every-append}
@@ -20,7 +20,7 @@ use Rattle.meaning.proofs.Choice.{b-yes, b-no}
 use Rattle.writer.specs.Branches.{Tip, ended, parted, unsettled, Branch, branches}
 use Rattle.writer.specs.Scan.{writing, limited, refuted, Progress, courseAt, scan}
 use Rattle.writer.specs.Needs.{settles, settled, Stuck, Needs, to-stuck, to-end, stepsOf}
-use Rattle.writer.specs.Name.{paperWalk}
+use Rattle.writer.specs.Write.{paperWalk}
 use Rattle.writer.proofs.Branches.{Parts, no-more, left-open, two-more, branches-parts}
 use Rattle.writer.proofs.Scan.{refuted-not-writing, taken, scan-nil, scan-over, scan-taken, scan-stops}
 

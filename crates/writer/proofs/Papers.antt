@@ -10,7 +10,8 @@ use Rattle.meaning.specs.Sets.{_∈_, _∉_, every}
 use Rattle.meaning.specs.Books.{Atoms, Book, count}
 use Rattle.meaning.specs.AnswerSet.{AnswerSet, Throughout}
 use Rattle.meaning.specs.Colours.{Pair, onSide, offSide, put, start, heads}
-use Rattle.meaning.specs.Claim.{Claim, claimed, meant}
+use Rattle.meaning.specs.declared.kind.Claim.{Claim}
+use Rattle.meaning.specs.Claim.{claimed, meant}
 use Rattle.meaning.specs.Paper.{numbers, Keeps, step-41, step-42, step-55, step-53, step-45}
 use Rattle.meaning.specs.Paper.{Branch as Derives}
 use Rattle.meaning.specs.Engine.{stuck, next, witnessOf}

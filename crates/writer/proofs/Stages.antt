@@ -1,14 +1,14 @@
--- What a naming answers, stage by stage (document 01, "Naming: 13; then answer set 1 ...; then the paper's walk ...; then 14"): the book's
--- refusals come first, then 13; a paper is handed over only if it fits; and the buffer changes only where a paper is told.
+-- What a naming or a clearing answers, stage by stage (document 01, "Naming: 13; then answer set 1 ...; then the paper's walk ...; then
+-- 14"): the book's refusals come first, then 13; a paper is handed over only if it fits; and the buffer changes only where a paper is told.
 use mathlib.Core.Path.{_≡_, refl, _∙_}
 use mathlib.Core.Logic.{_⊎_, inl, inr}
 use mathlib.Core.List.{List, _++_}
 use Prim.Native.Nat.{ℕ, _≤_, _<_}
 use native.Mathlib.Nat.{zero-add}
 use lib.ListN.{length, drop}
-use Rattle.meaning.specs.declared.AtomNo.{AtomNo}
 use Rattle.meaning.specs.Books.{Rule, Book}
-use Rattle.meaning.specs.Claim.{Claim, named, claimed}
+use Rattle.meaning.specs.declared.kind.Claim.{Claim}
+use Rattle.meaning.specs.Claim.{claimed}
 use Rattle.meaning.specs.Told.{Told, refusedAt, refused, Answered}
 use Rattle.meaning.proofs.Choice.{lt-yes, lt-no, lt-either}
 use Rattle.book.specs.Format.{BookRead, good, bad, readOf}
@@ -16,8 +16,8 @@ use Rattle.walk.specs.Run.{State, writeAt}
 use Rattle.walk.specs.declared.tally.Halt.{Halt}
 use Rattle.walk.specs.declared.tally.Halt.the-variants.{Going, Full, Limit}
 use Rattle.writer.specs.Scan.{Course, writing, limited, refuted, Progress}
-use Rattle.writer.specs.Name.{Handed, paper, handOver, afterPaperWalk, afterFirstWalk}
-use Rattle.writer.specs.Name.{nameIn, nameRead, nameOf}
+use Rattle.writer.specs.Write.{Handed, paper, handOver, afterPaperWalk, afterFirstWalk}
+use Rattle.writer.specs.Write.{writeIn, writeRead, writeOf}
 
 -- an answer that leaves the buffer
 abbrev pub only : List ℕ → Told Handed → Answered Handed
@@ -64,31 +64,31 @@ module _ (b : Book) (k : Claim) (limit : ℕ) (buffer : List ℕ) where
   first-keeping Full s = paper-keeping _ _ (s .out)
   first-keeping Limit s = inr refl
 
-  name-in-keeping : Keeping buffer (nameIn b k limit buffer)
-  unfolding nameIn
-  name-in-keeping = lt-either (Keeping buffer) _ _ _ _ (λ h. first-keeping _ _) (λ h. inr refl)
+  write-in-keeping : Keeping buffer (writeIn b k limit buffer)
+  unfolding writeIn
+  write-in-keeping = lt-either (Keeping buffer) _ _ _ _ (λ h. first-keeping _ _) (λ h. inr refl)
 
 -- ---- the book's refusals, and 13
 
-module _ (book : List ℕ) (a : AtomNo) (limit : ℕ) (buffer : List ℕ) where
-  pub name-bad-book : (i at : ℕ) → readOf book ≡ bad i at → nameOf book a limit buffer ≡ only buffer (refusedAt i at)
-  unfolding nameOf nameRead
-  name-bad-book i at e = rw e
+module _ (book : List ℕ) (k : Claim) (limit : ℕ) (buffer : List ℕ) where
+  pub write-bad-book : (i at : ℕ) → readOf book ≡ bad i at → writeOf book k limit buffer ≡ only buffer (refusedAt i at)
+  unfolding writeOf writeRead
+  write-bad-book i at e = rw e
 
   module _ (n r index : ℕ) (l : List Rule) (e : readOf book ≡ good n r index l) where
-    pub name-good-book : nameOf book a limit buffer ≡ nameIn (record { atoms = n; rules = l }) (named a) limit buffer
-    unfolding nameOf nameRead
-    name-good-book = rw e
+    pub write-good-book : writeOf book k limit buffer ≡ writeIn (record { atoms = n; rules = l }) k limit buffer
+    unfolding writeOf writeRead
+    write-good-book = rw e
 
-    pub name-no-atom : n ≤ a .0 → nameOf book a limit buffer ≡ only buffer (refused 13)
-    unfolding nameIn claimed
-    name-no-atom h = name-good-book ∙ lt-no _ _ _ _ h
+    pub write-no-atom : n ≤ claimed k .0 → writeOf book k limit buffer ≡ only buffer (refused 13)
+    unfolding writeIn
+    write-no-atom h = write-good-book ∙ lt-no _ _ _ _ h
 
-  pub name-keeps-buffer : ((tries : ℕ) × (n : ℕ) × (nameOf book a limit buffer .told ≡ paper tries n))
-      ⊎ (nameOf book a limit buffer .buffer ≡ buffer)
-  unfolding nameOf nameRead
-  name-keeps-buffer = go (readOf book)
+  pub write-keeps-buffer : ((tries : ℕ) × (n : ℕ) × (writeOf book k limit buffer .told ≡ paper tries n))
+      ⊎ (writeOf book k limit buffer .buffer ≡ buffer)
+  unfolding writeOf writeRead
+  write-keeps-buffer = go (readOf book)
     where
-      go : (r : BookRead) → Keeping buffer (nameRead r a limit buffer)
-      go (good n r index l) = name-in-keeping _ _ limit buffer
+      go : (r : BookRead) → Keeping buffer (writeRead r k limit buffer)
+      go (good n r index l) = write-in-keeping _ _ limit buffer
       go (bad i at) = inr refl

@@ -1,4 +1,4 @@
--- The six ways that a naming can go (document 01, "Numbers given back"; blueprint, N7): stopped on the first walk, no reading, stopped on
+-- The six ways that a naming or a clearing can go (document 01, "Numbers given back"; blueprint, N7): stopped on the first walk, no reading, stopped on
 -- the paper's walk, stuck, a paper that is too long, and the paper handed over. Each is answered as it should be, and one of them it is.
 use mathlib.Core.Path.{_≡_, _∙_, ap}
 use mathlib.Core.Logic.{_⊎_, inl, inr, ⊎-elim}
@@ -10,7 +10,8 @@ use lib.ListN.{length, drop}
 use Rattle.meaning.specs.Sets.{every}
 use Rattle.meaning.specs.Books.{Atoms, Book, count, rule}
 use Rattle.meaning.specs.Colours.{start}
-use Rattle.meaning.specs.Claim.{Claim, claimed}
+use Rattle.meaning.specs.declared.kind.Claim.{Claim}
+use Rattle.meaning.specs.Claim.{claimed}
 use Rattle.meaning.specs.Told.{refused, fewer, stopped, Answered}
 use Rattle.meaning.specs.Written.{nothing}
 use Rattle.meaning.proofs.Tests.{decided, lt-or-le}
@@ -28,8 +29,8 @@ use Rattle.walk.proofs.Needs.{kth-or-fewer}
 use Rattle.writer.specs.Branches.{branches}
 use Rattle.writer.specs.Needs.{settled, Stuck, Needs, to-stuck, paperFor}
 use Rattle.writer.specs.Needs.{to-end as to-last}
-use Rattle.writer.specs.Name.{Handed, paper, firstWalk, paperWalk, handOver}
-use Rattle.writer.specs.Name.{afterPaperWalk, afterFirstWalk, nameIn}
+use Rattle.writer.specs.Write.{Handed, paper, firstWalk, paperWalk, handOver}
+use Rattle.writer.specs.Write.{lacking, afterPaperWalk, afterFirstWalk, writeIn}
 use Rattle.writer.proofs.Needs.{stuck-some, paper-limited, paper-stuck, paper-written}
 use Rattle.writer.proofs.Stages.{only, hand-no-room, hand-long, hand-over}
 use Rattle.writer.proofs.First.{set-in-first, kth-answer, first-limited, first-none, first-found}
@@ -73,24 +74,24 @@ module _ (b : Book) (k : Claim) (limit : ℕ) (buffer : List ℕ) where
     first-stopped : {n : ℕ} → NeedsTries b 1 n → limit < n → Outcome (only buffer (stopped limit))
     no-reading : length (readings b) < 1 → length (events b nothing) ≤ limit → Outcome (only buffer (fewer (length (events b nothing)) 0))
     paper-stopped : {x : Atoms} {n : ℕ} → Found b limit x → Needs b k n → limit < n → Outcome (only buffer (stopped limit))
-    got-stuck : {x : Atoms} {n : ℕ} → Found b limit x → Stuck b k n → n ≤ limit → Outcome (only buffer (refused 12))
+    got-stuck : {x : Atoms} {n : ℕ} → Found b limit x → Stuck b k n → n ≤ limit → Outcome (only buffer (refused (lacking (k .kind))))
     too-long : {x : Atoms} → Found b limit x → Settled b k limit → TooLong b k buffer x → Outcome (only buffer (refused 14))
     handed-over : {x : Atoms} → Found b limit x → Settled b k limit → length (paperFor b k x) ≤ length buffer
         → length (paperFor b k x) ≤ 60000 → Outcome (written b k buffer x)
 
   module _ (good : Nameable b k) where
     abbrev answer : Answered Handed
-    answer = nameIn b k limit buffer
+    answer = writeIn b k limit buffer
 
     -- ---- what each way answers
 
-    pub way-first-stopped : {n : ℕ} → NeedsTries b 1 n → limit < n → nameIn b k limit buffer ≡ only buffer (stopped limit)
-    unfolding nameIn afterFirstWalk
+    pub way-first-stopped : {n : ℕ} → NeedsTries b 1 n → limit < n → writeIn b k limit buffer ≡ only buffer (stopped limit)
+    unfolding writeIn afterFirstWalk
     way-first-stopped p h = lt-yes _ _ _ _ (good .atom-below) ∙ rw (first-limited b limit (good .few-atoms) p h)
 
     pub way-no-reading : length (readings b) < 1 → length (events b nothing) ≤ limit
-        → nameIn b k limit buffer ≡ only buffer (fewer (length (events b nothing)) 0)
-    unfolding nameIn afterFirstWalk
+        → writeIn b k limit buffer ≡ only buffer (fewer (length (events b nothing)) 0)
+    unfolding writeIn afterFirstWalk
     way-no-reading p h =
         let (e, t) = first-none b limit (good .few-atoms) p h in lt-yes _ _ _ _ (good .atom-below) ∙ rw (e, t)
 
@@ -102,14 +103,14 @@ module _ (b : Book) (k : Claim) (limit : ℕ) (buffer : List ℕ) where
           (e, ap setIn o ∙ set-in-first b x inside)
 
       after-first : answer ≡ afterPaperWalk (paperWalk b k limit .course) b k limit (paperWalk b k limit) (firstWalk b limit .out) buffer
-      unfolding nameIn afterFirstWalk
+      unfolding writeIn afterFirstWalk
       after-first = lt-yes _ _ _ _ (good .atom-below) ∙ rw (ended .0)
 
-      pub way-paper-stopped : {n : ℕ} → Needs b k n → limit < n → nameIn b k limit buffer ≡ only buffer (stopped limit)
+      pub way-paper-stopped : {n : ℕ} → Needs b k n → limit < n → writeIn b k limit buffer ≡ only buffer (stopped limit)
       unfolding afterPaperWalk
       way-paper-stopped p g = after-first ∙ rw (paper-limited b k limit p g)
 
-      pub way-stuck : {n : ℕ} → Stuck b k n → n ≤ limit → nameIn b k limit buffer ≡ only buffer (refused 12)
+      pub way-stuck : {n : ℕ} → Stuck b k n → n ≤ limit → writeIn b k limit buffer ≡ only buffer (refused (lacking (k .kind)))
       unfolding afterPaperWalk
       way-stuck p g = after-first ∙ rw (paper-stuck b k limit p g)
 
@@ -118,11 +119,11 @@ module _ (b : Book) (k : Claim) (limit : ℕ) (buffer : List ℕ) where
         unfolding afterPaperWalk paperFor
         handed = after-first ∙ rw (paper-written b k limit (all .0) (all .1), ended .1)
 
-        pub way-too-long : TooLong b k buffer x → nameIn b k limit buffer ≡ only buffer (refused 14)
+        pub way-too-long : TooLong b k buffer x → writeIn b k limit buffer ≡ only buffer (refused 14)
         way-too-long l = handed ∙ ⊎-elim (hand-no-room _ (paperFor b k x) buffer) (hand-long _ (paperFor b k x) buffer) l
 
         pub way-paper : length (paperFor b k x) ≤ length buffer → length (paperFor b k x) ≤ 60000
-            → nameIn b k limit buffer ≡ written b k buffer x
+            → writeIn b k limit buffer ≡ written b k buffer x
         way-paper l m = handed ∙ hand-over _ (paperFor b k x) buffer l m
 
     -- ---- one of them it is
@@ -147,8 +148,8 @@ module _ (b : Book) (k : Claim) (limit : ℕ) (buffer : List ℕ) where
           (λ h. settled-outcome (s, h)) (lt-or-le limit (length (branches b k start))))
           (λ n. let (m, u) = stuck-some b k n in stuck-outcome u) (decided (every settled (branches b k start)))
 
-    pub name-outcome : Outcome (nameIn b k limit buffer)
-    name-outcome = ⊎-elim
+    pub write-outcome : Outcome (writeIn b k limit buffer)
+    write-outcome = ⊎-elim
         (λ (t, x, first). ⊎-elim (λ h. stopped-first (to-reading first) h) (λ h. found-outcome (t, first, h)) (lt-or-le limit t))
         (λ none. ⊎-elim (λ h. stopped-first (to-end none) h) (λ h. rw (way-no-reading none h) (no-reading none h))
         (lt-or-le limit (length (events b nothing))))

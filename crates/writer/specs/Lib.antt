@@ -2,6 +2,6 @@
 pub mod Branches
 pub mod Scan
 pub mod Needs
-pub mod Name
+pub mod Write
 pub mod Steps
 pub mod Draft

@@ -16,7 +16,7 @@ use lib.ListN.{length}
 use Rattle.meaning.specs.Sets.{Set, _∉_, every}
 use Rattle.meaning.specs.Books.{Atoms, Book}
 use Rattle.meaning.specs.Colours.{start}
-use Rattle.meaning.specs.Claim.{Claim}
+use Rattle.meaning.specs.declared.kind.Claim.{Claim}
 use Rattle.meaning.specs.Paper.{numbers, trailer}
 use Rattle.meaning.specs.Engine.{witnessOf}
 use Rattle.writer.specs.Branches.{Tip, ended, parted, unsettled, Branch, branches}

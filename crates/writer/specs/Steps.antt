@@ -4,6 +4,7 @@
 --
 --   newOn, newOff        the rules that 41 and 42 are for, asked by tables of atoms: "may go on and isn't on", "may go off so and isn't
 --                        off"
+--   tabled k headed lost  what tables of the heads of on rules, and of the atoms all of whose rules are off, say of the claim
 --   outside marks off    the rules that are neither marked nor off
 --   mayList b s l        the rules of s that may be listed next, where those of l are listed
 --   Listed b m l w       the array l holds the m rules of the list w
@@ -14,8 +15,11 @@ use mathlib.Core.List.{List}
 use Prim.Native.Nat.{ℕ}
 use lib.ListN.{length}
 use Rattle.meaning.specs.declared.RuleNo.{RuleNo}
+use Rattle.meaning.specs.declared.kind.Kind.{Kind}
+use Rattle.meaning.specs.declared.kind.Kind.the-variants.{Naming, Clearing}
+use Rattle.meaning.specs.declared.kind.Claim.{Claim}
 use Rattle.meaning.specs.Sets.{every, some}
-use Rattle.meaning.specs.Books.{Rules, Book, rule}
+use Rattle.meaning.specs.Books.{Atoms, Rules, Book, rule}
 use Rattle.meaning.specs.Colours.{heads}
 use Rattle.meaning.specs.Written.{of}
 use Rattle.meaning.specs.Lowest.{rulesIn}
@@ -24,6 +28,13 @@ use Rattle.book.specs.Tables.{atomsIn}
 use Rattle.writer.specs.declared.step.Step.{Step}
 use Rattle.writer.specs.declared.step.Step.the-variants.{On, Off, Unfounded, Stops}
 use Rattle.writer.specs.declared.step.Tip.the-variants.{Ended, Parted, Unsettled}
+
+unfoldable pub tabledBy : Kind → List Bool → List Bool → Atoms
+tabledBy Naming headed lost = atomsIn headed
+tabledBy Clearing headed lost = atomsIn lost
+
+unfoldable pub tabled : Claim → List Bool → List Bool → Bool
+tabled k headed lost = tabledBy (k .kind) headed lost (k .atom)
 
 unfoldable pub newOn : Book → List Bool → List Bool → List Bool → Rules
 newOn b headed lost on =

@@ -1,6 +1,6 @@
 // One branch of the engine's own paper: steps up to its 45 or its split.
 ghost use Prim.Native.Nat.{_<_};
-ghost use Rattle.meaning.specs.Claim.{named};
+ghost use Rattle.meaning.specs.Claim.{claimed};
 ghost use Rattle.meaning.specs.Written.{pair};
 ghost use Rattle.book.specs.Format.{bookIn, ReadAs};
 ghost use Rattle.writer.specs.Branches.{branch};
@@ -13,7 +13,7 @@ use crate::step::Tip;
 use crate::step::next_step;
 use book::Shape;
 use book::wide;
-use meaning::AtomNo;
+use meaning::Claim;
 use meaning::Colouring;
 use meaning::STEP_END;
 use meaning::STEP_OFF;
@@ -43,13 +43,13 @@ fn write_tip(draft: &mut [u8; 60000], at: usize, tip: Tip) -> usize
 pub fn write_branch(
     book: &[u8],
     shape: Shape,
-    atom: AtomNo,
+    claim: Claim,
     c: Colouring,
     draft: &mut [u8; 60000],
     at: usize,
 ) -> Written
-    requires { ⌜ ReadAs (now book) shape × (atom .0 < shape .atoms) ⌝ }
-    ensures { λ w. ⌜ Wrote (branch (bookIn (now (book .entry))) (named atom) (pair c))
+    requires { ⌜ ReadAs (now book) shape × (claimed claim .0 < shape .atoms) ⌝ }
+    ensures { λ w. ⌜ Wrote (branch (bookIn (now (book .entry))) claim (pair c))
         at (now (draft .entry)) w (now (draft .exit)) ⌝ }
 {
     let mut on = c.on;
@@ -58,7 +58,7 @@ pub fn write_branch(
     let mut dropped = [false; Colouring::RULES];
     let mut n = at;
     loop {
-        match next_step(book, shape, atom, &on, &off, &mut dropped) {
+        match next_step(book, shape, claim, &on, &off, &mut dropped) {
             Step::On(r) => {
                 on[wide(r.0)] = true;
                 n = write_step(draft, n, STEP_ON, r);

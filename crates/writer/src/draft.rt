@@ -2,12 +2,10 @@
 // bytes that a paper may have nothing is stored, and the length is counted up to 60,001 and held
 // there: whatever comes behind, the paper is too long.
 ghost use mathlib.Core.List.{[], _∷_};
-ghost use Rattle.meaning.specs.Claim.{named};
 ghost use Rattle.meaning.specs.Paper.{trailer};
 ghost use Rattle.writer.specs.Draft.{Writes};
 ghost use Prim.Native.Nat.{_<_};
-use meaning::AtomNo;
-use meaning::NAMING_MARK;
+use meaning::Claim;
 use meaning::RuleNo;
 
 // One byte behind the first `at` ones; the length afterwards.
@@ -33,18 +31,20 @@ pub fn write_step(draft: &mut [u8; 60000], at: usize, code: u8, r: RuleNo) -> us
 pub fn write_trailer(
     draft: &mut [u8; 60000],
     at: usize,
-    atom: AtomNo,
+    claim: Claim,
     count: u8,
     from: usize,
 ) -> usize
     requires { ⌜ from < 65536 ⌝ }
-    ensures { λ n. ⌜ Writes (trailer (named atom) count from) at
+    ensures { λ n. ⌜ Writes (trailer claim count from) at
         (now (draft .entry)) n (now (draft .exit)) ⌝ }
 {
-    let claimed = write(draft, at, atom.0);
+    let kind = claim.kind;
+    let mark = kind.mark();
+    let claimed = write(draft, at, claim.atom.0);
     let counted = write(draft, claimed, count);
     let low = write(draft, counted, (from % 256) as u8);
     let high = write(draft, low, (from / 256) as u8);
-    let marked = write(draft, high, NAMING_MARK[0]);
-    write(draft, marked, NAMING_MARK[1])
+    let marked = write(draft, high, mark[0]);
+    write(draft, marked, mark[1])
 }

@@ -4,35 +4,34 @@ ghost use mathlib.Core.List.{List};
 ghost use Prim.Native.Nat.{ℕ, _<_, _≤_};
 ghost use lib.ListN.{length, take};
 ghost use Rattle.meaning.specs.Told.{Answered};
-ghost use Rattle.meaning.specs.Claim.{named};
 ghost use Rattle.book.specs.Format.{bookIn, ReadAs};
 ghost use Rattle.walk.specs.Run.{writeAt};
 ghost use Rattle.walk.specs.Page.{setIn};
 ghost use Rattle.writer.specs.Draft.{Stands};
 ghost use Rattle.writer.specs.Needs.{wholePaper};
-ghost use Rattle.writer.specs.Name.{Handed, told, handOver};
+ghost use Rattle.writer.specs.Write.{Handed, told, handOver};
 use crate::answer::Named;
 use crate::draft::write_trailer;
 use crate::witness::write_witness;
 use book::Shape;
-use meaning::AtomNo;
+use meaning::Claim;
 
 // Writes the witness and the trailer behind the steps; the length of the whole paper.
 pub fn finish(
     book: &[u8],
     shape: Shape,
-    atom: AtomNo,
+    claim: Claim,
     row: &[u8; 255],
     draft: &mut [u8; 60000],
     from: usize,
 ) -> usize
     requires { ⌜ ReadAs (now book) shape × (from < 65536) ⌝ }
     ensures { λ n. ⌜ ((steps : List ℕ) → Stands steps from (now (draft .entry)) →
-        Stands (wholePaper (bookIn (now (book .entry))) (named atom) steps
+        Stands (wholePaper (bookIn (now (book .entry))) claim steps
         (setIn (now (row .entry)))) n (now (draft .exit))) ⌝ }
 {
     let witness = write_witness(book, shape, row, draft, from);
-    write_trailer(draft, witness.length, atom, witness.count, from)
+    write_trailer(draft, witness.length, claim, witness.count, from)
 }
 
 // Copies the first `n` bytes of the draft to the front of the paper.

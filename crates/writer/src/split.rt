@@ -1,7 +1,7 @@
 // The paper's walk: a branch and, behind its split, the branches with the rule on and those with
 // the rule off. Each branch is one try.
 ghost use Prim.Native.Nat.{_<_, _≤_};
-ghost use Rattle.meaning.specs.Claim.{named};
+ghost use Rattle.meaning.specs.Claim.{claimed};
 ghost use Rattle.meaning.specs.Written.{pair};
 ghost use Rattle.book.specs.Format.{bookIn, ReadAs};
 ghost use Rattle.writer.specs.Branches.{branches};
@@ -10,7 +10,7 @@ ghost use Rattle.writer.specs.Draft.{Stage};
 use crate::branch::write_branch;
 use crate::step::Tip;
 use book::Shape;
-use meaning::AtomNo;
+use meaning::Claim;
 use meaning::Colouring;
 
 pub enum Course {
@@ -33,16 +33,16 @@ pub struct Drafted {
 pub fn write_branches(
     book: &[u8],
     shape: Shape,
-    atom: AtomNo,
+    claim: Claim,
     c: Colouring,
     limit: u32,
     p: Drafted,
     draft: &mut [u8; 60000],
 ) -> Drafted
-    requires { ⌜ ReadAs (now book) shape × (atom .0 < shape .atoms) ⌝ }
+    requires { ⌜ ReadAs (now book) shape × (claimed claim .0 < shape .atoms) ⌝ }
     ensures { λ q. ⌜ ((s : Progress) → Stage p (now (draft .entry)) s → s .tries ≤ limit →
         Stage q (now (draft .exit))
-        (scan limit s (branches (bookIn (now (book .entry))) (named atom) (pair c)))) ⌝ }
+        (scan limit s (branches (bookIn (now (book .entry))) claim (pair c)))) ⌝ }
 {
     let course = p.course;
     let Course::Writing = course else {
@@ -55,7 +55,7 @@ pub fn write_branches(
             course: Course::Limited,
         };
     }
-    let here = write_branch(book, shape, atom, c, draft, p.length);
+    let here = write_branch(book, shape, claim, c, draft, p.length);
     let tries = p.tries + 1;
     let length = here.length;
     let tip = here.tip;
@@ -78,8 +78,8 @@ pub fn write_branches(
                 length,
                 course: Course::Writing,
             };
-            let first = write_branches(book, shape, atom, on, limit, parted, draft);
-            write_branches(book, shape, atom, d.with_off(r), limit, first, draft)
+            let first = write_branches(book, shape, claim, on, limit, parted, draft);
+            write_branches(book, shape, claim, d.with_off(r), limit, first, draft)
         }
     }
 }

@@ -1,10 +1,11 @@
 // The next step of the engine's own paper, on the colouring as it stands. Nothing is changed.
+ghost use mathlib.Core.Path.{_≡_};
 ghost use Prim.Native.Nat.{_<_};
-ghost use Rattle.meaning.specs.Claim.{named};
+ghost use Rattle.meaning.specs.Claim.{claimed};
 ghost use Rattle.meaning.specs.Written.{lent};
 ghost use Rattle.meaning.specs.Engine.{next};
 ghost use Rattle.book.specs.Format.{bookIn, ReadAs};
-ghost use Rattle.writer.specs.Steps.{Does};
+ghost use Rattle.writer.specs.Steps.{Does, tabled};
 use crate::list::list_unsupported;
 use crate::search::lowest_off;
 use crate::search::lowest_on;
@@ -12,8 +13,9 @@ use book::Shape;
 use book::heads_of;
 use book::lost_in;
 use book::wide;
-use meaning::AtomNo;
+use meaning::Claim;
 use meaning::Colouring;
+use meaning::Kind;
 use meaning::RuleNo;
 use walk::Picked;
 use walk::clashes;
@@ -38,19 +40,36 @@ pub enum Tip {
     Unsettled,
 }
 
+// What the tables say of the claimed atom: the head of an on rule, or of off rules only.
+fn is_shown<'a>(
+    claim: Claim,
+    headed: &'a [bool; Colouring::ATOMS],
+    lost: &'a [bool; Colouring::ATOMS],
+) -> bool
+    requires { ⌜ claim .atom .0 < 255 ⌝ }
+    ensures { λ v. ⌜ v ≡ tabled claim (now (headed .entry)) (now (lost .entry)) ⌝ }
+{
+    let kind = claim.kind;
+    let a = wide(claim.atom.0);
+    match kind {
+        Kind::Naming => headed[a],
+        Kind::Clearing => lost[a],
+    }
+}
+
 // 45 as soon as allowed; else the first of 41, 42, 55 and 53 that there is a rule for. The rules of
 // 55 are written over whatever the array held.
 pub fn next_step<'a>(
     book: &[u8],
     shape: Shape,
-    atom: AtomNo,
+    claim: Claim,
     on: &'a [bool; 255],
     off: &'a [bool; 255],
     dropped: &mut [bool; 255],
 ) -> Step
-    requires { ⌜ ReadAs (now book) shape × (atom .0 < shape .atoms) ⌝ }
+    requires { ⌜ ReadAs (now book) shape × (claimed claim .0 < shape .atoms) ⌝ }
     ensures { λ x. ⌜ Does (bookIn (now (book .entry))) (now (dropped .exit)) x
-        (next (bookIn (now (book .entry))) (named atom)
+        (next (bookIn (now (book .entry))) claim
         (lent (now (on .entry)) (now (off .entry)))) ⌝ }
 {
     if clashes(shape.rules, on, off) {
@@ -58,11 +77,11 @@ pub fn next_step<'a>(
     }
     let mut headed = [false; Colouring::ATOMS];
     heads_of(book, shape, on, &mut headed);
-    if headed[wide(atom.0)] {
-        return Step::Stops(Tip::Ended);
-    }
     let mut lost = [false; Colouring::ATOMS];
     lost_in(book, shape, off, &mut lost);
+    if is_shown(claim, &headed, &lost) {
+        return Step::Stops(Tip::Ended);
+    }
     if let Picked::Rule(r) = lowest_on(book, shape, on, &headed, &lost) {
         return Step::On(r);
     }

@@ -1,4 +1,4 @@
--- `show_book` shows rules of a book that was read as good only.
+-- `show_book` shows what stands in a book that was read as good only.
 use mathlib.Core.Path.{ap}
 use mathlib.Core.Path.{sym, _∙_}
 use borrow.Author.Needs.{needs}
@@ -6,10 +6,10 @@ use Rattle.book.specs.Numbers.{told}
 use Rattle.showing.proofs.show_book.Statement.{statement}
 use Rattle.showing.proofs.show_book.Tie as tie
 
-show-rules-requires : tie.Need-show-rules-requires
-show-rules-requires c κs = sym (c .before .before .before .read-book .ensures) ∙ ap told (c .before .shape .given .1)
+show-all-requires : tie.Need-show-all-requires
+show-all-requires c κs = sym (c .before .before .before .read-book .ensures) ∙ ap told (c .before .shape .given .1)
 
 pub show-book-spec : {M : Type 1} → statement M
 show-book-spec =
-    tie.close (tie.spec (λ c κs. search needs) (λ c. search needs) (λ c κs. search needs) (λ c. search needs) show-rules-requires
+    tie.close (tie.spec (λ c κs. search needs) (λ c. search needs) (λ c κs. search needs) (λ c. search needs) show-all-requires
     (λ c. search needs) (λ c. search needs))

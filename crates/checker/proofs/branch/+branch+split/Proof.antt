@@ -2,12 +2,12 @@
 -- The bytes left fall round the cycle.
 use borrow.Author.Needs.{needs}
 use native.Mathlib.Omega.{arith}
+use lib.ListN.{length}
 use Prim.Native.Nat.{ℕ, _+_, _-_, _≤_, _<_}
-use mathlib.Core.Path.{refl, ap}
+use mathlib.Core.Path.{_≡_, refl, ap}
 use borrow.Fn.Kinds.{In}
 use borrow.Fn.PlainCycle.{Measures, is, falls, and}
 use Rattle.meaning.specs.Books.{count}
-use Rattle.meaning.specs.Claim.{named}
 use Rattle.book.specs.Format.{bookIn}
 use Rattle.book.proofs.Places.{shape-count}
 use Rattle.checker.specs.Parts.{Ready, RuleWithin, walked}
@@ -101,6 +101,13 @@ module _ (t : ℕ) (s : split-lts.Start (split-calls t) (split-at t) split.Post)
   few : count (bookIn (s .args .book .now)) ≤ 255
   few = omega (arith, shape-count _ _ (ready .read))
 
+  -- the colouring's arrays have their length
+  on-long : length (s .args .c .on) ≡ 255
+  on-long = search needs
+
+  off-long : length (s .args .c .off) ≡ 255
+  off-long = search needs
+
 module _ (t : ℕ) where
   -- behind the rule's going on: the start
   abbrev split-start : split-lts.After-with-on (split-calls t) (split-at t) split.Post
@@ -118,14 +125,14 @@ module _ (t : ℕ) where
     start = split-start (c .before)
 
     parted : let s = start .args in
-        Parted (bookIn (s .book .now)) (named (s .trailer .atom)) (s .paper .now) (s .trailer .from) (s .at) (s .r) (s .c)
+        Parted (bookIn (s .book .now)) (s .trailer .claim) (s .paper .now) (s .trailer .from) (s .at) (s .r) (s .c)
         (c .before .with-on .result) (c .branch .result)
     parted = record {
       within = within t start;
       splits = start .pre .1 .2;
       few = few t start;
-      on-long = search needs;
-      off-long = search needs;
+      on-long = on-long t start;
+      off-long = off-long t start;
       on = c .before .with-on .ensures;
       comes = c .branch .ensures;
     }

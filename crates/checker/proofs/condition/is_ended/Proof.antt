@@ -22,7 +22,7 @@ returns c = let p = c .before in sym (ended-clash _ _ _ _ _ (counted p) (sym (p 
 returns-2 : tie.Need-returns-2
 returns-2 c =
     let p = c .before .before in
-    c .is-head .ensures ∙ sym (ended-shown _ _ _ _ _ (counted p) (sym (p .is-clashing .ensures) ∙ c .before .if1 .left))
+    c .is-shown .ensures ∙ sym (ended-shown _ _ _ _ _ (counted p) (sym (p .is-clashing .ensures) ∙ c .before .if1 .left))
 
 pub is-ended-spec : {M : Type 1} → statement M
 is-ended-spec =

@@ -3,15 +3,16 @@ use borrow.Author.Needs.{needs}
 use native.Mathlib.Omega.{arith}
 use mathlib.Core.Path.{_≡_, sym}
 use mathlib.Core.Logic.{⊎-elim}
-use mathlib.Core.Bool.{false, _&&_}
+use mathlib.Core.Bool.{Bool, true, false, _&&_}
 use Prim.Native.Nat.{_-_, _≤_}
+use lib.ListN.{getD}
 use Rattle.meaning.specs.Sets.{someBelow}
-use Rattle.meaning.specs.Books.{ruleNo, sameAtom, rule}
+use Rattle.meaning.specs.Books.{Rules, ruleNo, sameAtom, Book, rule}
 use Rattle.meaning.specs.Written.{of}
 use Rattle.meaning.proofs.Sets.{none-next, none-end}
 use Rattle.book.specs.Format.{bookIn}
 use Rattle.book.proofs.Places.{shape-count, shape-in}
-use Rattle.checker.proofs.Conditions.{head-here, head-other, head-out, head-none}
+use Rattle.checker.proofs.Conditions.{rule-says, head-here, head-other, head-out, head-none}
 use Rattle.checker.proofs.condition.is_head.Statement.{statement}
 use Rattle.checker.proofs.condition.is_head.Tie as tie
 
@@ -34,19 +35,29 @@ module _ (c : tie.After-wide Inv-loop μ-loop) where
   abbrev start : tie.Start Inv-loop μ-loop
   start = turn .before .before
 
+  abbrev b : Book
+  b = bookIn (start .args .book .now)
+
+  abbrev inside : Rules
+  inside r = of (start .args .set .now) r
+
+  -- what place r of the table says of rule r
+  says : (v : Bool) → getD (start .args .set .now) (c .wide .result) false ≡ v → inside (ruleNo (turn .loop .r)) ≡ v
+  says v t = rule-says (λ t. t) _ _ _ v (c .wide .ensures .0) t
+
 returns : tie.Need-returns Inv-loop μ-loop
 returns c =
     let h = c .before .before .before in
     let p = h .before .before .before in
-    sym (head-here _ _ _ _ (turn p .loop .r) _ (p .wide .ensures .0) (h .head .ensures)
-    (shape-in _ _ (start p .pre) (ruleNo (turn p .loop .r)) (omega arith)) (h .before .if2 .taken) (c .if3 .taken))
+    sym (head-here (b p) (inside p) _ _ (turn p .loop .r) (h .head .ensures)
+    (shape-in _ _ (start p .pre) (ruleNo (turn p .loop .r)) (omega arith)) (says p true (h .before .if2 .taken)) (c .if3 .taken))
 
 loop-again : tie.Need-loop-again Inv-loop μ-loop
 loop-again c =
     let p = c .before .before in (
       omega arith,
-      none-next _ _ (⊎-elim (λ w. head-other _ _ _ _ (turn p .loop .r) _ (p .wide .ensures .0) (w .1 .ensures) (w .4 .left))
-          (λ w. head-out _ _ _ _ _ (p .wide .ensures .0) (w .left)) (c .if2 .came)) (turn p .loop .inv .1),
+      none-next _ _ (⊎-elim (λ w. head-other (b p) (inside p) _ _ (turn p .loop .r) (w .1 .ensures) (w .4 .left))
+          (λ w. head-out (b p) (inside p) _ (turn p .loop .r) (says p false (w .left))) (c .if2 .came)) (turn p .loop .inv .1),
     )
 
 returns-2 : tie.Need-returns-2 Inv-loop μ-loop

@@ -1,7 +1,6 @@
 -- What the first branch comes to is told: its refusal, or the place where it ends, or what the witness comes to.
 use borrow.Author.Needs.{needs}
 use mathlib.Core.Path.{_≡_, _∙_, ap}
-use Rattle.meaning.specs.Claim.{named}
 use Rattle.book.specs.Format.{bookIn}
 use Rattle.checker.specs.Branches.{Walked}
 use Rattle.checker.specs.Parts.{walked}
@@ -16,9 +15,9 @@ module _ (c : tie.After-branch) where
   start = c .before .before .before .before .before
 
   came : (x : Walked) → walked (c .branch .result) ≡ x → let s = start .args in let t = s .trailer in
-      branchTold (bookIn (s .book .now)) (s .paper .now) (t .atom) (t .count) (t .from) x
-      ≡ stepsTold (bookIn (s .book .now)) (named (t .atom)) (s .paper .now) (t .atom) (t .count) (t .from)
-  came x e = steps-are _ _ _ _ _ _ (c .before .empty .ensures) (c .branch .ensures .0) e
+      branchTold (bookIn (s .book .now)) (t .claim) (s .paper .now) (t .count) (t .from) x
+      ≡ stepsTold (bookIn (s .book .now)) (t .claim) (s .paper .now) (t .count) (t .from)
+  came x e = steps-are _ _ _ _ _ (c .before .empty .ensures) (c .branch .ensures .0) e
 
 -- the branch was right: where it ends
 abbrev ended : tie.After-struct-known → tie.After-end

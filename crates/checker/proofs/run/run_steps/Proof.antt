@@ -4,7 +4,6 @@ use borrow.Author.Needs.{needs}
 use native.Mathlib.Omega.{arith}
 use Prim.Native.Nat.{_+_, _-_, _≤_}
 use Rattle.meaning.specs.Books.{count}
-use Rattle.meaning.specs.Claim.{named}
 use Rattle.meaning.specs.Written.{pair}
 use Rattle.book.specs.Format.{bookIn}
 use Rattle.book.proofs.Places.{shape-count}
@@ -15,7 +14,7 @@ use Rattle.checker.proofs.run.run_steps.Tie as tie
 
 abbrev Inv-loop : tie.InvT-loop
 Inv-loop book shape paper trailer at colours₀ i₀ colours i =
-    Led (bookIn book) (named (trailer .atom)) paper (trailer .from) at (pair colours₀) i colours
+    Led (bookIn book) (trailer .claim) paper (trailer .from) at (pair colours₀) i colours
 
 abbrev μ-loop : tie.MeasureT-loop
 μ-loop book shape paper trailer at colours₀ i₀ colours i = trailer .from - i

@@ -5,7 +5,6 @@ use Prim.Native.Nat.{_≤_, _<_}
 use native.Mathlib.Omega.{arith}
 use borrow.Author.Needs.{needs}
 use Rattle.meaning.specs.Books.{count}
-use Rattle.meaning.specs.Claim.{named}
 use Rattle.meaning.specs.Written.{lent}
 use Rattle.book.specs.Format.{bookIn}
 use Rattle.book.proofs.Places.{shape-count}
@@ -16,11 +15,11 @@ use Rattle.writer.proofs.branch.write_branch.Statement.{statement}
 use Rattle.writer.proofs.branch.write_branch.Tie as tie
 
 abbrev Inv-loop : tie.InvT-loop
-Inv-loop book shape atom draft₀ at on₀ off₀ marks dropped₀ n₀ draft on off dropped n =
-    Ahead (bookIn book) (named atom) (lent on₀ off₀) n₀ draft₀ on off n draft
+Inv-loop book shape claim draft₀ at on₀ off₀ marks dropped₀ n₀ draft on off dropped n =
+    Ahead (bookIn book) claim (lent on₀ off₀) n₀ draft₀ on off n draft
 
 abbrev μ-loop : tie.MeasureT-loop
-μ-loop book shape atom draft₀ at on₀ off₀ marks dropped₀ n₀ draft on off dropped n = missing (bookIn book) (lent on off)
+μ-loop book shape claim draft₀ at on₀ off₀ marks dropped₀ n₀ draft on off dropped n = missing (bookIn book) (lent on off)
 
 -- a good book has at most 255 rules
 module _ (s : tie.Start Inv-loop μ-loop) where

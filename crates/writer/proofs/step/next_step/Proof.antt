@@ -6,7 +6,8 @@ use native.Mathlib.Omega.{arith}
 use borrow.Author.Needs.{needs}
 use Rattle.meaning.specs.Books.{Book}
 use Rattle.meaning.specs.Colours.{Pair, mayOn, blocked, uncoloured}
-use Rattle.meaning.specs.Claim.{Claim, named, ended}
+use Rattle.meaning.specs.declared.kind.Claim.{Claim}
+use Rattle.meaning.specs.Claim.{claimed, ended}
 use Rattle.meaning.specs.Written.{lent}
 use Rattle.meaning.specs.Lowest.{Pick, lowest, none}
 use Rattle.meaning.specs.Engine.{less}
@@ -26,7 +27,7 @@ abbrev bookAt : tie.Start → Book
 bookAt s = bookIn (s .args .book .now)
 
 abbrev claimAt : tie.Start → Claim
-claimAt s = named (s .args .atom)
+claimAt s = s .args .claim
 
 abbrev pairAt : tie.Start → Pair
 pairAt s = lent (s .args .on .now) (s .args .off .now)
@@ -42,33 +43,46 @@ offAt s = lowest (bookAt s) (less (blocked (bookAt s) (pairAt s)) (pairAt s .off
 small : (s : tie.Start) → s .args .shape .atoms < 256
 small s = search needs
 
-atom-small : (s : tie.Start) → s .args .atom .0 < 255
+atom-small : (s : tie.Start) → claimed (claimAt s) .0 < 255
 atom-small s = omega (arith, small s)
 
 -- ---- what is known behind each search
 
--- 45 isn't allowed
-module _ (c : tie.Else2) where
-  abbrev start : tie.Start
-  start = c .before .before .before .before .before .before .before
+-- the claim is asked: the two tables, no contradiction, the start
+module _ (c : tie.After-is-shown) where
+  abbrev lost : tie.After-lost-in
+  lost = c .before .before .before
 
-  quiet : ended (bookAt start) (claimAt start) (pairAt start) ≡ false
-  quiet =
-      let headed = c .before .before in
-      let apart = headed .before .before in
-      let e = clash-in (bookAt start) (shape-count _ _ (start .pre .0)) _ _ (apart .before .clashes .ensures) in
-      not-ended _ _ _ _ _ (headed .heads-of .ensures) (atom-small start) _ (c .before .wide .ensures .0)
-      (sym e ∙ apart .if1 .left) (c .if2 .left)
+  abbrev headed : tie.After-heads-of
+  headed = lost .before .before
+
+  abbrev calm : tie.Else1
+  calm = headed .before .before
+
+  abbrev start : tie.Start
+  start = calm .before .before .before
+
+-- 45 isn't allowed
+quiet : (c : tie.Else2) → let s = start (c .before) in ended (bookAt s) (claimAt s) (pairAt s) ≡ false
+quiet c =
+    let asked = c .before in
+    let s = start asked in
+    let e = clash-in (bookAt s) (shape-count _ _ (s .pre .0)) _ _ (calm asked .before .clashes .ensures) in
+    not-ended _ _ _ _ _ _ (headed asked .heads-of .ensures) (lost asked .lost-in .ensures) (atom-small s) (asked .is-shown .ensures)
+    (sym e ∙ calm asked .if1 .left) (c .if2 .left)
 
 -- 41
 module _ (c : tie.After-lowest-on) where
   abbrev not-45 : tie.Else2
-  not-45 = c .before .before .before .before .before
+  not-45 = c .before .before .before
 
-  on-lowest : picked (c .lowest-on .result) ≡ onAt (start not-45)
+  abbrev at-41 : tie.Start
+  at-41 = start (not-45 .before)
+
+  on-lowest : picked (c .lowest-on .result) ≡ onAt at-41
   on-lowest =
-      c .lowest-on .ensures ∙ new-on-lowest _ _ (start not-45 .pre .0) (small (start not-45)) _ _ _
-      (not-45 .before .before .heads-of .ensures) _ (c .before .before .before .lost-in .ensures)
+      c .lowest-on .ensures ∙ new-on-lowest _ _ (at-41 .pre .0) (small at-41) _ _ _
+      (headed (not-45 .before) .heads-of .ensures) _ (lost (not-45 .before) .lost-in .ensures)
 
 -- 42, where there is no rule for 41
 module _ (c : tie.After-lowest-off) where
@@ -76,7 +90,7 @@ module _ (c : tie.After-lowest-off) where
   not-41 = c .before .before .before .before
 
   abbrev first : tie.Start
-  first = start (not-45 not-41)
+  first = at-41 not-41
 
   on-none : none ≡ onAt first
   on-none = picked-none (on-lowest not-41) (c .before .before .enum-told .given .1)
@@ -84,7 +98,7 @@ module _ (c : tie.After-lowest-off) where
   off-lowest : picked (c .lowest-off .result) ≡ offAt first
   off-lowest =
       c .lowest-off .ensures ∙ new-off-lowest _ _ (first .pre .0) (small first) (first .args .on .now) _ _
-      (not-45 not-41 .before .before .heads-of .ensures)
+      (headed (not-45 not-41 .before) .heads-of .ensures)
 
 -- 55, where there is none for 42 either
 module _ (c : tie.After-list-unsupported) where
@@ -102,6 +116,10 @@ module _ (c : tie.After-lowest-uncoloured) where
   split-lowest : let s = first (not-42 not-55) in picked (c .lowest-uncoloured .result) ≡ lowest (bookAt s) (uncoloured (pairAt s))
   split-lowest = let s = first (not-42 not-55) in lowest-in (bookAt s) (shape-count _ _ (s .pre .0)) _ (c .lowest-uncoloured .ensures)
 
+is-shown-requires : tie.Need-is-shown-requires
+unfolding claimed
+is-shown-requires c κs = atom-small (c .before .before .before .before .before .before .before .before .before)
+
 -- ---- the returns
 
 returns : tie.Need-returns
@@ -112,8 +130,9 @@ returns c =
 
 returns-2 : tie.Need-returns-2
 returns-2 c =
-    let headed = c .before .before .heads-of .ensures in
-    let shown = ended-shown _ _ _ _ _ headed (omega arith) _ (c .before .wide .ensures .0) (c .if2 .taken) in
+    let asked = c .before in
+    let shown = ended-shown _ _ _ _ _ _ (headed asked .heads-of .ensures) (lost asked .lost-in .ensures) (atom-small (start asked))
+    (asked .is-shown .ensures) (c .if2 .taken) in
     does-next (next-end _ _ _ shown) does-end
 
 returns-3 : tie.Need-returns-3
@@ -154,7 +173,7 @@ returns-7 c =
 
 pub next-step-spec : {M : Type 1} → statement M
 next-step-spec =
-    tie.close (tie.spec (λ c κs. search needs) returns (λ c κs. search needs) (λ c κs. search needs) (λ c. search needs) returns-2
-    (λ c κs. search needs) (λ c κs. search needs) (λ c. search needs) returns-3 (λ c. search needs) (λ c κs. search needs)
+    tie.close (tie.spec (λ c κs. search needs) returns (λ c κs. search needs) (λ c κs. search needs) is-shown-requires returns-2
+    (λ c κs. search needs) (λ c. search needs) returns-3 (λ c. search needs) (λ c κs. search needs)
     (λ c. search needs) returns-4 (λ c. search needs) (λ c κs. search needs) returns-5 (λ c κs. search needs) (λ c. search needs)
     returns-6 (λ c. search needs) returns-7)

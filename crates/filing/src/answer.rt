@@ -1,0 +1,90 @@
+// What naming and clearing answer, in one line.
+ghost use Rattle.io.specs.Counts.{Counts};
+use crate::arguments::is_replacing;
+use crate::giving_way::gives_way;
+use meaning::Claim;
+use meaning::Kind;
+use saving::look_at;
+use saving::save_file;
+use talk::PAPER_ROOM;
+use talk::explain;
+use talk::explain_book;
+use talk::first_bytes;
+use talk::print;
+use talk::put_number;
+use talk::put_text;
+use talk::refused_name;
+use writer::Named;
+use writer::write_claim;
+
+// Saves the paper at the path where what stands there gives way, and gives whether it is saved.
+fn save_at(path: &[u8], book: &[u8], claim: Claim, paper: &[u8]) -> bool {
+    let mut old = [0u8; PAPER_ROOM];
+    let there = look_at(path, &mut old);
+    if !there.good {
+        return false;
+    }
+    let n = there.count;
+    if !gives_way(path, book, claim, &old[..n], is_replacing()) {
+        return false;
+    }
+    save_file(path, there.is_file, paper)
+}
+
+// Saves the paper in the file that the third argument names.
+fn save_paper(book: &[u8], claim: Claim, paper: &[u8]) -> bool {
+    let mut path = io::buffer();
+    let n = os::arg(3, &mut path);
+    if os::errno() == libc::ENAMETOOLONG {
+        print(b"bad file: its name is too long\n");
+        return false;
+    }
+    save_at(&path[..n], book, claim, paper)
+}
+
+// The claim that the paper proves.
+fn put_claim(claim: Claim, line: &mut [u8]) -> usize
+    ensures { λ r. ⌜ Counts r (now (line .exit)) ⌝ }
+{
+    let kind = claim.kind;
+    let atom = claim.atom.0 as u64;
+    match kind {
+        Kind::Naming => {
+            let held = put_text(b"named: atom ", line, 0);
+            let held = put_number(atom, line, held);
+            put_text(b" is certain", line, held)
+        }
+        Kind::Clearing => {
+            let held = put_text(b"cleared: atom ", line, 0);
+            let held = put_number(atom, line, held);
+            put_text(b" is in no reading", line, held)
+        }
+    }
+}
+
+// Saves the paper, and says so where it could be saved.
+fn tell_paper(book: &[u8], claim: Claim, tries: u32, paper: &[u8]) {
+    if !save_paper(book, claim, paper) {
+        return;
+    }
+    let mut line = [0u8; 128];
+    let held = put_claim(claim, &mut line);
+    let held = put_text(b"; paper: ", &mut line, held);
+    let held = put_number(paper.len() as u64, &mut line, held);
+    let held = put_text(b" bytes; tries: ", &mut line, held);
+    let held = put_number(tries as u64, &mut line, held);
+    let held = put_text(b"\n", &mut line, held);
+    print(&line[..held]);
+}
+
+// Asks the engine, and writes what it answers.
+pub fn tell_named(book: &[u8], claim: Claim, limit: u32, paper: &mut [u8]) {
+    let kind = claim.kind;
+    let answer = write_claim(book, claim, limit, paper);
+    match answer {
+        Named::Paper(tries, length) => tell_paper(book, claim, tries, first_bytes(paper, length)),
+        Named::Book(why) => explain_book(why, book),
+        Named::Stopped(tries) => explain(refused_name(answer), kind, tries as u64),
+        _ => explain(refused_name(answer), kind, claim.atom.0 as u64),
+    }
+}

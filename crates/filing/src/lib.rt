@@ -1,0 +1,65 @@
+// What the programs share that write a paper to a file: their arguments, what gives way to the
+// paper, and their lines. Stands on writer, checker, saving and talk.
+//
+//     BOOKFILE ATOM PAPERFILE [LIMIT] [--replace]
+
+ghost use Rattle.io.specs.Counts.{Counts};
+
+mod answer;
+mod arguments;
+mod giving_way;
+
+use answer::tell_named;
+use arguments::is_right;
+use arguments::read_atom;
+use arguments::read_limit;
+use meaning::AtomNo;
+use meaning::Claim;
+use meaning::Kind;
+use talk::BOOK_ROOM;
+use talk::Number;
+use talk::Taken;
+use talk::open_call;
+use talk::print;
+
+// Reads the atom and the limit, and names or clears the atom.
+fn file_atom(book: &[u8], kind: Kind) {
+    let Number::Value(atom) = read_atom() else {
+        print(b"bad atom: ATOM is a number below 256\n");
+        return;
+    };
+    if 255 < atom {
+        print(b"bad atom: ATOM is a number below 256\n");
+        return;
+    }
+    let Number::Value(limit) = read_limit() else {
+        print(b"bad limit: LIMIT is a number up to 4294967295\n");
+        return;
+    };
+    let mut paper = [0u8; 60000];
+    let atom = AtomNo(atom as u8);
+    tell_named(book, Claim { kind, atom }, limit, &mut paper);
+}
+
+// How the program that writes papers of this kind is called.
+fn open_kind(kind: Kind, book: &mut [u8]) -> Taken
+    ensures { λ t. ⌜ Counts (t .count) (now (book .exit)) ⌝ }
+{
+    let naming = b"naming BOOKFILE ATOM PAPERFILE [LIMIT] [--replace]";
+    let clearing = b"clearing BOOKFILE ATOM PAPERFILE [LIMIT] [--replace]";
+    match kind {
+        Kind::Naming => open_call(is_right(), naming, book),
+        Kind::Clearing => open_call(is_right(), clearing, book),
+    }
+}
+
+// Writes the paper of this kind about an atom, as the arguments of the program say, and a line on
+// it. Nothing is written on a refusal, and a paper file that was there before stays as it was.
+pub fn file_paper(kind: Kind) {
+    let mut book = [0u8; BOOK_ROOM];
+    let taken = open_kind(kind, &mut book);
+    if taken.good {
+        let n = taken.count;
+        file_atom(&book[..n], kind);
+    }
+}

@@ -1,2 +1,0 @@
--- The laws of naming.
-pub mod NewNames

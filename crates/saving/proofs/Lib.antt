@@ -1,0 +1,2 @@
+-- The laws of saving.
+pub mod NewNames
