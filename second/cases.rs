@@ -5,7 +5,9 @@ use crate::claim::{certain, Claim};
 use crate::desk::{answer, hex, BAD_LINE};
 use crate::random::Random;
 use crate::worked::{worked_lines, Worked};
-use crate::{cases_books, cases_clearing, cases_damage, cases_lines, cases_naming, cases_papers};
+use crate::{
+    cases_books, cases_clash, cases_clearing, cases_damage, cases_lines, cases_naming, cases_papers,
+};
 use std::collections::{BTreeMap, BTreeSet};
 
 const SEED: u64 = 20_240_607;
@@ -114,6 +116,7 @@ fn all_cases() -> Cases {
     cases_papers::add(&mut cases, &mut random);
     cases_lines::add(&mut cases);
     cases_clearing::add(&mut cases);
+    cases_clash::add(&mut cases);
     cases_lines::add_last(&mut cases);
     cases
 }

@@ -3,8 +3,9 @@
 
 use crate::book::{Book, Rule};
 use crate::cases::Cases;
-use crate::closing::Support;
-use crate::desk::MOST_NUMBER;
+use crate::clash::last_clash;
+use crate::closing::{Colouring, Support};
+use crate::desk::{fewer, MOST_NUMBER};
 use crate::random::Random;
 use crate::shapes::{
     chain_book, deep_book, layered_book, random_book, wide_book, Shape, MIXED, SHAPES,
@@ -81,7 +82,8 @@ fn tight(cases: &mut Cases, book: &Book) {
         assert_eq!(cases.find(k, at - 1, book.atoms, &bytes), format!("limit {}", at - 1));
     }
     let none = sets.len() as u64 + 1;
-    let fewer = format!("fewer {} {}", tries, sets.len());
+    let clash = last_clash(book, &Colouring::empty());
+    let fewer = fewer(tries, sets.len() as u64, clash);
     assert_eq!(cases.find(none, tries, book.atoms, &bytes), fewer);
     assert_eq!(cases.find(none, tries - 1, book.atoms, &bytes), format!("limit {}", tries - 1));
 }
@@ -112,7 +114,7 @@ fn deepest(cases: &mut Cases) {
     assert_eq!(cases.find(1, 2, 2, &book), "set 2 0");
     assert_eq!(cases.find(2, 509, 2, &book), "set 509 1");
     assert_eq!(cases.find(2, 508, 2, &book), "limit 508");
-    assert_eq!(cases.find(3, 509, 2, &book), "fewer 509 2");
+    assert_eq!(cases.find(3, 509, 2, &book), "fewer 509 2 0");
     assert_eq!(cases.readings(&book), "rules 255 atoms 2|1: 0|2: 1|end 2 tries 509|");
     let mut turned = deep_book(254);
     turned.rules.rotate_right(1);

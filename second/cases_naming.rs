@@ -5,7 +5,7 @@ use crate::book::{Book, Rule};
 use crate::cases::Cases;
 use crate::claim::{certain, Claim};
 use crate::closing::Support;
-use crate::desk::MOST_NUMBER;
+use crate::desk::{fewer, MOST_NUMBER};
 use crate::paper::{write_paper, Written, LONGEST_PAPER};
 use crate::random::Random;
 use crate::shapes::{
@@ -77,8 +77,8 @@ pub fn tight(cases: &mut Cases, book: &Book, claim: Claim) {
             assert_eq!(cases.paper(claim, need - 1, paper.len(), &bytes), fails);
             cases.paper(claim, MOST_NUMBER, 65_536, &bytes);
         }
-        Written::NoReading { tries } => {
-            assert_eq!(cases.paper(claim, need, 0, &bytes), format!("fewer {} 0", tries));
+        Written::NoReading { tries, clash } => {
+            assert_eq!(cases.paper(claim, need, 0, &bytes), fewer(tries, 0, clash));
             assert_eq!(cases.paper(claim, need - 1, 60_000, &bytes), fails);
         }
         _ => {

@@ -18,6 +18,11 @@ impl Colouring {
         self.on.meets(&self.off)
     }
 
+    /// The lowest rule that is in both sets.
+    pub fn lowest_clash(&self) -> Option<RuleNo> {
+        self.on.members().find(|r| self.off.has(*r))
+    }
+
     pub fn lowest_uncoloured(&self, book: &Book) -> Option<RuleNo> {
         book.all_rules().minus(&self.on).minus(&self.off).lowest()
     }

@@ -4,6 +4,7 @@ use crate::book::{Book, Refusal};
 use crate::checker::check;
 use crate::claim::{certain, clear, Claim};
 use crate::listing::{write_readings, LISTING_LIMIT};
+use crate::numbers::RuleNo;
 use crate::paper::{write_paper, Written};
 use crate::walk::{find, Finding};
 use std::fmt::Write as _;
@@ -71,9 +72,7 @@ fn found_answer(finding: Finding, limit: u64) -> Answer {
             }
             Answer { text, tries: found.tries }
         }
-        Finding::Fewer { tries, sets } => {
-            Answer { text: format!("fewer {} {}", tries, sets), tries }
-        }
+        Finding::Fewer { tries, sets, clash } => Answer { text: fewer(tries, sets, clash), tries },
         Finding::Limit => Answer { text: format!("limit {}", limit), tries: limit },
     }
 }
@@ -91,7 +90,7 @@ fn answer_paper(kind: fn(u8) -> Claim, words: &[&[u8]]) -> Option<Answer> {
         Written::Paper { tries, bytes } => {
             format!("paper {} {} {}", tries, bytes.len(), hex(&bytes))
         }
-        Written::NoReading { tries } => format!("fewer {} 0", tries),
+        Written::NoReading { tries, clash } => fewer(tries, 0, clash),
         Written::Limit => format!("limit {}", limit),
         Written::Refused(refusal) => return Some(refused(refusal, spent)),
     };
@@ -113,6 +112,11 @@ fn answer_readings(words: &[&[u8]]) -> Option<Answer> {
     let tries = write_readings(&book, LISTING_LIMIT, &mut listing).expect("a vector takes all");
     let text = String::from_utf8(listing).expect("a listing is plain").replace('\n', "|");
     Some(Answer { text, tries })
+}
+
+/// 11: the tries, the sets and the rule that clashed last, 255 where none did.
+pub fn fewer(tries: u64, sets: u64, clash: Option<RuleNo>) -> String {
+    format!("fewer {} {} {}", tries, sets, clash.map_or(255, |rule| rule.0))
 }
 
 fn refused(refusal: Refusal, tries: u64) -> Answer {

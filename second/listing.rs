@@ -21,7 +21,7 @@ pub fn write_readings(bytes: &[u8], limit: u64, out: &mut dyn Write) -> Result<u
     writeln!(out, "rules {} atoms {}", book.rules.len(), book.atoms)?;
     let mut sets = 0u64;
     let mut trouble = Ok(());
-    let (end, tries) = walk(&book, limit, Support::Kept, &mut |colouring, _| {
+    let walked = walk(&book, limit, Support::Kept, &mut |colouring, _| {
         sets += 1;
         trouble = write_set(sets, &book.heads(&colouring.on), out);
         if trouble.is_ok() {
@@ -31,11 +31,11 @@ pub fn write_readings(bytes: &[u8], limit: u64, out: &mut dyn Write) -> Result<u
         }
     });
     trouble?;
-    match end {
+    match walked.end {
         WalkEnd::Limit => writeln!(out, "stopped {} tries {}", sets, limit)?,
-        _ => writeln!(out, "end {} tries {}", sets, tries)?,
+        _ => writeln!(out, "end {} tries {}", sets, walked.tries)?,
     }
-    Ok(tries)
+    Ok(walked.tries)
 }
 
 fn write_set(number: u64, set: &AtomSet, out: &mut dyn Write) -> Result<()> {

@@ -16,7 +16,7 @@ pub const END: u8 = 0x45;
 #[derive(Clone, PartialEq, Eq, Debug)]
 pub enum Written {
     Paper { tries: u64, bytes: Vec<u8> },
-    NoReading { tries: u64 },
+    NoReading { tries: u64, clash: Option<RuleNo> },
     Limit,
     Refused(Refusal),
 }
@@ -155,7 +155,7 @@ pub fn write_paper(book: &Book, claim: Claim, limit: u64, room: usize) -> (Writt
     }
     let first = match find_set(book, 1, limit) {
         Finding::Set(found) => found,
-        Finding::Fewer { tries, .. } => return (Written::NoReading { tries }, tries),
+        Finding::Fewer { tries, clash, .. } => return (Written::NoReading { tries, clash }, tries),
         Finding::Limit => return (Written::Limit, limit),
     };
     let mut writer = Writer { book, claim, limit, tries: 0, steps: Vec::new(), length: 0 };

@@ -3,6 +3,7 @@
 
 use crate::book::Book;
 use crate::claim::{certain, clear};
+use crate::clash::last_clash;
 use crate::closing::{close, Colouring, Support};
 use crate::meaning::{answer_sets, comes_before};
 use crate::numbers::AtomSet;
@@ -13,7 +14,7 @@ use crate::selftest_words::{steps_back, words_back};
 use crate::shapes::{random_book, SHAPES};
 use crate::walk::{all_readings, find, Finding};
 use crate::worked::{assert_worked, worked_lines};
-use crate::worked_requests::clearing_lines;
+use crate::worked_requests::{clash_lines, clearing_lines};
 use std::cmp::Ordering;
 
 const SEED: u64 = 3;
@@ -28,11 +29,13 @@ struct BookCounts {
     support: usize,
     readings: usize,
     finds: usize,
+    clashes: usize,
 }
 
 pub fn run() -> Result<(), String> {
     println!("worked books: {} lines as document 01 prints them", assert_worked(&worked_lines()));
     println!("worked clearing: {} lines", assert_worked(&clearing_lines()));
+    println!("worked clashes: {} lines", assert_worked(&clash_lines()));
     let mut random = Random::new(SEED);
     let mut counts = BookCounts::default();
     let mut closing_counts = ClosingCounts::default();
@@ -108,9 +111,12 @@ fn compare_finding(book: &Book, walked: &[(AtomSet, u64)], tries: u64, counts: &
         assert_eq!(find(book, k, at - 1, book.atoms), Ok(Finding::Limit));
     }
     let sets = walked.len() as u64;
-    assert_eq!(find(book, sets + 1, tries, book.atoms), Ok(Finding::Fewer { tries, sets }));
+    let clash = last_clash(book, &Colouring::empty());
+    assert!(clash.is_some() || sets > 0, "a book without readings clashes");
+    assert_eq!(find(book, sets + 1, tries, book.atoms), Ok(Finding::Fewer { tries, sets, clash }));
     assert_eq!(find(book, sets + 1, tries - 1, book.atoms), Ok(Finding::Limit));
     counts.finds += 2 * walked.len() + 2;
+    counts.clashes += clash.is_some() as usize;
 }
 
 fn report(counts: &BookCounts) {
@@ -119,6 +125,7 @@ fn report(counts: &BookCounts) {
     println!("  with none: {}", counts.none);
     println!("  where leaving support out changes the readings: {}", counts.support);
     println!("finding: {} calls, at the tries needed and one less", counts.finds);
+    println!("  books with a contradictory try, whose last clash is told: {}", counts.clashes);
     assert!(counts.books >= 20_000);
     assert!(counts.several >= 2_000 && counts.none >= 2_000 && counts.support >= 2_000);
 }

@@ -2,7 +2,7 @@
 
 use crate::book::{Book, Refusal};
 use crate::closing::{close, Colouring, Support};
-use crate::numbers::{AtomSet, RuleSet};
+use crate::numbers::{AtomSet, RuleNo, RuleSet};
 
 /// How a walk came to its end.
 #[derive(Clone, Copy, PartialEq, Eq, Debug)]
@@ -27,6 +27,7 @@ struct Walk<'a> {
     part: Support,
     limit: u64,
     tries: u64,
+    clash: Option<RuleNo>,
     visitor: &'a mut dyn FnMut(&Colouring, u64) -> Visit,
 }
 
@@ -39,6 +40,7 @@ impl Walk<'_> {
         self.tries += 1;
         let closed = close(self.book, start, self.part);
         if closed.contradicts() {
+            self.clash = closed.lowest_clash();
             return None;
         }
         match closed.lowest_uncoloured(self.book) {
@@ -54,17 +56,26 @@ impl Walk<'_> {
     }
 }
 
+/// What a walk came to.
+#[derive(Clone, Copy)]
+pub struct Walked {
+    pub end: WalkEnd,
+    pub tries: u64,
+    /// The lowest rule in both sets at the last try that was contradictory.
+    pub clash: Option<RuleNo>,
+}
+
 /// Walks from the empty colouring and hands each complete colouring to the visitor with the tries
-/// so far. Gives back how it ended and the tries used.
+/// so far.
 pub fn walk(
     book: &Book,
     limit: u64,
     part: Support,
     visitor: &mut dyn FnMut(&Colouring, u64) -> Visit,
-) -> (WalkEnd, u64) {
-    let mut walk = Walk { book, part, limit, tries: 0, visitor };
+) -> Walked {
+    let mut walk = Walk { book, part, limit, tries: 0, clash: None, visitor };
     let end = walk.branch(&Colouring::empty()).unwrap_or(WalkEnd::Whole);
-    (end, walk.tries)
+    Walked { end, tries: walk.tries, clash: walk.clash }
 }
 
 #[derive(Clone, Copy, PartialEq, Eq, Debug)]
@@ -77,7 +88,7 @@ pub struct Found {
 #[derive(Clone, Copy, PartialEq, Eq, Debug)]
 pub enum Finding {
     Set(Found),
-    Fewer { tries: u64, sets: u64 },
+    Fewer { tries: u64, sets: u64, clash: Option<RuleNo> },
     Limit,
 }
 
@@ -85,7 +96,7 @@ pub enum Finding {
 pub fn find_set(book: &Book, k: u64, limit: u64) -> Finding {
     let mut sets = 0;
     let mut on = RuleSet::none();
-    let (end, tries) = walk(book, limit, Support::Kept, &mut |colouring, _| {
+    let Walked { end, tries, clash } = walk(book, limit, Support::Kept, &mut |colouring, _| {
         sets += 1;
         on = colouring.on;
         if sets == k {
@@ -96,7 +107,7 @@ pub fn find_set(book: &Book, k: u64, limit: u64) -> Finding {
     });
     match end {
         WalkEnd::Limit => Finding::Limit,
-        WalkEnd::Whole => Finding::Fewer { tries, sets },
+        WalkEnd::Whole => Finding::Fewer { tries, sets, clash },
         WalkEnd::Stopped => Finding::Set(Found { set: book.heads(&on), on, tries }),
     }
 }
@@ -115,12 +126,12 @@ pub fn find(book: &Book, k: u64, limit: u64, room: usize) -> Result<Finding, Ref
 /// All readings in the walk's order, with the tries after which each came, or None past the limit.
 pub fn all_readings(book: &Book, limit: u64, part: Support) -> Option<(Vec<(AtomSet, u64)>, u64)> {
     let mut sets = Vec::new();
-    let (end, tries) = walk(book, limit, part, &mut |colouring, tries| {
+    let walked = walk(book, limit, part, &mut |colouring, tries| {
         sets.push((book.heads(&colouring.on), tries));
         Visit::GoOn
     });
-    match end {
+    match walked.end {
         WalkEnd::Limit => None,
-        _ => Some((sets, tries)),
+        _ => Some((sets, walked.tries)),
     }
 }

@@ -31,7 +31,7 @@ pub fn worked_lines() -> Vec<Worked> {
     let mut say =
         |words: &str, bytes: &[&str], expected: &str| lines.push(worked(words, bytes, expected));
     say("find 1 1000 0", &[EMPTY], "set 1");
-    say("find 2 1000 0", &[EMPTY], "fewer 1 1");
+    say("find 2 1000 0", &[EMPTY], "fewer 1 1 255");
     say("find 1 1000 1", &[FACT], "set 1 0");
     say("find 1 0 1", &[FACT], "limit 0");
     say("name 0 1000 10", &[FACT], "paper 1 10 41004500000103005046");
@@ -41,13 +41,13 @@ pub fn worked_lines() -> Vec<Worked> {
     say("find 1 1000 2", &[CHOICE], "set 2 0");
     say("find 2 1000 2", &[CHOICE], "set 3 1");
     say("name 0 1000 60000", &[CHOICE], "refused 12");
-    say("find 1 1000 1", &[ODD], "fewer 3 0");
-    say("name 0 1000 60000", &[ODD], "fewer 3 0");
+    say("find 1 1000 1", &[ODD], "fewer 3 0 0");
+    say("name 0 1000 60000", &[ODD], "fewer 3 0 0");
     say("find 1 1000 2", &[CIRCLE], "set 1");
     say("check", &[CIRCLE, "410045 00000300 5046"], "refused 25 0");
-    say("find 1 1000 2", &[FACT_AND_ODD], "fewer 3 0");
+    say("find 1 1000 2", &[FACT_AND_ODD], "fewer 3 0 1");
     say("find 1 1000 3", &[CASES], "set 7 0 2");
-    say("find 3 1000 3", &[CASES], "fewer 15 2");
+    say("find 3 1000 3", &[CASES], "fewer 15 2 1");
     say("readings", &[CASES], "rules 4 atoms 3|1: 0 2|2: 1 2|end 2 tries 15|");
     let paper = "5300 45 5301 45 5302 4100 45 4103 4101 45 0200 02021000 5046";
     say("name 2 1000 24", &[CASES], &format!("paper 7 24 {}", paper.replace(' ', "")));

@@ -4,7 +4,7 @@ use mathlib.Core.Path.{_≡_, refl, sym, _∙_, ap}
 use mathlib.Core.Logic.{⊎-elim}
 use mathlib.Core.Bool.{Bool, false, not}
 use mathlib.Core.List.{List}
-use Prim.Native.Nat.{_≤_}
+use Prim.Native.Nat.{ℕ, _≤_}
 use lib.ListN.{length}
 use borrow.Author.Tests.{not-true}
 use Rattle.meaning.specs.declared.RuleNo.{RuleNo}
@@ -12,7 +12,8 @@ use Rattle.meaning.specs.declared.colouring.Colouring.{Colouring}
 use Rattle.meaning.specs.Sets.{_∈_, _∉_, every, some}
 use Rattle.meaning.specs.Books.{Book, count, rule, InBook}
 use Rattle.meaning.specs.Colours.{Pair, heads, allIn, mayOn, blocked, starved, Under, Upheld, Within, Closed}
-use Rattle.meaning.specs.Written.{of, lent}
+use Rattle.meaning.specs.Written.{of, lent, pair}
+use Rattle.meaning.specs.Lowest.{Pick, lowestFrom, lowest, inBoth, clashed}
 use Rattle.meaning.specs.Computed.{support, close}
 use Rattle.meaning.proofs.Tests.{both, left, right, either, first, other, absent}
 use Rattle.meaning.proofs.Sets.{every-mono}
@@ -25,6 +26,7 @@ use Rattle.book.specs.Tables.{atomTable, atomsIn}
 use Rattle.closing.specs.Growing.{Pass}
 use Rattle.closing.specs.Conditions.{onWith, goingOn, offByTables, goingOff}
 use Rattle.closing.proofs.Good.{Asks}
+use Rattle.closing.proofs.Searches.{lowest-in}
 
 -- the sets, the marks and the tables of a closing that started from two sets
 pub record Closes (b : Book) (on₀ off₀ on off marks headed lost : List Bool) : Type 0 where
@@ -145,3 +147,9 @@ closes-end b asks c sized {on} {off} s {on'} p e {off'} q f g =
     closing-computed b (asks .few) c _ sized
     (record { on = t .on-long; off = t .off-long; marks = rw g (length-support b (of off') (asks .few)) })
     (reached-closing b (t .reached) (rw y at closed)) g (record { on = t .on-outside; off = t .off-outside })
+
+-- the rule told of a contradiction, where the search among the first rules has found it
+pub clash-end : (b : Book) (c : Colouring) {n : ℕ} → count b ≡ n → {d : Colouring} → d ≡ close b c → {p : Pick}
+    → p ≡ lowestFrom 0 n (inBoth (pair d)) → p ≡ clashed b (pair (close b c))
+unfolding clashed
+clash-end b c e q f = lowest-in b e _ f ∙ ap (λ (d : Colouring). lowest b (inBoth (pair d))) q

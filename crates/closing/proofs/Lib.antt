@@ -5,6 +5,8 @@ pub mod Growing
 pub mod Turns
 pub mod Counters
 pub mod Supporting
+pub mod Searches
+pub mod Picked
 pub mod Closed
 pub mod Left
 pub mod Laws

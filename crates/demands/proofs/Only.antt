@@ -16,7 +16,7 @@ use Rattle.meaning.specs.Told.{Told, refusedAt, refused, fewer, stopped, Answer
 use Rattle.meaning.proofs.Tests.{lt-or-le}
 use Rattle.book.specs.Rows.{Bytes}
 use Rattle.walk.specs.Readings.{AllReadings}
-use Rattle.walk.specs.Tries.{Needs, to-reading, to-end}
+use Rattle.walk.specs.Tries.{Needs, to-reading, to-end, lastClash}
 use Rattle.walk.specs.Run.{rowOf}
 use Rattle.walk.specs.Find.{set, findOf}
 use Rattle.walk.proofs.Run.{apart}
@@ -69,7 +69,7 @@ module _ (book : List ℕ) (bytes : Bytes book) (k limit : ℕ) (answer : List �
         (λ h. ⊎-elim
         (λ m. (
           _,
-          refuses (fewer n (length l)) (λ u z. apart (cc))
+          refuses (fewer n (length l) (lastClash b)) (λ u z. apart (cc))
               (λ e p q. q .tells-fewer book b k limit answer c l all n needs h .1 m),
         ))
         (λ m. (_, gives all needs h m)) (lt-or-le (length l) k)) (lt-or-le limit n)
@@ -149,7 +149,7 @@ module _ (q : Kind) (book : List ℕ) (bytes : Bytes book) (a : AtomNo) (limit :
         by {n} (to-end f) = ⊎-elim (λ h. (_, stops (to-end f) (inl h)))
             (λ h. (
               _,
-              leaves (fewer n 0) (λ u m z. apart (cc))
+              leaves (fewer n 0 (lastClash b)) (λ u m z. apart (cc))
                   (λ e p s r. s .asking-fewer q book b a limit buffer c n (to-end f) h .1 (fewer-none b (nameable q c .few-rules) f)),
             )) (lt-or-le limit n)
 

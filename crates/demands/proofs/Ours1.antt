@@ -37,7 +37,7 @@ data Finds (k : ℕ) (room atoms : ℕ) : Told ℕ → Type 0 where
   no-number : k ≡ 0 → Finds k room atoms (refused 15)
   no-room : 0 < k → room < atoms → Finds k room atoms (refused 8)
   found : {t : ℕ} → Finds k room atoms (set t)
-  too-few : {t n : ℕ} → Finds k room atoms (fewer t n)
+  too-few : {t n r : ℕ} → Finds k room atoms (fewer t n r)
   too-long : {l : ℕ} → Finds k room atoms (stopped l)
 
 module _ (b : Book) (k limit : ℕ) (answer : List ℕ) where
@@ -116,7 +116,7 @@ data Writes (q : Kind) (atom atoms : ℕ) : Told Handed → Type 0 where
   open-branch : {i : ℕ} → i ≡ lacking q → Writes q atom atoms (refused i)
   passes-room : Writes q atom atoms (refused 14)
   written : {t n : ℕ} → Writes q atom atoms (paper t n)
-  none : {t n : ℕ} → Writes q atom atoms (fewer t n)
+  none : {t n r : ℕ} → Writes q atom atoms (fewer t n r)
   limit-met : {l : ℕ} → Writes q atom atoms (stopped l)
 
 module _ (b : Book) (q : Kind) (a : AtomNo) (limit : ℕ) (buffer : List ℕ) where

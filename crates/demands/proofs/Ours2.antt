@@ -11,7 +11,7 @@ use Rattle.meaning.specs.Written.{nothing}
 use Rattle.meaning.specs.Told.{fewer, stopped, Answered}
 use Rattle.walk.specs.Events.{events}
 use Rattle.walk.specs.Readings.{readings}
-use Rattle.walk.specs.Tries.{Kth, Needs, to-reading, to-end}
+use Rattle.walk.specs.Tries.{Kth, Needs, to-reading, to-end, lastClash}
 use Rattle.walk.specs.Run.{rowOf}
 use Rattle.walk.specs.Find.{set, findIn, findOf}
 use Rattle.walk.proofs.Needs.{kth-reading, needs-one}
@@ -45,10 +45,10 @@ module _ (book : List ℕ) (b : Book) (k limit : ℕ) (answer : List ℕ) (c : C
   given (to-end f) h l = absurd (omega arith)
 
   fewer-told : {n : ℕ} → Needs b k n → n ≤ limit
-      → (findOf book k limit answer .told ≡ fewer n (length (readings b))) ↔ (length (readings b) < k)
+      → (findOf book k limit answer .told ≡ fewer n (length (readings b)) (lastClash b)) ↔ (length (readings b) < k)
   fewer-told needs h = (
-    λ e. find-fewer b k limit answer (c .good-number) (c .good-room) _ _ .0 (sym told-as ∙ e) .0,
-    λ l. told-as ∙ find-fewer b k limit answer (c .good-number) (c .good-room) _ _ .1 (l, to-last needs l, refl, h),
+    λ e. find-fewer b k limit answer (c .good-number) (c .good-room) _ _ _ .0 (sym told-as ∙ e) .0,
+    λ l. told-as ∙ find-fewer b k limit answer (c .good-number) (c .good-room) _ _ _ .1 (l, to-last needs l, refl, refl, h),
   )
     where
       to-last : {n : ℕ} → Needs b k n → length (readings b) < k → n ≡ length (events b nothing)
@@ -66,6 +66,6 @@ ours-2 = record {
       along (stopped limit) (ap (λ (x : Answered Handed). x .told) (written-as (c .good-book) (claim q a) limit buffer))
       (write-stopped b (claim q a) limit buffer (nameable q c) needs paper);
   asking-fewer = λ q book b a limit buffer c n needs h.
-      along (fewer n 0) (ap (λ (x : Answered Handed). x .told) (written-as (c .good-book) (claim q a) limit buffer))
+      along (fewer n 0 (lastClash b)) (ap (λ (x : Answered Handed). x .told) (written-as (c .good-book) (claim q a) limit buffer))
       (write-none b (claim q a) limit buffer (nameable q c) needs h);
 }

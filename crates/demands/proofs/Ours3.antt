@@ -129,7 +129,7 @@ module _ (q : Kind) (book : List ℕ) (b : Book) (a : AtomNo) (limit : ℕ) (buf
 -- answers to calls with a good book and an atom of it
 pub data GoodAsking : Told Handed → Type 0 where
   told-paper : {t n : ℕ} → GoodAsking (paper t n)
-  told-none : {t n : ℕ} → GoodAsking (fewer t n)
+  told-none : {t n r : ℕ} → GoodAsking (fewer t n r)
 
 -- a call that we answer so has them
 pub asking-of : (q : Kind) (book : List ℕ) → Bytes book → (a : AtomNo) (limit : ℕ) (buffer : List ℕ) {t : Told Handed}

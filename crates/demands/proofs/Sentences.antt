@@ -56,7 +56,7 @@ bytes-of (x ∷ l) e (suc i) = bytes-of l (right (ltb x 256) _ e) i
 -- the answers to good calls
 pub data Good : Told ℕ → Type 0 where
   good-set : {t : ℕ} → Good (set t)
-  good-fewer : {t n : ℕ} → Good (fewer t n)
+  good-fewer : {t n r : ℕ} → Good (fewer t n r)
   good-stop : {l : ℕ} → Good (stopped l)
 
 module _ (book : List ℕ) (bytes : Bytes book) (k limit : ℕ) (answer : List ℕ) where
@@ -109,8 +109,8 @@ module _ (book : List ℕ) (bytes : Bytes book) (k limit : ℕ) (answer : List �
       let (u, v) = ours-2 .stops book b k limit answer c in
       (λ p. v (f p), λ p. g (u p))
 
-  pub fewer-as-ours : (e : Engine) → TellsFewer e → {t m : ℕ} → findOf book k limit answer .told ≡ fewer t m
-      → e .find book k limit answer .told ≡ fewer t m
+  pub fewer-as-ours : (e : Engine) → TellsFewer e → {t m r : ℕ} → findOf book k limit answer .told ≡ fewer t m r
+      → e .find book k limit answer .told ≡ fewer t m r
   fewer-as-ours e tells told =
       let (b, c) = call-of good-fewer told in
       let (l, all, n, needs) = call-counts c in
@@ -146,7 +146,7 @@ handed (handed-over {x} f s h l) e = (x, f, s, h, l)
 
 -- where fewer was told, there is no reading, and the whole walk was within the limit
 none : {b : Book} {k : Claim} {limit : ℕ} {buffer : List ℕ} {r : Answered Handed} → Outcome b k limit buffer r
-    → {t n : ℕ} → r .told ≡ fewer t n → (length (readings b) < 1) × (length (events b nothing) ≤ limit)
+    → {t n c : ℕ} → r .told ≡ fewer t n c → (length (readings b) < 1) × (length (events b nothing) ≤ limit)
 none (first-stopped p h) e = apart (cc)
 none (no-reading h l) e = (h, l)
 none (paper-stopped f p h) e = apart (cc)
@@ -155,8 +155,8 @@ none (too-long f s l) e = apart (cc)
 none (handed-over f s h l) e = apart (cc)
 
 module _ (q : Kind) (book : List ℕ) (bytes : Bytes book) (a : AtomNo) (limit : ℕ) (buffer : List ℕ) where
-  pub unwritten-as-ours : (e : Engine) → AskingFewer e → {t n : ℕ} → writeOf book (claim q a) limit buffer .told ≡ fewer t n
-      → e .write q book a limit buffer .told ≡ fewer t n
+  pub unwritten-as-ours : (e : Engine) → AskingFewer e → {t n r : ℕ} → writeOf book (claim q a) limit buffer .told ≡ fewer t n r
+      → e .write q book a limit buffer .told ≡ fewer t n r
   unwritten-as-ours e tells told =
       let (b, c) = asking-of q book bytes a limit buffer told-none told in
       let in-book = ap (λ (r : Answered Handed). r .told) (sym (written-as (c .good-book) (claim q a) limit buffer)) ∙ told in

@@ -1,6 +1,6 @@
 -- The five useless versions do not meet the demands (specs/Useless): each is refuted by the sentence of a demand that document 01 names for
 -- it, at one or two of the worked books. The sentence makes the version answer as ours does there, and it does not. Whoever refuses every
--- call, by whatever excuses, is refuted so too, and so is whoever tells other tries than ours at any call.
+-- call, by whatever excuses, is refuted so too, and so is whoever tells other tries, or another rule that clashed, than ours at any call.
 use mathlib.Core.Path.{_≡_, refl, sym, _∙_, ap}
 use mathlib.Core.Logic.{⊎-elim, _↔_}
 use mathlib.Core.List.{List, _∷_, _++_}
@@ -27,10 +27,10 @@ use Rattle.checker.specs.Check.{checkOf}
 use Rattle.demands.specs.Engine.{Engine}
 use Rattle.demands.specs.Demand2.{Call, GivesReadings, Stops, TellsFewer, AskingFewer}
 use Rattle.demands.specs.Demand3.{Complete, Writes}
-use Rattle.demands.specs.Printed.{fact, factPaper, choice}
+use Rattle.demands.specs.Printed.{empty, fact, factPaper, choice, contrary, lateClash}
 use Rattle.demands.specs.Worked.{Holds, sevens}
 use Rattle.demands.specs.Useless.{Excuse, at-limit, too-few, by-number, by-place, excused, refusesAll, sameSet}
-use Rattle.demands.specs.Useless.{NeverFinds, NeverWrites, NeverAccepts, doesNothing, withTries, inventsTries}
+use Rattle.demands.specs.Useless.{NeverFinds, NeverWrites, NeverAccepts, doesNothing, withTries, inventsTries, withRule, inventsRule}
 use Rattle.demands.proofs.Worked.{At, row}
 use Rattle.demands.proofs.Sentences.{bytes-of, good-set, good-stop, given-as-ours, stops-as-ours, fewer-as-ours, accepts-as-ours}
 use Rattle.demands.proofs.Sentences.{unwritten-as-ours, written-as-ours}
@@ -120,14 +120,14 @@ module _ (i at : ℕ) where
   refuses-all-stops : (w : Excuse) → Stops (refusesAll w i at) → ⊥
   unfolding excused
   refuses-all-stops at-limit s = goes-on-fact (refusesAll at-limit i at) s refl
-  refuses-all-stops (too-few t n) s = let e = stops-fact (refusesAll (too-few t n) i at) s in apart (cc)
+  refuses-all-stops (too-few t n r) s = let e = stops-fact (refusesAll (too-few t n r) i at) s in apart (cc)
   refuses-all-stops (by-number j) s = let e = stops-fact (refusesAll (by-number j) i at) s in apart (cc)
   refuses-all-stops (by-place j p) s = let e = stops-fact (refusesAll (by-place j p) i at) s in apart (cc)
 
   refuses-all-writes : (q : Kind) (w : Excuse) → NeverWrites q (refusesAll w i at)
   unfolding excused
   refuses-all-writes q at-limit book a limit buffer t n e = apart (cc)
-  refuses-all-writes q (too-few u m) book a limit buffer t n e = apart (cc)
+  refuses-all-writes q (too-few u m r) book a limit buffer t n e = apart (cc)
   refuses-all-writes q (by-number j) book a limit buffer t n e = apart (cc)
   refuses-all-writes q (by-place j p) book a limit buffer t n e = apart (cc)
 
@@ -170,9 +170,13 @@ module _ (e : Engine) (book : List ℕ) (bytes : Bytes book) (limit : ℕ) where
         → e .find book k limit answer .told ≡ set u → u ≡ t
     set-tries-ours s p q = let same = ap told (given-as-ours book bytes k limit answer e s p) in cc
 
-    pub fewer-tries-ours : TellsFewer e → {t n u m : ℕ} → findOf book k limit answer .told ≡ fewer t n
-        → e .find book k limit answer .told ≡ fewer u m → u ≡ t
+    pub fewer-tries-ours : TellsFewer e → {t n r u m q : ℕ} → findOf book k limit answer .told ≡ fewer t n r
+        → e .find book k limit answer .told ≡ fewer u m q → u ≡ t
     fewer-tries-ours s p q = let same = fewer-as-ours book bytes k limit answer e s p in cc
+
+    pub fewer-rule-ours : TellsFewer e → {t n r u m q : ℕ} → findOf book k limit answer .told ≡ fewer t n r
+        → e .find book k limit answer .told ≡ fewer u m q → q ≡ r
+    fewer-rule-ours s p q = let same = fewer-as-ours book bytes k limit answer e s p in cc
 
   module _ (q : Kind) (a : AtomNo) (buffer : List ℕ) where
     pub paper-tries-ours : Writes q e → {t n u m : ℕ} → writeOf book (claim q a) limit buffer .told ≡ paper t n
@@ -181,9 +185,43 @@ module _ (e : Engine) (book : List ℕ) (bytes : Bytes book) (limit : ℕ) where
         let same = ap (λ (r : Answered Handed). r .told) (written-as-ours q book bytes a limit buffer e s p) in
         ap (λ (h : Handed). h .tries) (success-one (sym r ∙ same ∙ p))
 
-    pub unwritten-tries-ours : AskingFewer e → {t n u m : ℕ} → writeOf book (claim q a) limit buffer .told ≡ fewer t n
-        → e .write q book a limit buffer .told ≡ fewer u m → u ≡ t
+    pub unwritten-tries-ours : AskingFewer e → {t n r u m c : ℕ} → writeOf book (claim q a) limit buffer .told ≡ fewer t n r
+        → e .write q book a limit buffer .told ≡ fewer u m c → u ≡ t
     unwritten-tries-ours s p r = let same = unwritten-as-ours q book bytes a limit buffer e s p in cc
+
+    pub unwritten-rule-ours : AskingFewer e → {t n r u m c : ℕ} → writeOf book (claim q a) limit buffer .told ≡ fewer t n r
+        → e .write q book a limit buffer .told ≡ fewer u m c → c ≡ r
+    unwritten-rule-ours s p r = let same = unwritten-as-ours q book bytes a limit buffer e s p in cc
+
+-- ---- the rule of 11
+
+contrary-fewer : findOf contrary 1 1000 (sevens 2) ≡ record { told = fewer 3 0 0; buffer = sevens 2 }
+unfolding At Holds
+contrary-fewer = row 12
+
+empty-fewer : findOf empty 2 1000 (sevens 2) ≡ record { told = fewer 1 1 255; buffer = sevens 2 }
+unfolding At Holds
+empty-fewer = row 1
+
+late-fewer : findOf lateClash 1 1000 (sevens 2) ≡ record { told = fewer 5 0 0; buffer = sevens 2 }
+unfolding At Holds
+late-fewer = row 43
+
+-- one rule for every book is not the one that clashed
+pub invents-rule-fails : (n : ℕ) → TellsFewer (inventsRule n) → ⊥
+unfolding every withRule
+invents-rule-fails n s =
+    let u = fewer-rule-ours (inventsRule n) contrary (bytes-of contrary refl) 1000 1 (sevens 2) s (ap told contrary-fewer)
+    (ap (withRule n) (ap told contrary-fewer)) in
+    let v = fewer-rule-ours (inventsRule n) empty (bytes-of empty refl) 1000 2 (sevens 2) s (ap told empty-fewer)
+    (ap (withRule n) (ap told empty-fewer)) in
+    absurd (omega arith)
+
+-- whoever tells the rule that is seen in both sets first, and not the lowest at the end of the closing, tells rule 1 here
+pub first-seen-fails : (e : Engine) {t n : ℕ} → e .find lateClash 1 1000 (sevens 2) .told ≡ fewer t n 1 → TellsFewer e → ⊥
+unfolding every
+first-seen-fails e p s =
+    let u = fewer-rule-ours e lateClash (bytes-of lateClash refl) 1000 1 (sevens 2) s (ap told late-fewer) p in absurd (omega arith)
 
 -- whatever an engine counts for the limit: if it stops exactly when its count passes the limit, its count is the tries of the fixed walk
 pub counts-tries : (e : Engine) → Stops e → (book : List ℕ) (b : Book) (k : ℕ) (answer : List ℕ) → Call book b k answer

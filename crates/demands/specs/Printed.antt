@@ -1,4 +1,4 @@
--- The worked books and papers of document 01, byte for byte. Document 01, "Worked books".
+-- The worked books and papers of document 01, byte for byte. Document 01, "Worked books". And one book more, for the rule that 11 gives.
 use mathlib.Core.List.{List, [], _∷_}
 use Prim.Native.Nat.{ℕ}
 
@@ -82,3 +82,9 @@ abbrev pub sixCleared5 : List ℕ
 sixCleared5 =
     0x41 ∷ 0 ∷ 0x41 ∷ 1 ∷ 0x55 ∷ 1 ∷ 4 ∷ 0x53 ∷ 2 ∷ 0x42 ∷ 3 ∷ 0x55 ∷ 1 ∷ 5 ∷ 0x45 ∷ 0x41 ∷ 3 ∷ 0x55 ∷ 1 ∷ 5 ∷ 0x45
     ∷ 0 ∷ 1 ∷ 2 ∷ 5 ∷ 3 ∷ 0x15 ∷ 0 ∷ 0x50 ∷ 0x43 ∷ []
+
+-- ---- which rule clashed (document 02, request 5)
+
+-- "0 if 0; 0 if not 0": the last contradictory try finds rule 1 in both sets first, and at its end rule 0 too
+abbrev pub lateClash : List ℕ
+lateClash = 0 ∷ 1 ∷ 0 ∷ 0 ∷ 0 ∷ 0 ∷ 1 ∷ 0 ∷ 0 ∷ 0 ∷ 4 ∷ 0 ∷ 1 ∷ 2 ∷ 8 ∷ 0 ∷ 0x52 ∷ 0x42 ∷ []

@@ -15,6 +15,8 @@
 --   mixesKinds           checks every paper by naming's 45, and tells the kind of its mark
 --   inventsTries n       "One invents tries": always n, in finding. Of every engine it is shown (proofs/Useless) that demand 2 or 3 does
 --                        not hold of it if, at any call, it tells other tries than ours with a reading, with a paper or with 11
+--   inventsRule n        document 02's "rule for the last contradictory try" is invented: always n, in finding's 11. And of every engine
+--                        the same is shown of this rule as of the tries
 use mathlib.Core.Path.{_≡_}
 use mathlib.Core.List.{List, [], _∷_, _++_}
 use Prim.Native.Nat.{ℕ, zero, suc, _+_, _-_}
@@ -50,13 +52,13 @@ use Rattle.demands.specs.Engine.{Engine, ourWrite}
 -- the limit (9), too few readings (11), another number, another number with a place
 pub data Excuse : Type 0 where
   at-limit : Excuse
-  too-few : ℕ → ℕ → Excuse
+  too-few : ℕ → ℕ → ℕ → Excuse
   by-number : ℕ → Excuse
   by-place : ℕ → ℕ → Excuse
 
 unfoldable pub excused : {S : Type 0} → Excuse → ℕ → Told S
 excused at-limit limit = stopped limit
-excused (too-few t n) limit = fewer t n
+excused (too-few t n r) limit = fewer t n r
 excused (by-number i) limit = refused i
 excused (by-place i at) limit = refusedAt i at
 
@@ -97,8 +99,8 @@ alwaysAccepts = record { find = findOf; write = ourWrite; check = λ book s. for
 -- the pair d of the first closing, with all that has no colour off, is taken for the only reading
 unfoldable pub onceIn : Book → Colouring → ℕ → List ℕ → Answered ℕ
 onceIn b d k answer =
-    ifb (clashing b (pair d)) (record { told = fewer 1 0; buffer = answer })
-    (ifEq k 1 (record { told = set 1; buffer = writeAt 0 (rowOf b (readingOf b d)) answer }) (record { told = fewer 1 1; buffer = answer }))
+    ifb (clashing b (pair d)) (record { told = fewer 1 0 255; buffer = answer })
+    (ifEq k 1 (record { told = set 1; buffer = writeAt 0 (rowOf b (readingOf b d)) answer }) (record { told = fewer 1 1 255; buffer = answer }))
 
 unfoldable pub onceOf : BookRead → ℕ → ℕ → List ℕ → Answered ℕ
 onceOf (good n r index l) k limit answer =
@@ -151,7 +153,7 @@ doesNothing e = record {
 
 -- ---- invents tries
 
--- of the values of 11, all tries and the sets, the tries are invented; the value of 9 is the limit
+-- of the values of 11, all tries, the sets and the rule, the tries are invented; the value of 9 is the limit
 unfoldable pub invented : ℕ → List ℕ → List ℕ
 invented n [] = []
 invented n (limit ∷ []) = limit ∷ []
@@ -200,3 +202,21 @@ asNaming s = take (length s - 1) s ++ (0x46 ∷ [])
 
 abbrev pub mixesKinds : Engine
 mixesKinds = record { find = findOf; write = ourWrite; check = λ book s. toldAs (kindOf s) (checkOf book (asNaming s)) }
+
+-- ---- invents the rule of 11 (document 02, request 5)
+
+unfoldable pub withRule : ℕ → Told ℕ → Told ℕ
+withRule n (success t) = set t
+withRule n (refusedWith i []) = refusedWith i []
+withRule n (refusedWith i (limit ∷ [])) = refusedWith i (limit ∷ [])
+withRule n (refusedWith i (t ∷ (m ∷ l))) = fewer t m n
+withRule n (refusedAt i at) = refusedAt i at
+withRule n (refused i) = refused i
+
+abbrev pub inventsRule : ℕ → Engine
+inventsRule n = record {
+  find = λ book k limit answer.
+      record { told = withRule n (findOf book k limit answer .told); buffer = findOf book k limit answer .buffer };
+  write = ourWrite;
+  check = checkOf;
+}

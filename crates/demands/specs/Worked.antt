@@ -18,7 +18,7 @@ use Rattle.checker.specs.Numbers.{certain, clear}
 use Rattle.demands.specs.Engine.{Engine}
 use Rattle.demands.specs.Printed.{empty, fact, factPaper, hastyPaper, choice, contrary, circular, circularPaper, undone}
 use Rattle.demands.specs.Printed.{eitherWay, eitherWayPaper, six, factAsClearing, factUnmarked, circularCleared, circularAsNaming}
-use Rattle.demands.specs.Printed.{hastyCleared, sixCleared4, sixCleared5}
+use Rattle.demands.specs.Printed.{hastyCleared, sixCleared4, sixCleared5, lateClash}
 
 pub data Case : Type 0 where
   -- book, k, L, the buffer before; what is told, the buffer afterwards
@@ -49,7 +49,7 @@ abbrev pub cases : List Case
 cases =
     -- "k = 1 gives the empty set, 1 try; k = 2 gives 11 (1 try, 1 set)"
     finding empty 1 1000 (sevens 2) (set 1) (sevens 2)
-    ∷ finding empty 2 1000 (sevens 2) (fewer 1 1) (sevens 2)
+    ∷ finding empty 2 1000 (sevens 2) (fewer 1 1 255) (sevens 2)
     -- "Fact 0 ... Paper for 0 ... L = 0 gives 9"
     ∷ finding fact 1 1000 (sevens 2) (set 1) (1 ∷ sevens 1)
     ∷ naming fact 0 1000 (sevens 12) (paper 1 10) (factPaper ++ sevens 2)
@@ -61,28 +61,28 @@ cases =
     -- "sets {0}, {1}; naming 0 gives 12"
     ∷ finding choice 1 1000 (sevens 3) (set 2) (1 ∷ 0 ∷ sevens 1)
     ∷ finding choice 2 1000 (sevens 3) (set 3) (0 ∷ 1 ∷ sevens 1)
-    ∷ finding choice 3 1000 (sevens 3) (fewer 3 2) (sevens 3)
+    ∷ finding choice 3 1000 (sevens 3) (fewer 3 2 255) (sevens 3)
     ∷ naming choice 0 1000 (sevens 12) (refused 12) (sevens 12)
     -- "0 if not 0: 11 after 3 tries"
-    ∷ finding contrary 1 1000 (sevens 2) (fewer 3 0) (sevens 2)
-    ∷ naming contrary 0 1000 (sevens 12) (fewer 3 0) (sevens 12)
+    ∷ finding contrary 1 1000 (sevens 2) (fewer 3 0 0) (sevens 2)
+    ∷ naming contrary 0 1000 (sevens 12) (fewer 3 0 0) (sevens 12)
     -- "the empty set, 1 try. The paper 41 00 45 ...: 25 at 0"
     ∷ finding circular 1 1000 (sevens 3) (set 1) (0 ∷ 0 ∷ sevens 1)
-    ∷ finding circular 2 1000 (sevens 3) (fewer 1 1) (sevens 3)
+    ∷ finding circular 2 1000 (sevens 3) (fewer 1 1 255) (sevens 3)
     ∷ checking circular circularPaper (refusedAt 25 0)
     -- "0; 1 if 0 and not 1: 11 after 3 tries"
-    ∷ finding undone 1 1000 (sevens 3) (fewer 3 0) (sevens 3)
-    ∷ naming undone 0 1000 (sevens 12) (fewer 3 0) (sevens 12)
+    ∷ finding undone 1 1000 (sevens 3) (fewer 3 0 1) (sevens 3)
+    ∷ naming undone 0 1000 (sevens 12) (fewer 3 0 1) (sevens 12)
     -- "{0,2} at try 7, {1,2}, 15 tries in all. Paper for 2"
     ∷ finding eitherWay 1 1000 (sevens 4) (set 7) (1 ∷ 0 ∷ 1 ∷ sevens 1)
     ∷ finding eitherWay 2 1000 (sevens 4) (set 12) (0 ∷ 1 ∷ 1 ∷ sevens 1)
-    ∷ finding eitherWay 3 1000 (sevens 4) (fewer 15 2) (sevens 4)
+    ∷ finding eitherWay 3 1000 (sevens 4) (fewer 15 2 1) (sevens 4)
     ∷ naming eitherWay 2 1000 (sevens 25) (paper 7 24) (eitherWayPaper ++ sevens 1)
     ∷ checking eitherWay eitherWayPaper (certain (atomNo 2))
     -- "{0,1,2}, {0,1,3}, 3 tries"
     ∷ finding six 1 1000 (sevens 7) (set 2) (1 ∷ 1 ∷ 1 ∷ 0 ∷ 0 ∷ 0 ∷ sevens 1)
     ∷ finding six 2 1000 (sevens 7) (set 3) (1 ∷ 1 ∷ 0 ∷ 1 ∷ 0 ∷ 0 ∷ sevens 1)
-    ∷ finding six 3 1000 (sevens 7) (fewer 3 2) (sevens 7)
+    ∷ finding six 3 1000 (sevens 7) (fewer 3 2 255) (sevens 7)
     -- papers that clear: two rules that hold each other up; the same steps do not name; an atom that has a rule needs a step
     ∷ clearing circular 0 1000 (sevens 12) (paper 1 11) (circularCleared ++ sevens 1)
     ∷ checking circular circularCleared (clear (atomNo 0))
@@ -91,7 +91,7 @@ cases =
     -- 18: a reading holds the atom; 11: there is no reading
     ∷ clearing fact 0 1000 (sevens 12) (refused 18) (sevens 12)
     ∷ clearing choice 0 1000 (sevens 12) (refused 18) (sevens 12)
-    ∷ clearing contrary 0 1000 (sevens 12) (fewer 3 0) (sevens 12)
+    ∷ clearing contrary 0 1000 (sevens 12) (fewer 3 0 0) (sevens 12)
     -- an atom without a rule; an atom whose rules are off in both readings; 9, 14 and 13
     ∷ clearing six 4 1000 (sevens 11) (paper 1 10) (sixCleared4 ++ sevens 1)
     ∷ checking six sixCleared4 (clear (atomNo 4))
@@ -103,4 +103,6 @@ cases =
     -- the paper that names 0, under the other mark and under neither
     ∷ checking fact factAsClearing (refusedAt 25 2)
     ∷ checking fact factUnmarked (refusedAt 21 8)
+    -- document 02: "the lowest rule that is in both sets of the fully closed pair"
+    ∷ finding lateClash 1 1000 (sevens 2) (fewer 5 0 0) (sevens 2)
     ∷ []

@@ -1,8 +1,8 @@
 // `find K L ROOM BOOK`: the K-th reading, within L tries, in a buffer of ROOM bytes. Answers
-// `set TRIES a b c`, `fewer TRIES SETS`, `limit L` or `refused NUMBER [PLACE]`.
+// `set TRIES a b c`, `fewer TRIES SETS RULE`, `limit L` or `refused NUMBER [PLACE]`.
 ghost use Rattle.io.specs.Counts.{Counts};
 use crate::call::read_call;
-use crate::numbers::put_two;
+use crate::fewer::put_fewer;
 use book::Read;
 use book::read_book;
 use listing::put_set;
@@ -36,7 +36,7 @@ fn tell_found(book: &[u8], k: u32, limit: u32, answer: &mut [u8], out: &mut [u8]
             let held = put_number(tries as u64, out, held);
             put_answer(book, answer, out, held)
         }
-        Found::Fewer(tries, sets) => put_two(b"fewer ", tries as u64, sets as u64, out),
+        Found::Fewer(tries, sets, rule) => put_fewer(tries, sets, rule, out),
         Found::Stopped(tries) => {
             let held = put_text(b"limit ", out, 0);
             put_number(tries as u64, out, held)

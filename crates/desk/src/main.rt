@@ -5,6 +5,7 @@
 // for it. A line that is no command is answered `bad line`.
 
 mod call;
+mod fewer;
 mod find;
 mod input;
 mod line;

@@ -1,8 +1,9 @@
 // `name ATOM L ROOM BOOK` and `clear ATOM L ROOM BOOK`: the paper that names or clears the atom, each
 // of its two walks within L tries, in a buffer of ROOM bytes. Answers `paper TRIES LENGTH PAPER`,
-// `fewer TRIES 0`, `limit L` or `refused NUMBER [PLACE]`.
+// `fewer TRIES 0 RULE`, `limit L` or `refused NUMBER [PLACE]`.
 ghost use Rattle.io.specs.Counts.{Counts};
 use crate::call::read_call;
+use crate::fewer::put_fewer;
 use crate::numbers::put_two;
 use meaning::AtomNo;
 use meaning::Claim;
@@ -27,7 +28,7 @@ fn tell_named(book: &[u8], claim: Claim, limit: u32, paper: &mut [u8], out: &mut
             let held = put_text(b" ", out, held);
             put_bytes(first_bytes(paper, length), out, held)
         }
-        Named::Fewer(tries) => put_two(b"fewer ", tries as u64, 0, out),
+        Named::Fewer(tries, rule) => put_fewer(tries, 0, rule, out),
         Named::Stopped(tries) => {
             let held = put_text(b"limit ", out, 0);
             put_number(tries as u64, out, held)

@@ -84,6 +84,7 @@ pub fn tell_named(book: &[u8], claim: Claim, limit: u32, paper: &mut [u8]) {
     match answer {
         Named::Paper(tries, length) => tell_paper(book, claim, tries, first_bytes(paper, length)),
         Named::Book(why) => explain_book(why, book),
+        Named::Fewer(_, rule) => explain(refused_name(answer), kind, rule.0 as u64),
         Named::Stopped(tries) => explain(refused_name(answer), kind, tries as u64),
         _ => explain(refused_name(answer), kind, claim.atom.0 as u64),
     }

@@ -1,7 +1,7 @@
 -- Laws of the lowest rule of a kind (specs/Lowest): what is picked is in the set and no rule below it is, and none is picked only if the
 -- book has none. By one induction over the numbers that are tried.
 use mathlib.Core.Path.{_≡_, refl, _∙_, subst}
-use mathlib.Core.Logic.{⊎-elim}
+use mathlib.Core.Logic.{⊎-elim, _↔_}
 use mathlib.Core.Bool.{Bool, true, false}
 use Prim.Native.Nat.{ℕ, zero, suc, _+_, _≤_, _<_}
 use native.Mathlib.Nat.{eq-or-lt-of-le, le-antisymm}
@@ -9,10 +9,10 @@ use native.Mathlib.Omega.{arith}
 use Rattle.meaning.specs.declared.RuleNo.{RuleNo}
 use Rattle.meaning.specs.Sets.{_∈_, _∉_}
 use Rattle.meaning.specs.Books.{Rules, ruleNo, Book, count, InBook}
-use Rattle.meaning.specs.Colours.{Pair, uncoloured, Total}
-use Rattle.meaning.specs.Lowest.{Pick, none, one, oneOr, lowestFrom, lowest}
-use Rattle.meaning.proofs.Tests.{clash, lt-or-le}
-use Rattle.meaning.proofs.Rules.{uncoloured-no}
+use Rattle.meaning.specs.Colours.{Pair, clashing, uncoloured, Total}
+use Rattle.meaning.specs.Lowest.{Pick, none, one, oneOr, lowestFrom, lowest, inBoth, clashed}
+use Rattle.meaning.proofs.Tests.{both, left, right, clash, refuted, lt-or-le}
+use Rattle.meaning.proofs.Rules.{clashing-by, clashing-one, uncoloured-no}
 
 -- what is said of a set by the pick among i, i + 1, .. , n of them
 abbrev Picked : Rules → ℕ → ℕ → Pick → Type 0
@@ -82,3 +82,20 @@ module _ (b : Book) (s : Rules) where
 -- no lowest rule without a colour: every rule has one
 pub lowest-total : (b : Book) (c : Pair) → lowest b (uncoloured c) ≡ none → Total b c
 lowest-total b c e r h = uncoloured-no b c r (lowest-none b _ e r h)
+
+-- the rule told of a contradiction is in both sets and no lower one is; there is one exactly if the pair has a contradiction
+module _ (b : Book) (c : Pair) where
+  pub clashed-one : (r : RuleNo) → clashed b c ≡ one r
+      → InBook b r × (r ∈ c .on) × (r ∈ c .off) × ((q : RuleNo) → q .0 < r .0 → q ∉ inBoth c)
+  unfolding clashed
+  clashed-one r e = let (h, m, f) = lowest-one b (inBoth c) r e in (h, left (c .on r) _ m, right (c .on r) _ m, f)
+
+  pub clashed-clashing : (r : RuleNo) → clashed b c ≡ one r → clashing b c ≡ true
+  clashed-clashing r e = let (h, m, n, f) = clashed-one r e in clashing-one b c r h m n
+
+  pub clashed-none : (clashed b c ≡ none) ↔ (clashing b c ≡ false)
+  unfolding clashed
+  clashed-none = (
+    λ e. refuted (λ t. let (r, h, m, n) = clashing-by b c t in clash (both m n) (lowest-none b (inBoth c) e r h)),
+    λ e. none-lowest b (inBoth c) (λ r h. refuted (λ m. clash (clashing-one b c r h (left (c .on r) _ m) (right (c .on r) _ m)) e)),
+  )

@@ -2,16 +2,17 @@
 -- these terms determines the answer. Document 01, "What the promises say".
 --
 --   again            an answer found again: by a success's values, a refusal's values, its number and place, or its number
---   valuesAgain      by the values of a refusal: 9 has one, 11 has two, no other number has any
+--   valuesAgain      by the values of a refusal: 9 has one, 11 has three, no other number has any
 use mathlib.Core.Path.{_≡_, sym, _∙_, ap}
 use mathlib.Core.List.{List, [], _∷_}
 use Prim.Native.Nat.{ℕ}
 use Rattle.meaning.specs.Told.{Told, success, refusedWith, refusedAt, refused, Answered}
 
-abbrev pub valuesAgain : {A : Type 0} → A → (ℕ → A) → (ℕ → ℕ → A) → List ℕ → A
+abbrev pub valuesAgain : {A : Type 0} → A → (ℕ → A) → (ℕ → ℕ → ℕ → A) → List ℕ → A
 valuesAgain other stopped fewer [] = other
 valuesAgain other stopped fewer (limit ∷ []) = stopped limit
-valuesAgain other stopped fewer (tries ∷ (sets ∷ l)) = fewer tries sets
+valuesAgain other stopped fewer (tries ∷ (sets ∷ [])) = other
+valuesAgain other stopped fewer (tries ∷ (sets ∷ (rule ∷ l))) = fewer tries sets rule
 
 abbrev pub again : {S A : Type 0} → (S → A) → (List ℕ → A) → (ℕ → ℕ → A) → (ℕ → A) → Told S → A
 again by-success by-values by-place by-number (success s) = by-success s

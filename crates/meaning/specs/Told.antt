@@ -12,9 +12,10 @@ pub data Told (S : Type 0) : Type 0 where
   refusedAt : ℕ → ℕ → Told S
   refused : ℕ → Told S
 
--- "Refusal 11 tells all tries and how many answer sets there are."
-abbrev pub fewer : {S : Type 0} → ℕ → ℕ → Told S
-fewer tries sets = refusedWith 11 (tries ∷ (sets ∷ []))
+-- "Refusal 11 tells all tries and how many answer sets there are"; document 02: "refusal 11 also gives the rule for the last contradictory
+-- try, or 255 if the walk had none"
+abbrev pub fewer : {S : Type 0} → ℕ → ℕ → ℕ → Told S
+fewer tries sets rule = refusedWith 11 (tries ∷ (sets ∷ (rule ∷ [])))
 
 -- "Refusal 9 tells L."
 abbrev pub stopped : {S : Type 0} → ℕ → Told S

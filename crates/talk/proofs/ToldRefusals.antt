@@ -33,7 +33,7 @@ paper-refusal-told (Witness at) = refl
 
 pub name-refusal-told : (n : Named) → ofName n ≡ tells (Naming.told n)
 name-refusal-told (Paper tries size) = refl
-name-refusal-told (Fewer tries) = refl
+name-refusal-told (Fewer tries rule) = refl
 name-refusal-told (Stopped limit) = refl
 name-refusal-told (BadBook f) = refl
 name-refusal-told NotCertain = refl

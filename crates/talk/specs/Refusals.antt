@@ -23,7 +23,7 @@ ofPaper (Witness at) = At 27 at
 
 abbrev pub ofName : Named → Refused
 ofName (Paper tries size) = Plain 0
-ofName (Fewer tries) = Plain 11
+ofName (Fewer tries rule) = Plain 11
 ofName (Stopped limit) = Plain 9
 ofName (BadBook f) = At (numberOf f) (placeOf f)
 ofName NotCertain = Plain 12

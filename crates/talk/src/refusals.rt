@@ -45,7 +45,7 @@ pub fn refused_name(answer: Named) -> Refused
 {
     match answer {
         Named::Paper(_, _) => Refused::Plain(0),
-        Named::Fewer(_) => Refused::Plain(11),
+        Named::Fewer(_, _) => Refused::Plain(11),
         Named::Stopped(_) => Refused::Plain(9),
         Named::Book(why) => refused_book(why),
         Named::NotCertain => Refused::Plain(12),

@@ -21,21 +21,21 @@ fn put_about(text: &[u8], n: u64, more: &[u8], line: &mut [u8], held: usize) -> 
     put_text(more, line, held)
 }
 
-// That there is no reading, in a call for a paper of this kind.
-fn put_no_reading(kind: Kind, line: &mut [u8], held: usize) -> usize
+// That there is no reading, in a call for a paper of this kind, and the rule that clashed last.
+fn put_no_reading(kind: Kind, rule: u64, line: &mut [u8], held: usize) -> usize
     requires { ⌜ Counts held (now line) ⌝ }
     ensures { λ r. ⌜ Counts r (now (line .exit)) ⌝ }
 {
-    let nothing = b"the book has no reading: nothing is certain";
-    let nobody = b"the book has no reading: nobody is cleared";
+    let nothing = b"the book has no reading: nothing is certain; rule ";
+    let nobody = b"the book has no reading: nobody is cleared; rule ";
     match kind {
-        Kind::Naming => put_text(nothing, line, held),
-        Kind::Clearing => put_text(nobody, line, held),
+        Kind::Naming => put_about(nothing, rule, b" clashed last", line, held),
+        Kind::Clearing => put_about(nobody, rule, b" clashed last", line, held),
     }
 }
 
-// What is wrong with a paper, or with the call for one of this kind: 9 to 27. `about` is the atom or
-// the number of tries that the sentence speaks of.
+// What is wrong with a paper, or with the call for one of this kind: 9 to 27. `about` is the atom,
+// the rule or the number of tries that the sentence speaks of.
 fn put_paper_sentence(number: u8, kind: Kind, about: u64, line: &mut [u8], held: usize) -> usize
     requires { ⌜ Counts held (now line) ⌝ }
     ensures { λ r. ⌜ Counts r (now (line .exit)) ⌝ }
@@ -47,7 +47,7 @@ fn put_paper_sentence(number: u8, kind: Kind, about: u64, line: &mut [u8], held:
     let gap = b"bytes stand between the last step and the witness";
     match number {
         9 => put_about(b"stopped after ", about, nothing, line, held),
-        11 => put_no_reading(kind, line, held),
+        11 => put_no_reading(kind, about, line, held),
         12 => put_about(
             b"a reading lacks atom ",
             about,
@@ -144,8 +144,8 @@ fn put_explained(refused: Refused, kind: Kind, about: u64, line: &mut [u8], held
     }
 }
 
-// Writes the line of a refusal of a call for a paper of this kind. `about` is the atom or the number
-// of tries that the sentence speaks of.
+// Writes the line of a refusal of a call for a paper of this kind. `about` is the atom, the rule or
+// the number of tries that the sentence speaks of.
 pub fn explain(refused: Refused, kind: Kind, about: u64) {
     let mut line = [0u8; 256];
     let held = put_explained(refused, kind, about, &mut line, 0);

@@ -23,7 +23,7 @@ use Rattle.book.proofs.Places.{shape-atoms}
 use Rattle.walk.specs.Events.{events, rest}
 use Rattle.walk.specs.Run.{Wanted, State, run}
 use Rattle.walk.specs.Room.{Room}
-use Rattle.walk.specs.Find.{toldBy, startOf, answeredBy, findIn, findOf}
+use Rattle.walk.specs.Find.{toldBy, startAt, startOf, answeredBy, findIn, findOf}
 use Rattle.walk.specs.Page.{PageEnd, endedBy, setIn, eventsFrom, roomIn, pagedBy, pageIn, pageRead, pageOf}
 use Rattle.walk.specs.declared.tally.Halt.{Halt}
 use Rattle.walk.specs.declared.tally.Halt.the-variants.{Going, Full, Limit}
@@ -64,7 +64,7 @@ module _ (s : List ℕ) {x : Read} (e : bookTold x ≡ toldOf (readOf s)) where
 -- ---- the start of a walk
 
 pub room-start : (b : Book) (pass room tries : ℕ) (out : List ℕ) → 1 ≤ room → room * b .atoms ≤ length out
-    → Room b pass room (record { tally = record { tries = tries; sets = 0; halt = Going }; out = out })
+    → Room b pass room (startAt tries out)
 room-start b pass room tries out h k = record { some = h; counts = omega arith; wanting = λ g. omega arith; fits = k }
 
 pub walk-from : (b : Book) (w : Wanted) (s : State) {c d : Colouring} {u : State} → c ≡ d → u ≡ run b w s (events b c)
@@ -122,7 +122,7 @@ first-events b n x e = rw e
 
 module _ (s : List ℕ) (h : Shape) (e : ReadAs s h) (tries : ℕ) (out : List ℕ) where
   abbrev start : State
-  start = record { tally = record { tries = tries; sets = 0; halt = Going }; out = out }
+  start = startAt tries out
 
   pub page-no-room : (limit : ℕ) (row : List ℕ) → length out < h .atoms
       → record { told = refused 8; buffer = out } ≡ pageIn (bookIn s) limit tries row out

@@ -16,7 +16,7 @@ use Rattle.book.specs.Rows.{Bytes}
 use Rattle.book.proofs.Shape.{good-fits}
 use Rattle.walk.specs.Events.{events}
 use Rattle.walk.specs.Readings.{readings}
-use Rattle.walk.specs.Tries.{Kth, Needs, to-reading, to-end}
+use Rattle.walk.specs.Tries.{Kth, Needs, to-reading, to-end, lastClash}
 use Rattle.walk.specs.Run.{rowOf}
 use Rattle.walk.specs.Find.{set, findIn, findRead, findOf}
 use Rattle.walk.proofs.Run.{apart}
@@ -41,14 +41,15 @@ module _ {b : Book} {k limit : ℕ} {answer : List ℕ} where
   stopped-says (no-number h) e = apart (cc)
   stopped-says (no-room h l) e = apart (cc)
 
-  fewer-says : {A : Answered ℕ} → Outcome b k limit answer A → (t n : ℕ) → A .told ≡ fewer t n
-      → (length (readings b) < k) × (t ≡ length (events b nothing)) × (n ≡ length (readings b)) × (t ≤ limit)
-  fewer-says (found c h) t n e = apart (cc)
-  fewer-says (too-few h l) t n e =
-      let u : length (events b nothing) ≡ t = cc in let v : length (readings b) ≡ n = cc in (h, sym u, sym v, omega arith)
-  fewer-says (too-long m h) t n e = apart (cc)
-  fewer-says (no-number h) t n e = apart (cc)
-  fewer-says (no-room h l) t n e = apart (cc)
+  fewer-says : {A : Answered ℕ} → Outcome b k limit answer A → (t n r : ℕ) → A .told ≡ fewer t n r
+      → (length (readings b) < k) × (t ≡ length (events b nothing)) × (n ≡ length (readings b)) × (r ≡ lastClash b) × (t ≤ limit)
+  fewer-says (found c h) t n r e = apart (cc)
+  fewer-says (too-few h l) t n r e =
+      let u : length (events b nothing) ≡ t = cc in let v : length (readings b) ≡ n = cc in let w : lastClash b ≡ r = cc in
+      (h, sym u, sym v, sym w, omega arith)
+  fewer-says (too-long m h) t n r e = apart (cc)
+  fewer-says (no-number h) t n r e = apart (cc)
+  fewer-says (no-room h l) t n r e = apart (cc)
 
   -- ---- and what the walk says of the answer
 
@@ -68,7 +69,7 @@ module _ {b : Book} {k limit : ℕ} {answer : List ℕ} where
     stopped-if (no-room h g) m l = absurd (omega arith)
 
     fewer-if : {A : Answered ℕ} → Outcome b k limit answer A → length (readings b) < k → length (events b nothing) ≤ limit
-        → A .told ≡ fewer (length (events b nothing)) (length (readings b))
+        → A .told ≡ fewer (length (events b nothing)) (length (readings b)) (lastClash b)
     fewer-if (found c h) m l = absurd (omega (arith, kth-count b c))
     fewer-if (too-few h g) m l = refl
     fewer-if (too-long n h) m l = absurd (omega (arith, needs-one b n (to-end m)))
@@ -90,10 +91,13 @@ module _ (b : Book) (k limit : ℕ) (answer : List ℕ) where
     pub find-stopped : (findIn b k limit answer .told ≡ stopped limit) ↔ ((n : ℕ) × Needs b k n × (limit < n))
     find-stopped = (stopped-says outcome, λ (n, m, h). stopped-if some room outcome m h)
 
-    -- number 11, exactly if the whole walk is within the limit and has fewer than k: all tries and all sets
-    pub find-fewer : (t n : ℕ) → (findIn b k limit answer .told ≡ fewer t n)
-        ↔ ((length (readings b) < k) × (t ≡ length (events b nothing)) × (n ≡ length (readings b)) × (t ≤ limit))
-    find-fewer t n = (fewer-says outcome t n, λ (h, p, q, l). fewer-if some room outcome h (omega arith) ∙ (λ i. fewer (sym p i) (sym q i)))
+    -- number 11, exactly if the whole walk is within the limit and has fewer than k: all tries, all sets, the rule that clashed last
+    pub find-fewer : (t n r : ℕ) → (findIn b k limit answer .told ≡ fewer t n r) ↔ ((length (readings b) < k)
+        × (t ≡ length (events b nothing)) × (n ≡ length (readings b)) × (r ≡ lastClash b) × (t ≤ limit))
+    find-fewer t n r = (
+      fewer-says outcome t n r,
+      λ (h, p, q, c, l). fewer-if some room outcome h (omega arith) ∙ (λ i. fewer (sym p i) (sym q i) (sym c i)),
+    )
 
   -- the set that is given stands in the buffer, and the later bytes are kept
   pub find-row : (t : ℕ) (x : Atoms) → findIn b k limit answer .told ≡ set t → Kth b k t x

@@ -2,7 +2,7 @@
 -- number of levels that specs/Events allows never ends a walk, and the events are those after the first closing. The same for what comes
 -- after a reading. A walk's events are built up as Walk says: proofs about them go by induction over it.
 use mathlib.Core.Path.{_≡_, refl}
-use mathlib.Core.Bool.{Bool, true, false}
+use mathlib.Core.Bool.{true, false}
 use mathlib.Core.List.{List, [], _∷_, _++_}
 use Prim.Native.Nat.{ℕ, zero, suc, _≤_, _<_}
 use native.Mathlib.Omega.{arith}
@@ -10,10 +10,10 @@ use Rattle.meaning.specs.declared.RuleNo.{RuleNo}
 use Rattle.meaning.specs.declared.colouring.Colouring.{Colouring}
 use Rattle.meaning.specs.Books.{Atoms, Book, InBook, count}
 use Rattle.meaning.specs.AnswerSet.{generating}
-use Rattle.meaning.specs.Colours.{Side, onSide, offSide, clashing, uncoloured}
+use Rattle.meaning.specs.Colours.{Side, onSide, offSide, uncoloured}
 use Rattle.meaning.specs.Written.{colourOn, colourOff, pair}
 use Rattle.meaning.specs.Computed.{close}
-use Rattle.meaning.specs.Lowest.{Pick, none, one, lowest}
+use Rattle.meaning.specs.Lowest.{Pick, none, one, lowest, clashed}
 use Rattle.meaning.proofs.Written.{Sized}
 use Rattle.meaning.proofs.Closing.{close-sized}
 use Rattle.meaning.proofs.Lowest.{lowest-one}
@@ -22,19 +22,19 @@ use Rattle.walk.specs.Events.{Event, clash, fork, reading, after, afterC
 use Rattle.closing.proofs.Left.{sized-chosen, left-count, left-chosen, left-close}
 
 -- what comes after a closing needs the walk below only where it goes on
-after-same : (d : Colouring) (t : Bool) (p : Pick) (f g : Colouring → List Event)
+after-same : (d : Colouring) (t p : Pick) (f g : Colouring → List Event)
     → ((x : Side) (r : RuleNo) → p ≡ one r → f (chosen x r d) ≡ g (chosen x r d)) → after d t p f ≡ after d t p g
 unfolding after
-after-same d true p f g h = refl
-after-same d false none f g h = refl
-after-same d false (one r) f g h = let k = h onSide r refl in let l = h offSide r refl in rw (k, l)
+after-same d (one q) p f g h = refl
+after-same d none none f g h = refl
+after-same d none (one r) f g h = let k = h onSide r refl in let l = h offSide r refl in rw (k, l)
 
-past-same : (b : Book) (d : Colouring) (x : Atoms) (t : Bool) (p : Pick) (f g : Colouring → List Event)
+past-same : (b : Book) (d : Colouring) (x : Atoms) (t p : Pick) (f g : Colouring → List Event)
     → ((y : Side) (r : RuleNo) → p ≡ one r → f (chosen y r d) ≡ g (chosen y r d)) → afterPast b d x t p f ≡ afterPast b d x t p g
 unfolding afterPast
-past-same b d x true p f g h = refl
-past-same b d x false none f g h = refl
-past-same b d x false (one r) f g h = let k = h onSide r refl in let l = h offSide r refl in rw (k, l)
+past-same b d x (one q) p f g h = refl
+past-same b d x none none f g h = refl
+past-same b d x none (one r) f g h = let k = h onSide r refl in let l = h offSide r refl in rw (k, l)
 
 module _ (b : Book) (fits : count b ≤ 255) where
   -- one level down
@@ -81,7 +81,7 @@ module _ (b : Book) (fits : count b ≤ 255) where
         events-enough (count b) _ (below-sized c s x r e) (omega (arith, below-left c s x r e, left-count b c)))
 
     pub rest-unfold : (x : Atoms) → rest b c x
-        ≡ afterPast b (close b c) x (clashing b (pair (close b c))) (lowest b (uncoloured (pair (close b c)))) (λ d. rest b d x)
+        ≡ afterPast b (close b c) x (clashed b (pair (close b c))) (lowest b (uncoloured (pair (close b c)))) (λ d. rest b d x)
     unfolding rest restIn
     rest-unfold x = past-same _ _ _ _ _ _ _ (λ y r e.
         rest-enough (count b) _ x (below-sized c s y r e) (omega (arith, below-left c s y r e, left-count b c)))
@@ -97,7 +97,7 @@ pub record Closes (b : Book) (c d : Colouring) : Type 0 where
 -- such a closing has no contradiction and leaves r to choose
 pub record Forks (b : Book) (c d : Colouring) (r : RuleNo) : Type 0 where
   pub closes : Closes b c d
-  pub calm : clashing b (pair d) ≡ false
+  pub calm : clashed b (pair d) ≡ none
   pub choice : lowest b (uncoloured (pair d)) ≡ one r
 
 module _ {b : Book} {c d : Colouring} where
@@ -105,18 +105,18 @@ module _ {b : Book} {c d : Colouring} where
     events-of : events b c ≡ afterClosing b d (events b)
     events-of = rw (k .closed) (events-unfold b (k .few) c (k .sized))
 
-    rest-of : (x : Atoms) → rest b c x ≡ afterPast b d x (clashing b (pair d)) (lowest b (uncoloured (pair d))) (λ e. rest b e x)
+    rest-of : (x : Atoms) → rest b c x ≡ afterPast b d x (clashed b (pair d)) (lowest b (uncoloured (pair d))) (λ e. rest b e x)
     rest-of x = rw (k .closed) (rest-unfold b (k .few) c (k .sized) x)
 
-    pub events-clash : clashing b (pair d) ≡ true → events b c ≡ clash ∷ []
+    pub events-clash : {r : RuleNo} → clashed b (pair d) ≡ one r → events b c ≡ clash r ∷ []
     unfolding after
     events-clash t = rw t at events-of
 
-    pub rest-clash : (x : Atoms) → clashing b (pair d) ≡ true → rest b c x ≡ []
+    pub rest-clash : (x : Atoms) {r : RuleNo} → clashed b (pair d) ≡ one r → rest b c x ≡ []
     unfolding afterPast
     rest-clash x t = rw t at (rest-of x)
 
-    module _ (t : clashing b (pair d) ≡ false) (p : lowest b (uncoloured (pair d)) ≡ none) where
+    module _ (t : clashed b (pair d) ≡ none) (p : lowest b (uncoloured (pair d)) ≡ none) where
       pub events-reading : events b c ≡ reading d ∷ []
       unfolding after
       events-reading = rw (t, p) at events-of
@@ -168,8 +168,8 @@ module _ {b : Book} {c d : Colouring} where
 -- ---- how a walk's events are built up
 
 pub data Walk (b : Book) : Colouring → List Event → Type 0 where
-  at-clash : {c d : Colouring} → Closes b c d → clashing b (pair d) ≡ true → Walk b c (clash ∷ [])
-  at-reading : {c d : Colouring} → Closes b c d → clashing b (pair d) ≡ false → lowest b (uncoloured (pair d)) ≡ none
+  at-clash : {c d : Colouring} {r : RuleNo} → Closes b c d → clashed b (pair d) ≡ one r → Walk b c (clash r ∷ [])
+  at-reading : {c d : Colouring} → Closes b c d → clashed b (pair d) ≡ none → lowest b (uncoloured (pair d)) ≡ none
       → Walk b c (reading d ∷ [])
   at-fork : {c d : Colouring} {r : RuleNo} → Forks b c d r
       → Walk b (colourOn r d) (events b (colourOn r d)) → Walk b (colourOff r d) (events b (colourOff r d))
@@ -181,7 +181,7 @@ module _ (b : Book) (fits : count b ≤ 255) where
     where
       down : (n : ℕ) (c : Colouring) → Sized c → left b c < n → Walk b c (events b c)
       down zero c s h = absurd (omega arith)
-      down (suc n) c s h = ways (clashing b (pair d)) refl (lowest b (uncoloured (pair d))) refl
+      down (suc n) c s h = ways (clashed b (pair d)) refl (lowest b (uncoloured (pair d))) refl
           (λ x r e. down n _ (below-sized b fits c s x r e) (omega (arith, below-left b fits c s x r e)))
         where
           d : Colouring
@@ -190,12 +190,12 @@ module _ (b : Book) (fits : count b ≤ 255) where
           here : Closes b c d
           here = record { few = fits; sized = s; closed = refl }
 
-          ways : (t : Bool) → clashing b (pair d) ≡ t → (p : Pick) → lowest b (uncoloured (pair d)) ≡ p
+          ways : (t : Pick) → clashed b (pair d) ≡ t → (p : Pick) → lowest b (uncoloured (pair d)) ≡ p
               → ((x : Side) (r : RuleNo) → lowest b (uncoloured (pair d)) ≡ one r → Walk b (chosen x r d) (events b (chosen x r d)))
               → Walk b c (events b c)
-          ways true t p q g = rw (events-clash here t) (at-clash here t)
-          ways false t none q g = rw (events-reading here t q) (at-reading here t q)
-          ways false t (one r) q g = rw (events-fork forks) (at-fork forks (g onSide r q) (g offSide r q))
+          ways (one r) t p q g = rw (events-clash here t) (at-clash here t)
+          ways none t none q g = rw (events-reading here t q) (at-reading here t q)
+          ways none t (one r) q g = rw (events-fork forks) (at-fork forks (g onSide r q) (g offSide r q))
             where
               forks : Forks b c d r
               forks = record { closes = here; calm = t; choice = q }

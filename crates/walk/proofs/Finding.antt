@@ -15,11 +15,11 @@ use Rattle.meaning.proofs.Tests.{lt-or-le}
 use Rattle.meaning.proofs.Choice.{lt-no, lt-either, eq-either}
 use Rattle.walk.specs.Events.{Event, reading, events}
 use Rattle.walk.specs.Readings.{readingOf, readings}
-use Rattle.walk.specs.Tries.{Kth, Needs, to-reading, to-end}
+use Rattle.walk.specs.Tries.{Kth, Needs, to-reading, to-end, clashIn, lastClash}
 use Rattle.walk.specs.Run.{rowOf, Wanted, State}
 use Rattle.walk.specs.Find.{set, startOf, toldBy, answeredBy, findIn}
 use Rattle.walk.proofs.Rows.{row-length, write-front}
-use Rattle.walk.proofs.Way.{step, gone, gone-tries, gone-sets, gone-passes, Way, to-full, to-limit, way}
+use Rattle.walk.proofs.Way.{step, gone, gone-tries, gone-sets, gone-clash, gone-passes, Way, to-full, to-limit, way}
 use Rattle.walk.proofs.Way.{to-end as all-met}
 use Rattle.walk.proofs.Needs.{amount, parted-more, kth-or-fewer}
 
@@ -29,7 +29,7 @@ module _ (b : Book) (k limit : ℕ) (answer : List ℕ) where
     found : {t : ℕ} {x : Atoms} → Kth b k t x → t ≤ limit
         → Outcome (record { told = set t; buffer = rowOf b x ++ drop (b .atoms) answer })
     too-few : length (readings b) < k → length (events b nothing) ≤ limit
-        → Outcome (record { told = fewer (length (events b nothing)) (length (readings b)); buffer = answer })
+        → Outcome (record { told = fewer (length (events b nothing)) (length (readings b)) (lastClash b); buffer = answer })
     too-long : {n : ℕ} → Needs b k n → limit < n → Outcome (record { told = stopped limit; buffer = answer })
     no-number : k ≡ 0 → Outcome (record { told = refused 15; buffer = answer })
     no-room : 1 ≤ k → length answer < b .atoms → Outcome (record { told = refused 8; buffer = answer })
@@ -57,13 +57,15 @@ module _ (b : Book) (k limit : ℕ) (answer : List ℕ) where
         lt-no _ _ _ _ (omega arith) ∙ rw (z, zero-mul, o, write-front, row-length)
 
     outcome-of : (es : List Event) (t : State) → events b nothing ≡ es → Way b wanted (startOf answer) es t → Outcome (answeredBy t limit)
-    unfolding toldBy step readings
+    unfolding toldBy step readings lastClash
     outcome-of es t q (all-met h o) =
         let s = startOf answer in let u = gone-tries b wanted s es in let v = gone-sets b wanted s es in
         let a : gone b wanted s es .tally .tries ≡ length (events b nothing) = u ∙ zero-add _ ∙ ap length (sym q) in
         let c : gone b wanted s es .tally .sets ≡ amount b (events b nothing) = v ∙ zero-add _ ∙ ap (amount b) (sym q) in
+        let q : gone b wanted s es .tally .clash .0 ≡ clashIn 255 (events b nothing) =
+        gone-clash b wanted s es ∙ ap (clashIn 255) (sym q) in
         let f = gone-passes b wanted s es (omega arith) in
-        subst Outcome (λ i. record { told = fewer (sym a i) (sym c i); buffer = sym f i }) (too-few (omega arith) (omega arith))
+        subst Outcome (λ i. record { told = fewer (sym a i) (sym c i) (sym q i); buffer = sym f i }) (too-few (omega arith) (omega arith))
     outcome-of es t q (to-full more d later h e) =
         let s = startOf answer in let u = gone-tries b wanted s more in let v = gone-sets b wanted s more in
         let n = gone b wanted s more .tally .tries + 1 in

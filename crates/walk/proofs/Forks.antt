@@ -2,7 +2,7 @@
 -- left it is the only one; at a fork each is on the side of the rule that it has, and all have the same rules below that one.
 use mathlib.Core.Path.{_≡_, sym, _∙_, subst}
 use mathlib.Core.Logic.{⊎-elim}
-use mathlib.Core.Bool.{true, false, false≢true}
+use mathlib.Core.Bool.{false≢true}
 use Prim.Native.Nat.{_<_}
 use native.Mathlib.Omega.{arith}
 use borrow.Author.Tests.{not-true}
@@ -12,14 +12,14 @@ use Rattle.meaning.specs.Sets.{_∈_, _∉_}
 use Rattle.meaning.specs.Books.{Atoms, Book, InBook}
 use Rattle.meaning.specs.AnswerSet.{AnswerSet, generating}
 use Rattle.meaning.specs.Colours.{Pair, Side, onSide, offSide, side, Under, Within, Closing}
-use Rattle.meaning.specs.Colours.{clashing, uncoloured, Total, colouringOf}
+use Rattle.meaning.specs.Colours.{uncoloured, Total, colouringOf}
 use Rattle.meaning.specs.Written.{of, nothing, pair}
-use Rattle.meaning.specs.Lowest.{none, lowest}
+use Rattle.meaning.specs.Lowest.{none, one, lowest, clashed}
 use Rattle.meaning.proofs.Tests.{clash, same}
 use Rattle.meaning.proofs.Rules.{within-on, within-off, within-both, within-trans, clashing-no, uncoloured-no, heads-mono}
 use Rattle.meaning.proofs.Written.{Sized, pair-nothing}
 use Rattle.meaning.proofs.Closing.{close-is, close-sized}
-use Rattle.meaning.proofs.Lowest.{lowest-one, lowest-total}
+use Rattle.meaning.proofs.Lowest.{lowest-one, lowest-total, clashed-clashing, clashed-none}
 use Rattle.meaning.proofs.Answers.{total-answer, total-stands, answer-heads, closing-keeps-answers, clash-no-answer}
 use Rattle.closing.specs.Left.{chosen}
 use Rattle.walk.specs.Readings.{readingOf, Agree, Before}
@@ -55,18 +55,18 @@ module _ {b : Book} {c d : Colouring} where
     stands-before : (x : Atoms) → Stands b d x → Stands b c x
     stands-before x s = record { answer = s .answer; holds = within-trans b (closing .good .above) (s .holds) }
 
-    pub stands-clash : clashing b (pair d) ≡ true → (x : Atoms) → Stands b c x → ⊥
-    stands-clash t x s = clash-no-answer b closing t x (s .answer) (s .holds)
+    pub stands-clash : {r : RuleNo} → clashed b (pair d) ≡ one r → (x : Atoms) → Stands b c x → ⊥
+    stands-clash t x s = clash-no-answer b closing (clashed-clashing b (pair d) _ t) x (s .answer) (s .holds)
 
     -- ---- without a rule left, the colouring stands for the only one
 
-    module _ (t : clashing b (pair d) ≡ false) (p : lowest b (uncoloured (pair d)) ≡ none) where
+    module _ (t : clashed b (pair d) ≡ none) (p : lowest b (uncoloured (pair d)) ≡ none) where
       total : Total b (pair d)
       total = lowest-total b (pair d) p
 
       pub stands-reading : Stands b c (readingOf b d)
       stands-reading =
-          let closed = closing .good .closed in let consistent = clashing-no b (pair d) t in
+          let closed = closing .good .closed in let consistent = clashing-no b (pair d) (clashed-none b (pair d) .0 t) in
           let alike = total-stands b (pair d) closed total consistent in
           stands-before (readingOf b d) (record {
             answer = total-answer b (pair d) closed total consistent;

@@ -25,7 +25,7 @@ module _ (b : Book) (k limit : ℕ) (answer : List ℕ) where
 
   try-kept : (s : State) (e : Event) → s .tally .sets ≤ k - 1 → s .out ≡ answer → Kept (tried b one s e)
   unfolding Kept tried readingMet
-  try-kept s clash h o = inr (h, o)
+  try-kept s (clash r) h o = inr (h, o)
   try-kept s (fork r) h o = inr (h, o)
   try-kept s (reading d) h o = lt-either Kept _ _ _ _ (λ l. inr (omega arith, o)) (λ l. inl (eq-yes _ _ _ _ (omega arith)))
 

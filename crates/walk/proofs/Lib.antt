@@ -6,6 +6,7 @@ pub mod Order
 pub mod Forks
 pub mod Readings
 pub mod Tries
+pub mod Clashes
 pub mod Way
 pub mod Needs
 pub mod Finding

@@ -53,7 +53,7 @@ module _ (b : Book) where
   met-or-fewer : (es : List Event) (k : ℕ) → 1 ≤ k → Met es k ⊎ (amount es < k)
   unfolding readingsIn
   met-or-fewer [] k h = inr h
-  met-or-fewer (clash ∷ es) k h = ⊎-map (λ m. met-later clash m k (m .number)) (λ g. g) (met-or-fewer es k h)
+  met-or-fewer (clash r ∷ es) k h = ⊎-map (λ m. met-later (clash r) m k (m .number)) (λ g. g) (met-or-fewer es k h)
   met-or-fewer (fork r ∷ es) k h = ⊎-map (λ m. met-later (fork r) m k (m .number)) (λ g. g) (met-or-fewer es k h)
   met-or-fewer (reading d ∷ es) zero h = absurd (omega arith)
   met-or-fewer (reading d ∷ es) (suc zero) h = inl (record { earlier = []; found = d; later = es; walk = refl; number = refl })

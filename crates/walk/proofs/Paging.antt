@@ -16,7 +16,7 @@ use Rattle.book.specs.Format.{BookRead, good, bad, readOf}
 use Rattle.walk.specs.Events.{Event, reading}
 use Rattle.walk.specs.Readings.{readingsIn}
 use Rattle.walk.specs.Run.{writeAt, Wanted, State}
-use Rattle.walk.specs.declared.tally.Halt.the-variants.{Going}
+use Rattle.walk.specs.Find.{startAt}
 use Rattle.walk.specs.Page.{PageEnd, whole, last, cut, setIn, eventsFrom, roomIn, endedBy, pagedBy}
 use Rattle.walk.specs.Page.{pageIn, pageRead, pageOf}
 use Rattle.walk.proofs.Rows.{rowsOf, rows-length, write-front}
@@ -56,7 +56,7 @@ module _ (b : Book) (limit n : ℕ) (row out : List ℕ) where
   wanted = record { pass = 0; room = roomIn b (length out); limit = limit }
 
   abbrev start : State
-  start = record { tally = record { tries = n; sets = 0; halt = Going }; out = out }
+  start = startAt n out
 
   -- some events on, the rows of their readings stand in front
   gone-filled : (es : List Event) → amount b es ≤ roomIn b (length out) → gone b wanted start es .out ≡ filled b out (readingsIn b es)

@@ -26,7 +26,7 @@ use Rattle.walk.proofs.Forks.{side-stands, stands-side, fork-before}
 pub readings-append : (b : Book) (es fs : List Event) → readingsIn b (es ++ fs) ≡ readingsIn b es ++ readingsIn b fs
 unfolding readingsIn
 readings-append b [] fs = refl
-readings-append b (clash ∷ es) fs = readings-append b es fs
+readings-append b (clash r ∷ es) fs = readings-append b es fs
 readings-append b (fork r ∷ es) fs = readings-append b es fs
 readings-append b (reading d ∷ es) fs = ap (λ (l : List Atoms). readingOf b d ∷ l) (readings-append b es fs)
 

@@ -6,12 +6,13 @@ use Prim.Native.Nat.{ℕ, _+_, _*_, _-_, _≤_, _<_}
 use native.Mathlib.Nat.{mul-le-mul-right, add-mul, one-mul}
 use native.Mathlib.Omega.{arith}
 use lib.ListN.{length}
+use Rattle.meaning.specs.declared.RuleNo.{RuleNo}
 use Rattle.meaning.specs.Books.{Atoms, Book}
 use Rattle.meaning.specs.Choice.{ifEq}
 use Rattle.meaning.proofs.Choice.{lt-yes, lt-no, lt-either, eq-either}
 use Rattle.walk.specs.Events.{Event, clash, fork, reading}
 use Rattle.walk.specs.Readings.{readingOf}
-use Rattle.walk.specs.Run.{rowOf, writeAt, Wanted, State, counted, readingMet, tried, met, run}
+use Rattle.walk.specs.Run.{rowOf, writeAt, Wanted, State, counted, clashedAt, halting, readingMet, tried, met, run}
 use Rattle.walk.specs.declared.tally.Halt.{Halt}
 use Rattle.walk.specs.declared.tally.Halt.the-variants.{Going, Full, Limit}
 use Rattle.walk.proofs.Rows.{row-length, write-length}
@@ -27,11 +28,10 @@ module _ (b : Book) (w : Wanted) where
   abbrev moved : State → ℕ → Halt → List ℕ → State
   moved s n h out = record { tally = counted s n h; out = out }
 
-  -- what an event may do to a state whose way has not ended
+  -- what an event may do to a state whose way has not ended; where it meets no reading, a rule may be told of it
   pub data Moved (s : State) : State → Type 0 where
-    stopped : w .limit ≤ s .tally .tries
-        → Moved s (record { tally = record { tries = s .tally .tries; sets = s .tally .sets; halt = Limit }; out = s .out })
-    no-reading : s .tally .tries < w .limit → Moved s (moved s (s .tally .sets) Going (s .out))
+    stopped : w .limit ≤ s .tally .tries → Moved s (halting Limit s)
+    no-reading : (r : RuleNo) → s .tally .tries < w .limit → Moved s (record { tally = clashedAt s r; out = s .out })
     passed-over : s .tally .tries < w .limit → s .tally .sets < w .pass → Moved s (moved s (s .tally .sets + 1) Going (s .out))
     written : (x : Atoms) (h : Halt) → s .tally .tries < w .limit → w .pass ≤ s .tally .sets
         → (h ≡ Going → s .tally .sets + 1 ≡ w .pass + w .room → ⊥)
@@ -39,8 +39,8 @@ module _ (b : Book) (w : Wanted) where
 
   try-moves : (s : State) (e : Event) → s .tally .tries < w .limit → Moved s (tried b w s e)
   unfolding tried readingMet
-  try-moves s clash h = no-reading h
-  try-moves s (fork r) h = no-reading h
+  try-moves s (clash r) h = no-reading r h
+  try-moves s (fork r) h = no-reading (s .tally .clash) h
   try-moves s (reading d) h = lt-either (Moved s) _ _ _ _ (passed-over h) (λ p. written (readingOf b d) _ h p full)
     where
       full : ifEq (s .tally .sets + 1) (w .pass + w .room) Full Going ≡ Going → s .tally .sets + 1 ≡ w .pass + w .room → ⊥
@@ -85,8 +85,7 @@ module _ (b : Book) (w : Wanted) where
     unfolding met
     run-try h = next (lt-yes _ _ _ _ h)
 
-    pub run-stops : w .limit ≤ s .tally .tries
-        → run b w s (e ∷ es) ≡ record { tally = record { tries = s .tally .tries; sets = s .tally .sets; halt = Limit }; out = s .out }
+    pub run-stops : w .limit ≤ s .tally .tries → run b w s (e ∷ es) ≡ halting Limit s
     unfolding met
     run-stops h = next (lt-no _ _ _ _ h) ∙ run-ended _ es (λ z. apart (cc))
 
@@ -109,7 +108,7 @@ module _ (b : Book) (w : Wanted) where
 
     event-fine : (s t : State) → Fine n s → s .tally .halt ≡ Going → Moved s t → Fine n t
     event-fine s t f g (stopped k) = record { counts = f .counts; most = f .most; going = λ e. f .going g; long = f .long }
-    event-fine s t f g (no-reading k) =
+    event-fine s t f g (no-reading r k) =
         record { counts = omega (arith, f .counts); most = f .most; going = λ e. f .going g; long = f .long }
     event-fine s t f g (passed-over k l) = record {
       counts = omega (arith, f .counts);

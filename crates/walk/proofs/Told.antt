@@ -1,8 +1,8 @@
--- What is told of an answer tells all of it: two answers of find, of page, or of a search for a rule, told alike are equal. Each answer is
--- found again from what is told of it.
+-- What is told of an answer tells all of it: two answers of find, or of page, told alike are equal. Each answer is found again from what is
+-- told of it.
 use mathlib.Core.Path.{_≡_, refl, ap}
 use Prim.Native.Nat.{ℕ}
-use Rattle.meaning.specs.Lowest.{Pick, none, one}
+use Rattle.meaning.specs.Books.{ruleNo}
 use Rattle.meaning.specs.Choice.{ifb, ifEq}
 use Rattle.meaning.specs.Told.{Told}
 use Rattle.meaning.proofs.Told.{valuesAgain, again, one-again}
@@ -12,21 +12,18 @@ use Rattle.walk.specs.declared.kth.Found.the-variants.{Set, Fewer, Stopp
 use Rattle.walk.specs.declared.page_answer.Page.{Page}
 use Rattle.walk.specs.declared.page_answer.Page.the-variants.{Whole, Last, Cut}
 use Rattle.walk.specs.declared.page_answer.Page.the-variants.{Book as BadBook, NoRoom as TooSmall}
-use Rattle.walk.specs.declared.colours.Picked.{Picked}
-use Rattle.walk.specs.declared.colours.Picked.the-variants.{Nothing, Rule}
 use Rattle.walk.specs.Find.{told}
 use Rattle.walk.specs.Page.{PageEnd, whole, last, cut}
 use Rattle.walk.specs.Page.{told as pageTold}
-use Rattle.walk.specs.Picked.{picked}
 
 abbrev foundAt : Told ℕ → Found
-foundAt = again Set (valuesAgain NoNumber Stopped Fewer) (λ number at. Book (refusalAt number at))
+foundAt = again Set (valuesAgain NoNumber Stopped (λ tries sets rule. Fewer tries sets (ruleNo rule))) (λ number at. Book (refusalAt number at))
     (λ number. ifEq number 8 NoRoom NoNumber)
 
 found-again : (f : Found) → foundAt (told f) ≡ f
 unfolding ifEq ifb
 found-again (Set tries) = refl
-found-again (Fewer tries sets) = refl
+found-again (Fewer tries sets rule) = refl
 found-again (Stopped limit) = refl
 found-again (Book f) = ap Book (refusal-again f)
 found-again NoRoom = refl
@@ -52,14 +49,3 @@ page-again TooSmall = refl
 
 pub page-one : (p q : Page) → pageTold p ≡ pageTold q → p ≡ q
 page-one = one-again pageTold pageAt page-again
-
-abbrev pickedAt : Pick → Picked
-pickedAt none = Nothing
-pickedAt (one r) = Rule r
-
-picked-again : (p : Picked) → pickedAt (picked p) ≡ p
-picked-again Nothing = refl
-picked-again (Rule r) = refl
-
-pub pick-one : (p q : Picked) → picked p ≡ picked q → p ≡ q
-pick-one = one-again picked pickedAt picked-again

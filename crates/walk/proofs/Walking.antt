@@ -2,7 +2,7 @@
 -- events from its colouring; and what it keeps to is kept for the next call. The events and the run go by their own laws.
 use mathlib.Core.Path.{_≡_, refl, sym, _∙_, ap}
 use mathlib.Core.Logic.{_⊎_, inl, inr, ⊎-elim}
-use mathlib.Core.Bool.{Bool, true, false, _&&_}
+use mathlib.Core.Bool.{Bool, true, false}
 use mathlib.Core.List.{List, [], _∷_}
 use Prim.Native.Nat.{ℕ, _≤_, _<_}
 use native.Mathlib.Omega.{arith}
@@ -11,38 +11,38 @@ use types.Run.{OneOf}
 use denote.Enum.Declared.{tagOf}
 use Rattle.meaning.specs.declared.RuleNo.{RuleNo}
 use Rattle.meaning.specs.declared.colouring.Colouring.{Colouring}
-use Rattle.meaning.specs.Sets.{someBelow}
-use Rattle.meaning.specs.Books.{Atoms, ruleNo, Book, count}
+use Rattle.meaning.specs.Books.{Atoms, Book, count}
 use Rattle.meaning.specs.AnswerSet.{generating}
-use Rattle.meaning.specs.Colours.{Side, heads, clashing, uncoloured}
+use Rattle.meaning.specs.Colours.{Side, heads, uncoloured}
 use Rattle.meaning.specs.Written.{of, colourOn, colourOff, lent, pair}
-use Rattle.meaning.specs.Lowest.{Pick, none, one, lowestFrom, lowest}
+use Rattle.meaning.specs.Computed.{close}
+use Rattle.meaning.specs.Lowest.{Pick, none, one, lowestFrom, lowest, clashed}
 use Rattle.book.specs.declared.reader.Shape.{Shape}
 use Rattle.book.specs.Format.{bookIn, ReadAs}
 use Rattle.book.proofs.Places.{shape-count}
 use Rattle.closing.specs.Left.{left, chosen}
 use Rattle.walk.specs.Events.{Event, clash, fork, reading, after, eventsIn, events, rest}
-use Rattle.walk.specs.Run.{Wanted, State, counted, readingMet, tried, run}
+use Rattle.walk.specs.Run.{Wanted, State, counted, clashedAt, halting, readingMet, tried, run}
 use Rattle.walk.specs.Room.{Room}
-use Rattle.walk.specs.Picked.{picked}
-use Rattle.walk.specs.declared.colours.Picked.{Picked}
-use Rattle.walk.specs.declared.colours.Picked.the-variants.{Rule}
+use Rattle.closing.specs.Picked.{picked}
+use Rattle.closing.specs.declared.clash.Picked.{Picked}
+use Rattle.closing.specs.declared.clash.Picked.the-variants.{Rule}
 use Rattle.walk.specs.declared.tally.Halt.{Halt}
 use Rattle.walk.specs.declared.tally.Halt.the-variants.{Going, Full, Limit}
 use Rattle.walk.specs.declared.tally.Tally.{Tally}
 use Rattle.walk.proofs.tally.Halt.{the-type}
 use Rattle.walk.proofs.Events.{Closes, events-clash, events-reading, rest-clash, rest-reading}
 use Rattle.walk.proofs.Events.{Forks, fork-falls, events-fork, rest-fork-on, rest-fork-off}
-use Rattle.walk.proofs.Searches.{clash-in, lowest-in}
+use Rattle.closing.proofs.Searches.{lowest-in}
 use Rattle.walk.proofs.Run.{apart, run-append, run-ended, run-try, run-stops, run-fine}
 use Rattle.walk.proofs.Meeting.{wanted, room-fine, fine-room}
 
 -- ---- what is kept to
 
-halted : (h : Halt) → (h ≡ Going) ⊎ (h ≡ Going → ⊥)
-halted Going = inl refl
-halted Full = inr (λ e. apart (cc))
-halted Limit = inr (λ e. apart (cc))
+going-or-not : (h : Halt) → (h ≡ Going) ⊎ (h ≡ Going → ⊥)
+going-or-not Going = inl refl
+going-or-not Full = inr (λ e. apart (cc))
+going-or-not Limit = inr (λ e. apart (cc))
 
 -- a state whose tag is none of the others
 pub halted-told : (h : Halt) → OneOf (1 ∷ (2 ∷ [])) (tagOf the-type h) → h ≡ Going → ⊥
@@ -58,27 +58,26 @@ module _ {b : Book} {pass room : ℕ} {s : State} (f : Room b pass room s) where
       (λ g. fine-room limit (length (s .out)) (f .some) (f .fits)
       (run-fine b (wanted pass room limit) (length (s .out)) (f .some) (f .fits) s es (room-fine limit g f)))
       (λ n. rw (run-ended b (wanted pass room limit) s es n) f)
-      (halted (s .tally .halt)))
+      (going-or-not (s .tally .halt)))
 
--- ---- what the two searches say of a closing
+-- ---- what a closing and the search for a rule to choose say
 
 module _ (s : List ℕ) (h : Shape) (e : ReadAs s h) where
   pub few : h .rules < 256 → count (bookIn s) ≤ 255
   few n = omega (arith, shape-count s h e)
 
-  module _ (on off : List Bool) where
-    pub clash-told : {v w : Bool} → v ≡ someBelow (h .rules) (λ m. of on (ruleNo m) && of off (ruleNo m)) → v ≡ w
-        → clashing (bookIn s) (lent on off) ≡ w
-    clash-told f g = sym (clash-in (bookIn s) (shape-count s h e) _ _ f) ∙ g
+  pub lowest-told : (on off : List Bool) {v w : Picked} → picked v ≡ lowestFrom 0 (h .rules) (uncoloured (lent on off)) → v ≡ w
+      → lowest (bookIn s) (uncoloured (lent on off)) ≡ picked w
+  lowest-told on off f g = sym (lowest-in (bookIn s) (shape-count s h e) _ f) ∙ ap picked g
 
-    pub lowest-told : {v w : Picked} → picked v ≡ lowestFrom 0 (h .rules) (uncoloured (lent on off)) → v ≡ w
-        → lowest (bookIn s) (uncoloured (lent on off)) ≡ picked w
-    lowest-told f g = sym (lowest-in (bookIn s) (shape-count s h e) _ f) ∙ ap picked g
-
-  pub forks-told : {c d : Colouring} {v : Bool} {p : Picked} {r : RuleNo} → Closes (bookIn s) c d
-      → v ≡ someBelow (h .rules) (λ m. of (d .on) (ruleNo m) && of (d .off) (ruleNo m)) → v ≡ false
+  pub forks-told : {c d : Colouring} {p : Picked} {r : RuleNo} → Closes (bookIn s) c d → clashed (bookIn s) (pair d) ≡ none
       → picked p ≡ lowestFrom 0 (h .rules) (uncoloured (pair d)) → p ≡ Rule r → Forks (bookIn s) c d r
-  forks-told k f g q m = record { closes = k; calm = clash-told _ _ f g; choice = lowest-told _ _ q m }
+  forks-told k t q m = record { closes = k; calm = t; choice = lowest-told _ _ q m }
+
+-- what a closing told of its contradiction, of the colouring that it gave
+pub clash-told : {b : Book} {c d : Colouring} {v w : Picked} → Closes b c d → picked v ≡ clashed b (pair (close b c)) → v ≡ w
+    → clashed b (pair d) ≡ picked w
+clash-told k f g = rw (k .closed) (sym f ∙ ap picked g)
 
 -- each side of a fork is less far from its end, where a colouring is as far as it has rules without a colour
 pub side-falls : {b : Book} {c d : Colouring} {r : RuleNo} {n : ℕ} → Forks b c d r → left b c ≡ n → (x : Side) {y : Colouring}
@@ -87,11 +86,11 @@ side-falls f e x g = rw (g, ← e) (fork-falls f x)
 
 -- ---- the ways of a call
 
-after-some : (d : Colouring) (t : Bool) (p : Pick) (f : Colouring → List Event) → (e : Event) × (es : List Event) × (after d t p f ≡ e ∷ es)
+after-some : (d : Colouring) (t p : Pick) (f : Colouring → List Event) → (e : Event) × (es : List Event) × (after d t p f ≡ e ∷ es)
 unfolding after
-after-some d true p f = (clash, [], refl)
-after-some d false none f = (reading d, [], refl)
-after-some d false (one r) f = (fork r, _, refl)
+after-some d (one r) p f = (clash r, [], refl)
+after-some d none none f = (reading d, [], refl)
+after-some d none (one r) f = (fork r, _, refl)
 
 events-some : (b : Book) (c : Colouring) → (e : Event) × (es : List Event) × (events b c ≡ e ∷ es)
 unfolding events eventsIn
@@ -102,17 +101,16 @@ module _ (b : Book) (w : Wanted) (s : State) (c : Colouring) where
   walk-ended n = sym (run-ended b w s (events b c) n)
 
   module _ (going : s .tally .halt ≡ Going) where
-    pub walk-stops : w .limit ≤ s .tally .tries
-        → record { tally = record { tries = s .tally .tries; sets = s .tally .sets; halt = Limit }; out = s .out } ≡ run b w s (events b c)
+    pub walk-stops : w .limit ≤ s .tally .tries → halting Limit s ≡ run b w s (events b c)
     walk-stops h = let (e, es, q) = events-some b c in sym (ap (run b w s) q ∙ run-stops b w s going e es h)
 
     module _ (h : s .tally .tries < w .limit) {d : Colouring} where
-      pub walk-clash : {t : Tally} → Closes b c d → clashing b (pair d) ≡ true → t ≡ counted s (s .tally .sets) Going
+      pub walk-clash : {t : Tally} {r : RuleNo} → Closes b c d → clashed b (pair d) ≡ one r → t ≡ clashedAt s r
           → record { tally = t; out = s .out } ≡ run b w s (events b c)
       unfolding run tried
-      walk-clash k z e = rw e (sym (ap (run b w s) (events-clash k z) ∙ run-try b w s going clash [] h))
+      walk-clash k z e = rw e (sym (ap (run b w s) (events-clash k z) ∙ run-try b w s going (clash _) [] h))
 
-      pub walk-reading : {u : State} → Closes b c d → clashing b (pair d) ≡ false → lowest b (uncoloured (pair d)) ≡ none
+      pub walk-reading : {u : State} → Closes b c d → clashed b (pair d) ≡ none → lowest b (uncoloured (pair d)) ≡ none
           → u ≡ readingMet b w s (heads b (of (d .on))) → u ≡ run b w s (events b c)
       unfolding run tried
       walk-reading k z p e = e ∙ sym (ap (run b w s) (events-reading k z p) ∙ run-try b w s going (reading d) [] h)
@@ -129,11 +127,11 @@ module _ (b : Book) (w : Wanted) (s : State) (c : Colouring) where
 -- ---- the ways of a call that goes on behind a set x
 
 module _ (b : Book) (w : Wanted) (s : State) (c : Colouring) (x : Atoms) {d : Colouring} where
-  pub resume-clash : Closes b c d → clashing b (pair d) ≡ true → s ≡ run b w s (rest b c x)
+  pub resume-clash : {r : RuleNo} → Closes b c d → clashed b (pair d) ≡ one r → s ≡ run b w s (rest b c x)
   unfolding run
   resume-clash k z = sym (ap (run b w s) (rest-clash k x z))
 
-  pub resume-reading : Closes b c d → clashing b (pair d) ≡ false → lowest b (uncoloured (pair d)) ≡ none → s ≡ run b w s (rest b c x)
+  pub resume-reading : Closes b c d → clashed b (pair d) ≡ none → lowest b (uncoloured (pair d)) ≡ none → s ≡ run b w s (rest b c x)
   unfolding run
   resume-reading k z p = sym (ap (run b w s) (rest-reading k z p x))
 

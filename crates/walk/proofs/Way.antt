@@ -15,7 +15,8 @@ use Rattle.meaning.proofs.Tests.{lt-or-le}
 use Rattle.meaning.proofs.Choice.{lt-yes, lt-no, eq-yes, eq-no}
 use Rattle.walk.specs.Events.{Event, clash, fork, reading}
 use Rattle.walk.specs.Readings.{readingOf, readingsIn}
-use Rattle.walk.specs.Run.{rowOf, writeAt, Wanted, State, counted, readingMet, tried, run}
+use Rattle.walk.specs.Tries.{clashIn}
+use Rattle.walk.specs.Run.{rowOf, writeAt, Wanted, State, counted, clashedAt, halting, readingMet, tried, run}
 use Rattle.walk.specs.declared.tally.Halt.{Halt}
 use Rattle.walk.specs.declared.tally.Halt.the-variants.{Going, Full, Limit}
 use Rattle.walk.proofs.Rows.{row-length, rowsOf, write-length, write-none, write-next}
@@ -24,7 +25,7 @@ use Rattle.walk.proofs.Run.{apart, run-ended, run-try, run-stops}
 module _ (b : Book) (w : Wanted) where
   -- the state after one more event, and after some, where neither the limit nor the end of the room stops the way
   unfoldable pub step : State → Event → State
-  step s clash = record { tally = counted s (s .tally .sets) Going; out = s .out }
+  step s (clash r) = record { tally = clashedAt s r; out = s .out }
   step s (fork r) = record { tally = counted s (s .tally .sets) Going; out = s .out }
   step s (reading d) = record {
     tally = counted s (s .tally .sets + 1) Going;
@@ -35,21 +36,18 @@ module _ (b : Book) (w : Wanted) where
   gone s [] = s
   gone s (e ∷ es) = gone (step s e) es
 
-  abbrev pub ended : Halt → State → State
-  ended h s = record { tally = record { tries = s .tally .tries; sets = s .tally .sets; halt = h }; out = s .out }
-
   -- room for one row more
   abbrev pub Open : State → Type 0
   Open s = s .tally .sets < w .pass + w .room
 
   -- from s along some events to a state: behind all of them; at the reading that fills the room; before the try that passes the limit
   pub data Way (s : State) : List Event → State → Type 0 where
-    to-end : {es : List Event} → gone s es .tally .tries ≤ w .limit → Open (gone s es) → Way s es (ended Going (gone s es))
+    to-end : {es : List Event} → gone s es .tally .tries ≤ w .limit → Open (gone s es) → Way s es (halting Going (gone s es))
     to-full : (more : List Event) (d : Colouring) (later : List Event) → gone s more .tally .tries < w .limit
         → gone s more .tally .sets + 1 ≡ w .pass + w .room
-        → Way s (more ++ (reading d ∷ later)) (ended Full (step (gone s more) (reading d)))
+        → Way s (more ++ (reading d ∷ later)) (halting Full (step (gone s more) (reading d)))
     to-limit : (more : List Event) (e : Event) (later : List Event) → w .limit ≡ gone s more .tally .tries → Open (gone s more)
-        → Way s (more ++ (e ∷ later)) (ended Limit (gone s more))
+        → Way s (more ++ (e ∷ later)) (halting Limit (gone s more))
 
   further : (s : State) (e : Event) {es : List Event} {t : State} → Way (step s e) es t → Way s (e ∷ es) t
   unfolding gone
@@ -67,22 +65,29 @@ module _ (b : Book) (w : Wanted) where
   pub gone-tries : (s : State) (es : List Event) → gone s es .tally .tries ≡ s .tally .tries + length es
   unfolding gone step
   gone-tries s [] = omega arith
-  gone-tries s (clash ∷ es) = omega (arith, gone-tries (step s clash) es)
+  gone-tries s (clash r ∷ es) = omega (arith, gone-tries (step s (clash r)) es)
   gone-tries s (fork r ∷ es) = omega (arith, gone-tries (step s (fork r)) es)
   gone-tries s (reading d ∷ es) = omega (arith, gone-tries (step s (reading d)) es)
 
   pub gone-sets : (s : State) (es : List Event) → gone s es .tally .sets ≡ s .tally .sets + length (readingsIn b es)
   unfolding gone step readingsIn
   gone-sets s [] = omega arith
-  gone-sets s (clash ∷ es) = gone-sets (step s clash) es
+  gone-sets s (clash r ∷ es) = gone-sets (step s (clash r)) es
   gone-sets s (fork r ∷ es) = gone-sets (step s (fork r)) es
   gone-sets s (reading d ∷ es) = omega (arith, gone-sets (step s (reading d)) es)
+
+  pub gone-clash : (s : State) (es : List Event) → gone s es .tally .clash .0 ≡ clashIn (s .tally .clash .0) es
+  unfolding gone step clashIn
+  gone-clash s [] = refl
+  gone-clash s (clash r ∷ es) = gone-clash (step s (clash r)) es
+  gone-clash s (fork r ∷ es) = gone-clash (step s (fork r)) es
+  gone-clash s (reading d ∷ es) = gone-clash (step s (reading d)) es
 
   -- readings that are passed over leave the buffer
   pub gone-passes : (s : State) (es : List Event) → s .tally .sets + length (readingsIn b es) ≤ w .pass → gone s es .out ≡ s .out
   unfolding gone step readingsIn
   gone-passes s [] h = refl
-  gone-passes s (clash ∷ es) h = gone-passes (step s clash) es h
+  gone-passes s (clash r ∷ es) h = gone-passes (step s (clash r)) es h
   gone-passes s (fork r ∷ es) h = gone-passes (step s (fork r)) es h
   gone-passes s (reading d ∷ es) h = gone-passes (step s (reading d)) es (omega arith) ∙ lt-yes _ _ _ _ (omega arith)
 
@@ -96,7 +101,7 @@ module _ (b : Book) (w : Wanted) where
       → gone s es .out ≡ writeAt (place s) (rowsOf b (readingsIn b es)) (s .out)
   unfolding gone step readingsIn rowsOf
   gone-writes s [] p h = sym (write-none (place s) (s .out))
-  gone-writes s (clash ∷ es) p h = gone-writes (step s clash) es p h
+  gone-writes s (clash r ∷ es) p h = gone-writes (step s (clash r)) es p h
   gone-writes s (fork r ∷ es) p h = gone-writes (step s (fork r)) es p h
   gone-writes s (reading d ∷ es) p h =
       let t = step s (reading d) in let row = rowOf b (readingOf b d) in let rows = rowsOf b (readingsIn b es) in
@@ -127,7 +132,7 @@ module _ (b : Book) (w : Wanted) where
           (λ h. lt-no _ _ _ _ h ∙ same-state refl (sym (lt-no _ _ _ _ h)))
           (lt-or-le (s .tally .sets) (w .pass))
 
-      try-full : s .tally .sets + 1 ≡ w .pass + w .room → tried b w s (reading d) ≡ ended Full (step s (reading d))
+      try-full : s .tally .sets + 1 ≡ w .pass + w .room → tried b w s (reading d) ≡ halting Full (step s (reading d))
       unfolding step
       try-full e = try-reading ∙ same-state (eq-yes _ _ _ _ e) refl
 
@@ -158,11 +163,10 @@ module _ (b : Book) (w : Wanted) where
     pub way : (s : State) (es : List Event) → s .tally .halt ≡ Going → s .tally .tries ≤ w .limit → Open s → Way s es (run b w s es)
     unfolding run gone step tried readingsIn
     way s [] g h o =
-        let e : ended Going s ≡ s =
-        (λ i. record { tally = record { tries = s .tally .tries; sets = s .tally .sets; halt = sym g i }; out = s .out }) in
+        let e : halting Going s ≡ s = (λ i. halting (sym g i) s) in
         subst (Way s []) e (to-end h o)
-    way s (clash ∷ es) g h o = ⊎-elim
-        (λ l. goes-on s g clash es l refl (way (step s clash) es refl (omega arith) o)) (stops s g clash es h o)
+    way s (clash r ∷ es) g h o = ⊎-elim
+        (λ l. goes-on s g (clash r) es l refl (way (step s (clash r)) es refl (omega arith) o)) (stops s g (clash r) es h o)
         (lt-or-le (s .tally .tries) (w .limit))
     way s (fork r ∷ es) g h o = ⊎-elim
         (λ l. goes-on s g (fork r) es l refl (way (step s (fork r)) es refl (omega arith) o)) (stops s g (fork r) es h o)

@@ -13,25 +13,26 @@ use Rattle.meaning.specs.declared.RuleNo.{RuleNo}
 use Rattle.meaning.specs.declared.colouring.Colouring.{Colouring}
 use Rattle.meaning.specs.Books.{Atoms, Book, count}
 use Rattle.meaning.specs.AnswerSet.{generating}
-use Rattle.meaning.specs.Colours.{clashing, uncoloured}
+use Rattle.meaning.specs.Colours.{uncoloured}
 use Rattle.meaning.specs.Written.{colourOn, colourOff, pair}
 use Rattle.meaning.specs.Computed.{close}
-use Rattle.meaning.specs.Lowest.{Pick, none, one, lowest}
+use Rattle.meaning.specs.Lowest.{Pick, none, one, lowest, clashed}
 
--- how a try ends: in a contradiction, at a rule without a colour, or with every rule coloured
+-- how a try ends: in a contradiction, with the lowest rule in both sets of the closed pair; at a rule without a colour; or with every rule
+-- coloured
 pub data Event : Type 0 where
-  clash : Event
+  clash : RuleNo → Event
   fork : RuleNo → Event
   reading : Colouring → Event
 
--- after a closing that gave d: whether it has a contradiction, its lowest uncoloured rule, and the walk below
-unfoldable pub after : Colouring → Bool → Pick → (Colouring → List Event) → List Event
-after d true p further = clash ∷ []
-after d false none further = reading d ∷ []
-after d false (one r) further = fork r ∷ (further (colourOn r d) ++ further (colourOff r d))
+-- after a closing that gave d: its lowest rule in both sets, its lowest uncoloured rule, and the walk below
+unfoldable pub after : Colouring → Pick → Pick → (Colouring → List Event) → List Event
+after d (one r) p further = clash r ∷ []
+after d none none further = reading d ∷ []
+after d none (one r) further = fork r ∷ (further (colourOn r d) ++ further (colourOff r d))
 
 abbrev pub afterClosing : Book → Colouring → (Colouring → List Event) → List Event
-afterClosing b d further = after d (clashing b (pair d)) (lowest b (uncoloured (pair d))) further
+afterClosing b d further = after d (clashed b (pair d)) (lowest b (uncoloured (pair d))) further
 
 -- through at most n levels
 unfoldable pub eventsIn : ℕ → Book → Colouring → List Event
@@ -47,16 +48,16 @@ unfoldable pub beside : Bool → List Event → List Event → List Event → Li
 beside true restOn restOff allOff = restOn ++ allOff
 beside false restOn restOff allOff = restOff
 
-unfoldable pub afterPast : Book → Colouring → Atoms → Bool → Pick → (Colouring → List Event) → List Event
-afterPast b d x true p further = []
-afterPast b d x false none further = []
-afterPast b d x false (one r) further =
+unfoldable pub afterPast : Book → Colouring → Atoms → Pick → Pick → (Colouring → List Event) → List Event
+afterPast b d x (one r) p further = []
+afterPast b d x none none further = []
+afterPast b d x none (one r) further =
     beside (generating b x r) (further (colourOn r d)) (further (colourOff r d)) (events b (colourOff r d))
 
 unfoldable pub restIn : ℕ → Book → Colouring → Atoms → List Event
 restIn zero b c x = []
 restIn (suc n) b c x =
-    let d = close b c in afterPast b d x (clashing b (pair d)) (lowest b (uncoloured (pair d))) (λ e. restIn n b e x)
+    let d = close b c in afterPast b d x (clashed b (pair d)) (lowest b (uncoloured (pair d))) (λ e. restIn n b e x)
 
 unfoldable pub rest : Book → Colouring → Atoms → List Event
 rest b c x = restIn (suc (count b)) b c x

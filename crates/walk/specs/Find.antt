@@ -6,7 +6,7 @@
 use mathlib.Core.List.{List}
 use Prim.Native.Nat.{ℕ, _-_}
 use lib.ListN.{length}
-use Rattle.meaning.specs.Books.{Book}
+use Rattle.meaning.specs.Books.{ruleNo, Book}
 use Rattle.meaning.specs.Written.{nothing}
 use Rattle.meaning.specs.Choice.{ifLt, ifEq}
 use Rattle.meaning.specs.Told.{Told, success, refusedAt, refused, fewer, stopped, Answered}
@@ -25,17 +25,21 @@ set tries = success tries
 
 abbrev pub told : Found → Told ℕ
 told (Set tries) = set tries
-told (Fewer tries sets) = fewer tries sets
+told (Fewer tries sets rule) = fewer tries sets (rule .0)
 told (Stopped limit) = stopped limit
 told (BadBook f) = refusedAt (numberOf f) (placeOf f)
 told NoRoom = refused 8
 told NoNumber = refused 15
 
+-- so many tries were made before, and none was contradictory as far as the way knows
+abbrev pub startAt : ℕ → List ℕ → State
+startAt tries out = record { tally = record { tries = tries; sets = 0; clash = ruleNo 255; halt = Going }; out = out }
+
 abbrev pub startOf : List ℕ → State
-startOf answer = record { tally = record { tries = 0; sets = 0; halt = Going }; out = answer }
+startOf answer = startAt 0 answer
 
 unfoldable pub toldBy : Halt → State → ℕ → Told ℕ
-toldBy Going s limit = fewer (s .tally .tries) (s .tally .sets)
+toldBy Going s limit = fewer (s .tally .tries) (s .tally .sets) (s .tally .clash .0)
 toldBy Full s limit = set (s .tally .tries)
 toldBy Limit s limit = stopped limit
 

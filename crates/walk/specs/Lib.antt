@@ -6,5 +6,4 @@ pub mod Run
 pub mod Find
 pub mod Page
 pub mod Listing
-pub mod Picked
 pub mod Room

@@ -19,6 +19,7 @@ use Rattle.book.specs.Numbers.{numberOf, placeOf}
 use Rattle.book.specs.Format.{BookRead, good, bad, readOf}
 use Rattle.walk.specs.Events.{Event, events, rest}
 use Rattle.walk.specs.Run.{State, run}
+use Rattle.walk.specs.Find.{startAt}
 use Rattle.walk.specs.declared.tally.Halt.{Halt}
 use Rattle.walk.specs.declared.tally.Halt.the-variants.{Going, Full, Limit}
 use Rattle.walk.specs.declared.page_answer.Page.{Page}
@@ -61,7 +62,7 @@ unfoldable pub pageIn : Book → ℕ → ℕ → List ℕ → List ℕ → Answe
 pageIn b limit tries row out =
     ifLt (length out) (b .atoms) (record { told = refused 8; buffer = out })
     (pagedBy (run b (record { pass = 0; room = roomIn b (length out); limit = limit })
-    (record { tally = record { tries = tries; sets = 0; halt = Going }; out = out }) (eventsFrom b tries (setIn row))))
+    (startAt tries out) (eventsFrom b tries (setIn row))))
 
 unfoldable pub pageRead : BookRead → ℕ → ℕ → List ℕ → List ℕ → Answered PageEnd
 pageRead (good n r index l) limit tries row out = pageIn (record { atoms = n; rules = l }) limit tries row out

@@ -25,7 +25,7 @@ readingOf b d = heads b (of (d .on))
 
 unfoldable pub readingsIn : Book → List Event → List Atoms
 readingsIn b [] = []
-readingsIn b (clash ∷ es) = readingsIn b es
+readingsIn b (clash r ∷ es) = readingsIn b es
 readingsIn b (fork r ∷ es) = readingsIn b es
 readingsIn b (reading d ∷ es) = readingOf b d ∷ readingsIn b es
 

@@ -3,10 +3,12 @@
 --
 --   rowOf b x        "A bytes ..., 1 for an atom in the set and 0 for one not"
 --   Wanted           how many readings to pass over, how many rows there is room for, the limit L
+--   State            the tries and readings so far, the rule of the last contradictory try, why the way has ended; and the buffer
 --   run b w s es     the state after the events, from the state s
 use mathlib.Core.List.{List, [], _∷_, _++_}
 use Prim.Native.Nat.{ℕ, zero, suc, _+_, _*_, _-_}
 use lib.ListN.{length, take, drop}
+use Rattle.meaning.specs.declared.RuleNo.{RuleNo}
 use Rattle.meaning.specs.Books.{Atoms, atomNo, Book}
 use Rattle.meaning.specs.Choice.{ifb, ifLt, ifEq}
 use Rattle.walk.specs.Events.{Event, clash, fork, reading}
@@ -32,13 +34,21 @@ pub record Wanted : Type 0 where
   pub room : ℕ
   pub limit : ℕ
 
--- the tries and readings so far and why the way has ended, if it has; and the buffer
 pub record State : Type 0 where
   pub tally : Tally
   pub out : List ℕ
 
 abbrev pub counted : State → ℕ → Halt → Tally
-counted s n h = record { tries = s .tally .tries + 1; sets = n; halt = h }
+counted s n h = record { tries = s .tally .tries + 1; sets = n; clash = s .tally .clash; halt = h }
+
+-- one try more, that ended in a contradiction
+abbrev pub clashedAt : State → RuleNo → Tally
+clashedAt s r = record { tries = s .tally .tries + 1; sets = s .tally .sets; clash = r; halt = Going }
+
+-- the way ends here, or goes on
+abbrev pub halting : Halt → State → State
+halting h s =
+    record { tally = record { tries = s .tally .tries; sets = s .tally .sets; clash = s .tally .clash; halt = h }; out = s .out }
 
 -- one more reading x, which is written if enough were passed over
 unfoldable pub readingMet : Book → Wanted → State → Atoms → State
@@ -51,15 +61,13 @@ readingMet b w s x =
 
 -- one try
 unfoldable pub tried : Book → Wanted → State → Event → State
-tried b w s clash = record { tally = counted s (s .tally .sets) Going; out = s .out }
+tried b w s (clash r) = record { tally = clashedAt s r; out = s .out }
 tried b w s (fork r) = record { tally = counted s (s .tally .sets) Going; out = s .out }
 tried b w s (reading d) = readingMet b w s (readingOf b d)
 
 -- one event: nothing more once the way has ended; the limit stops it before another try
 unfoldable pub met : Book → Wanted → Halt → State → Event → State
-met b w Going s e =
-    ifLt (s .tally .tries) (w .limit) (tried b w s e)
-    (record { tally = record { tries = s .tally .tries; sets = s .tally .sets; halt = Limit }; out = s .out })
+met b w Going s e = ifLt (s .tally .tries) (w .limit) (tried b w s e) (halting Limit s)
 met b w Full s e = s
 met b w Limit s e = s
 

@@ -17,12 +17,14 @@ use book::Refusal;
 use book::Shape;
 use book::read_book;
 use meaning::Colouring;
+use meaning::RuleNo;
 
 pub enum Found {
     // The k-th reading stands in the buffer; so many tries were made.
     Set(u32),
-    // 11: fewer than k readings: all tries, all readings.
-    Fewer(u32, u32),
+    // 11: fewer than k readings: all tries, all readings, and the rule of the last contradictory
+    // try, 255 if there was none.
+    Fewer(u32, u32, RuleNo),
     // 9: more than this many tries are needed.
     Stopped(u32),
     // 1 to 7: the book is refused.
@@ -43,6 +45,7 @@ fn kth(book: &[u8], shape: Shape, k: u32, limit: u32, answer: &mut [u8]) -> Tall
     let start = Tally {
         tries: 0,
         sets: 0,
+        clash: RuleNo(255),
         halt: Halt::Going,
     };
     walk(
@@ -73,8 +76,9 @@ fn tell(t: Tally, limit: u32) -> Found
     ensures { λ r. ⌜ told r ≡ toldBy (t .halt) (record { tally = t; out = [] }) limit ⌝ }
 {
     let halt = t.halt;
+    let rule = t.clash;
     match halt {
-        Halt::Going => Found::Fewer(t.tries, t.sets),
+        Halt::Going => Found::Fewer(t.tries, t.sets, rule),
         Halt::Full => Found::Set(t.tries),
         Halt::Limit => Found::Stopped(limit),
     }

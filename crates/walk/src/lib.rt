@@ -11,8 +11,6 @@ mod resume;
 mod tally;
 mod walk;
 
-pub use colours::Picked;
-pub use colours::clashes;
 pub use colours::lowest_uncoloured;
 pub use kth::Found;
 pub use kth::find;

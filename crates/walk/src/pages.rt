@@ -15,6 +15,7 @@ use book::Read;
 use book::Shape;
 use book::read_book;
 use meaning::Colouring;
+use meaning::RuleNo;
 
 // The rows that the bytes have room for.
 fn rows_in(atoms: u8, bytes: usize) -> usize
@@ -51,6 +52,7 @@ fn page_in(book: &[u8], shape: Shape, limit: u32, tries: u32, last: &[u8], out: 
     let start = Tally {
         tries,
         sets: 0,
+        clash: RuleNo(255),
         halt: Halt::Going,
     };
     if tries == 0 {

@@ -13,14 +13,13 @@ ghost use Rattle.walk.specs.Run.{State, run};
 ghost use Rattle.walk.specs.Page.{setIn};
 ghost use Rattle.walk.specs.Room.{Room};
 use crate::bytes::in_row;
-use crate::colours::Picked;
-use crate::colours::clashes;
 use crate::colours::lowest_uncoloured;
 use crate::tally::Tally;
 use crate::walk::walk;
 use book::Shape;
 use book::negatives;
 use book::positives;
+use closing::Picked;
 use closing::close;
 use meaning::AtomNo;
 use meaning::Colouring;
@@ -81,10 +80,12 @@ pub fn resume(
         (record { tally = t; out = now (out .entry) })
         (rest (bookIn (now (book .entry))) c (setIn (now (last .entry))))) ⌝ }
 {
-    let d = close(book, shape, c);
-    if clashes(shape.rules, &d.on, &d.off) {
+    let closed = close(book, shape, c);
+    let clash = closed.clash;
+    if let Picked::Rule(_) = clash {
         return t;
     }
+    let d = closed.colours;
     let Picked::Rule(r) = lowest_uncoloured(shape.rules, &d.on, &d.off) else {
         return t;
     };

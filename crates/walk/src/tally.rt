@@ -1,6 +1,8 @@
 // How far a call has come along its walk.
 ghost use mathlib.Core.Path.{_≡_};
 ghost use Prim.Native.Nat.{_+_, _<_};
+ghost use Rattle.walk.specs.declared.tally.Halt.the-variants.{Going};
+use meaning::RuleNo;
 
 // Why it goes no further.
 pub enum Halt {
@@ -14,6 +16,8 @@ pub enum Halt {
 pub struct Tally {
     pub tries: u32,
     pub sets: u32,
+    // The rule of the last contradictory try, 255 before there is one: no rule has that number.
+    pub clash: RuleNo,
     pub halt: Halt,
 }
 
@@ -21,12 +25,29 @@ impl Tally {
     // One try more, and what it came to: so many readings by now, and why the call goes no further.
     pub fn tried(self, sets: u32, halt: Halt) -> Tally
         requires { ⌜ self .tries < 4294967295 ⌝ }
-        ensures { λ t. ⌜ t ≡ record { tries = self .tries + 1; sets = sets; halt = halt } ⌝ }
+        ensures { λ t. ⌜ t ≡
+            record { tries = self .tries + 1; sets = sets; clash = self .clash; halt = halt } ⌝ }
     {
+        let clash = self.clash;
         Tally {
             tries: self.tries + 1,
             sets,
+            clash,
             halt,
+        }
+    }
+
+    // One try more, which ended in a contradiction at that rule.
+    pub fn clashed(self, r: RuleNo) -> Tally
+        requires { ⌜ self .tries < 4294967295 ⌝ }
+        ensures { λ t. ⌜ t ≡
+            record { tries = self .tries + 1; sets = self .sets; clash = r; halt = Going } ⌝ }
+    {
+        Tally {
+            tries: self.tries + 1,
+            sets: self.sets,
+            clash: r,
+            halt: Halt::Going,
         }
     }
 }

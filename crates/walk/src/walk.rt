@@ -5,13 +5,12 @@ ghost use Rattle.book.specs.Format.{bookIn, ReadAs};
 ghost use Rattle.walk.specs.Events.{events};
 ghost use Rattle.walk.specs.Run.{State, run};
 ghost use Rattle.walk.specs.Room.{Room};
-use crate::colours::Picked;
-use crate::colours::clashes;
 use crate::colours::lowest_uncoloured;
 use crate::meet::meet;
 use crate::tally::Halt;
 use crate::tally::Tally;
 use book::Shape;
+use closing::Picked;
 use closing::close;
 use meaning::Colouring;
 
@@ -40,16 +39,20 @@ pub fn walk(
         return t;
     };
     if limit <= t.tries {
+        let clash = t.clash;
         return Tally {
             tries: t.tries,
             sets: t.sets,
+            clash,
             halt: Halt::Limit,
         };
     }
-    let d = close(book, shape, c);
-    if clashes(shape.rules, &d.on, &d.off) {
-        return t.tried(t.sets, Halt::Going);
+    let closed = close(book, shape, c);
+    let clash = closed.clash;
+    if let Picked::Rule(r) = clash {
+        return t.clashed(r);
     }
+    let d = closed.colours;
     let Picked::Rule(r) = lowest_uncoloured(shape.rules, &d.on, &d.off) else {
         return meet(book, shape, &d.on, pass, room, limit, t, out);
     };

@@ -56,7 +56,7 @@ module _ (b : Book) (k : Claim) (limit : ℕ) (buffer : List ℕ) (below : claim
   unfolding writeIn
   write-first = lt-yes _ _ _ _ below ∙ rw (← e)
 
-  pub write-fewer : t .halt ≡ Going → only buffer (fewer (t .tries) 0) ≡ writeIn b k limit buffer
+  pub write-fewer : t .halt ≡ Going → only buffer (fewer (t .tries) 0 (t .clash .0)) ≡ writeIn b k limit buffer
   unfolding afterFirstWalk
   write-fewer h = sym (write-first ∙ rw h)
 

@@ -13,7 +13,7 @@ use Rattle.meaning.specs.Claim.{claimed, markOf, mark, shownBy, shown, ended}
 use Rattle.meaning.specs.Paper.{trailer}
 use Rattle.meaning.specs.Written.{of, addFrom, added}
 use Rattle.meaning.specs.Computed.{iterate, upheld, supportMore, support, goesOff, closeMore, marked, close}
-use Rattle.meaning.specs.Lowest.{onPick, oneOr, lowestFrom, lowest, listedIf, rulesFrom, rulesIn}
+use Rattle.meaning.specs.Lowest.{onPick, oneOr, lowestFrom, lowest, clashed, listedIf, rulesFrom, rulesIn}
 use Rattle.meaning.specs.Engine.{firstOf, unsupported, next, listable, listing, witnessOf}
 use Rattle.meaning.specs.Choice.{ifb, ifLt, ifEq}
 use Rattle.meaning.specs.Told.{refused, fewer, stopped}
@@ -70,16 +70,16 @@ pub worked :
     × (nameOf fact (atomNo 0) 0 (sevens 12) ≡ record { told = stopped 0; buffer = sevens 12 })
     × (nameOf fact (atomNo 0) 1000 (sevens 9) ≡ record { told = refused 14; buffer = sevens 9 })
     × (nameOf fact (atomNo 1) 1000 (sevens 12) ≡ record { told = refused 13; buffer = sevens 12 })
-    × (nameOf contrary (atomNo 0) 1000 (sevens 12) ≡ record { told = fewer 3 0; buffer = sevens 12 })
+    × (nameOf contrary (atomNo 0) 1000 (sevens 12) ≡ record { told = fewer 3 0 0; buffer = sevens 12 })
     × (nameOf choice (atomNo 0) 1000 (sevens 12) ≡ record { told = refused 12; buffer = sevens 12 })
     × (nameOf either-way (atomNo 2) 1000 (sevens 24) ≡ record { told = paper 7 24; buffer = either-way-paper })
     × (clearOf circle (atomNo 0) 1000 (sevens 12) ≡ record { told = paper 1 11; buffer = circle-paper ++ sevens 1 })
     × (clearOf fact (atomNo 0) 1000 (sevens 12) ≡ record { told = refused 18; buffer = sevens 12 })
-    × (clearOf contrary (atomNo 0) 1000 (sevens 12) ≡ record { told = fewer 3 0; buffer = sevens 12 })
+    × (clearOf contrary (atomNo 0) 1000 (sevens 12) ≡ record { told = fewer 3 0 0; buffer = sevens 12 })
     × (clearOf choice (atomNo 0) 1000 (sevens 12) ≡ record { told = refused 18; buffer = sevens 12 })
 unfolding every some everyBelow someBelow sameAtom sameRule count rule everyRule someRule generates generating put heads allIn
     mayOn blocked starved clashing uncoloured claimed markOf mark shownBy shown ended trailer of addFrom added iterate upheld supportMore support
-    goesOff closeMore marked close onPick oneOr lowestFrom lowest listedIf rulesFrom rulesIn
+    goesOff closeMore marked close onPick oneOr lowestFrom lowest clashed listedIf rulesFrom rulesIn
     firstOf unsupported next listable listing witnessOf ifb ifLt ifEq u16At partOf andThen bytesOf recordOf lengthOf ruleOf
     recordsOf rulesOf ifFine bodyOf readOf after eventsIn events rowFrom rowOf writeAt readingMet tried eventMet run setIn
     behind branchBy branchIn branch below branchesIn branches courseAt met scan firstWalk paperWalk wholePaper handOver

@@ -8,26 +8,27 @@ use Prim.Native.Nat.{ℕ, _<_}
 use native.Mathlib.Omega.{arith}
 use lib.ListN.{length, getD}
 use Rattle.meaning.specs.declared.RuleNo.{RuleNo}
-use Rattle.meaning.specs.Books.{Rules, Book, InBook}
+use Rattle.meaning.specs.Books.{Rules, Book, count, InBook}
 use Rattle.meaning.specs.Colours.{Pair, heads, allIn, mayOn, blocked, uncoloured, clashing}
 use Rattle.meaning.specs.declared.kind.Kind.{Kind}
 use Rattle.meaning.specs.declared.kind.Kind.the-variants.{Naming, Clearing}
 use Rattle.meaning.specs.declared.kind.Claim.{Claim}
 use Rattle.meaning.specs.Claim.{claimed, shownBy, shown, ended}
 use Rattle.meaning.specs.Written.{of, lent}
-use Rattle.meaning.specs.Lowest.{Pick, none, one, lowest, rulesIn}
+use Rattle.meaning.specs.Lowest.{Pick, none, one, lowestFrom, lowest, inBoth, clashed, rulesIn}
 use Rattle.meaning.specs.Engine.{Next, ends, puts-on, puts-off, drops, splits, stuck, less, firstOf, unsupported, next}
 use Rattle.meaning.proofs.Tests.{first, other, neither}
-use Rattle.meaning.proofs.Lowest.{lowest-one, lowest-none, one-lowest, none-lowest}
+use Rattle.meaning.proofs.Lowest.{lowest-one, lowest-none, one-lowest, none-lowest, clashed-clashing, clashed-none}
 use Rattle.book.specs.declared.reader.Shape.{Shape}
 use Rattle.book.specs.Format.{bookIn, ReadAs}
 use Rattle.book.specs.Tables.{atomTable, atomsIn}
 use Rattle.book.proofs.AtomSets.{table-in}
 use Rattle.book.proofs.Places.{in-shape}
 use Rattle.book.proofs.Asked.{goes-on-mayOn, is-blocked-blocked}
-use Rattle.walk.specs.Picked.{picked}
-use Rattle.walk.specs.declared.colours.Picked.{Picked}
-use Rattle.walk.specs.declared.colours.Picked.the-variants.{Nothing, Rule}
+use Rattle.closing.specs.Picked.{picked}
+use Rattle.closing.specs.declared.clash.Picked.{Picked}
+use Rattle.closing.specs.declared.clash.Picked.the-variants.{Nothing, Rule}
+use Rattle.closing.proofs.Searches.{lowest-in}
 use Rattle.writer.specs.Steps.{tabledBy, tabled, newOn, newOff, Does}
 use Rattle.writer.specs.declared.step.Step.{Step}
 
@@ -66,6 +67,16 @@ module _ (s : List ℕ) (h : Shape) (e : ReadAs s h) (n : h .atoms < 256) (on of
       (is-blocked-blocked s h e n r (in-shape s h e r l) (lent on off) headed f))
 
 -- ---- 45
+
+-- a rule that was found in both sets, and none
+module _ (b : Book) {n : ℕ} (e : count b ≡ n) (c : Pair) {x : Picked} (f : picked x ≡ lowestFrom 0 n (inBoth c)) where
+  pub clash-found : {r : RuleNo} → x ≡ Rule r → true ≡ clashing b c
+  unfolding clashed
+  clash-found q = sym (clashed-clashing b c _ (sym (picked-one (lowest-in b e _ f) q)))
+
+  pub clash-none : x ≡ Nothing → false ≡ clashing b c
+  unfolding clashed
+  clash-none q = sym (clashed-none b c .0 (sym (picked-none (lowest-in b e _ f) q)))
 
 -- place i of a table, which is that of the claimed atom
 module _ (k : Claim) (headed lost : List Bool) (i : ℕ) (e : i ≡ k .atom .0) where

@@ -21,7 +21,7 @@ use Rattle.meaning.specs.Paper.{Keeps}
 use Rattle.meaning.specs.Told.{Told, success, refusedWith, refusedAt, refused, fewer, stopped, Answered}
 use Rattle.meaning.proofs.Tests.{clash}
 use Rattle.walk.specs.Readings.{readings}
-use Rattle.walk.specs.Tries.{Kth, to-reading, to-end}
+use Rattle.walk.specs.Tries.{Kth, to-reading, to-end, lastClash}
 use Rattle.walk.specs.Tries.{Needs as NeedsTries}
 use Rattle.walk.proofs.Needs.{kth-one}
 use Rattle.walk.proofs.Needs.{needs-one as tries-one}
@@ -81,12 +81,13 @@ module _ (b : Book) (k : Claim) (limit : ℕ) (buffer : List ℕ) where
     write-first-stopped p h = way-first-stopped b k limit buffer good p h
 
     module _ {n : ℕ} (tries : NeedsTries b 1 n) (within : n ≤ limit) where
-      -- "otherwise 11 exactly if there is no answer set", with all tries of that walk
-      pub write-none : (writeIn b k limit buffer .told ≡ fewer n 0) ↔ ((x : Atoms) → AnswerSet b x → ⊥)
+      -- "otherwise 11 exactly if there is no answer set", with all tries of that walk and the rule that clashed last in it
+      pub write-none : (writeIn b k limit buffer .told ≡ fewer n 0 (lastClash b)) ↔ ((x : Atoms) → AnswerSet b x → ⊥)
       unfolding Says
       write-none = (λ e. fewer-none b (good .few-rules) (says e), back tries within)
         where
-          back : {n : ℕ} → NeedsTries b 1 n → n ≤ limit → ((x : Atoms) → AnswerSet b x → ⊥) → writeIn b k limit buffer .told ≡ fewer n 0
+          back : {n : ℕ} → NeedsTries b 1 n → n ≤ limit → ((x : Atoms) → AnswerSet b x → ⊥)
+              → writeIn b k limit buffer .told ≡ fewer n 0 (lastClash b)
           back (to-reading {x = x} first) h none = absurd (none x (kth-answer b (good .few-rules) first))
           back (to-end f) h none = told-by (way-no-reading b k limit buffer good f h)
 
@@ -172,10 +173,11 @@ module _ (b : Book) (k : Claim) (limit : ℕ) (buffer : List ℕ) where
 
     -- where the claim holds throughout, the answer is never 11 and never 12 or 18
     pub write-certain : Throughout b (meant k)
-        → ((t n : ℕ) → writeIn b k limit buffer .told ≡ fewer t n → ⊥) × (writeIn b k limit buffer .told ≡ refused (lacking (k .kind)) → ⊥)
+        → ((t n r : ℕ) → writeIn b k limit buffer .told ≡ fewer t n r → ⊥)
+        × (writeIn b k limit buffer .told ≡ refused (lacking (k .kind)) → ⊥)
     unfolding Says
     write-certain c = (
-      λ t n e. fewer-none b (good .few-rules) (says e) (c .one .0) (c .one .1),
+      λ t n r e. fewer-none b (good .few-rules) (says e) (c .one .0) (c .one .1),
       λ e. let (x, answer, n) = write-lacks e in clash (c .each x answer) n,
     )
 

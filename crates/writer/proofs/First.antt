@@ -14,7 +14,7 @@ use Rattle.meaning.proofs.Choice.{lt-no, eq-no}
 use Rattle.meaning.proofs.LeastModel.{Inside}
 use Rattle.walk.specs.Events.{events}
 use Rattle.walk.specs.Readings.{readingsIn, readings}
-use Rattle.walk.specs.Tries.{Kth, Needs}
+use Rattle.walk.specs.Tries.{Kth, Needs, lastClash}
 use Rattle.walk.specs.Run.{rowOf, State}
 use Rattle.walk.specs.Find.{set, toldBy, answeredBy, findIn}
 use Rattle.walk.specs.Page.{setIn}
@@ -84,11 +84,12 @@ module _ (b : Book) where
     told-full Full s t e = refl
     told-full Limit s t e = kinds cc
 
-    told-going : (h : Halt) (s : State) (t n : ℕ) → toldBy h s limit ≡ fewer t n → (h ≡ Going) × (s .tally .tries ≡ t)
+    told-going : (h : Halt) (s : State) (t n r : ℕ) → toldBy h s limit ≡ fewer t n r
+        → (h ≡ Going) × (s .tally .tries ≡ t) × (s .tally .clash .0 ≡ r)
     unfolding toldBy
-    told-going Going s t n e = (refl, cc)
-    told-going Full s t n e = kinds cc
-    told-going Limit s t n e = kinds cc
+    told-going Going s t n r e = (refl, cc, cc)
+    told-going Full s t n r e = kinds cc
+    told-going Limit s t n r e = kinds cc
 
     module _ (few : b .atoms ≤ 255) where
       abbrev walked : State
@@ -106,8 +107,9 @@ module _ (b : Book) where
 
       pub first-none : length (readings b) < 1 → length (events b nothing) ≤ limit
           → (firstWalk b limit .tally .halt ≡ Going) × (firstWalk b limit .tally .tries ≡ length (events b nothing))
+          × (firstWalk b limit .tally .clash .0 ≡ lastClash b)
       first-none p h =
-          told-going _ walked _ _ (told-as (find-fewer b 1 limit (zeros 255) (omega arith) few _ _ .1 (p, refl, refl, h)))
+          told-going _ walked _ _ _ (told-as (find-fewer b 1 limit (zeros 255) (omega arith) few _ _ _ .1 (p, refl, refl, refl, h)))
 
       pub first-found : {t : ℕ} {x : Atoms} → Kth b 1 t x → t ≤ limit
           → (firstWalk b limit .tally .halt ≡ Full) × (firstWalk b limit .out ≡ rowOf b x ++ drop (b .atoms) (replicate 255 0))

@@ -2,6 +2,7 @@
 use mathlib.Core.Path.{_≡_, refl, ap}
 use mathlib.Core.List.{List, [], _∷_, _++_}
 use lib.ListN.{getD, replicate}
+use Rattle.meaning.specs.Books.{ruleNo}
 use Rattle.meaning.specs.Told.{Told}
 use Rattle.meaning.proofs.Told.{valuesAgain, again, one-again}
 use Rattle.book.proofs.Told.{refusalAt, refusal-again}
@@ -14,12 +15,12 @@ abbrev refusals : List Named
 refusals = replicate 12 NoAtom ++ (NotCertain ∷ NoAtom ∷ TooLong ∷ (replicate 3 NoAtom ++ (NotClear ∷ [])))
 
 abbrev namedAt : Told Handed → Named
-namedAt = again (λ s. Paper (s .tries) (s .size)) (valuesAgain NoAtom Stopped (λ tries sets. Fewer tries))
+namedAt = again (λ s. Paper (s .tries) (s .size)) (valuesAgain NoAtom Stopped (λ tries sets rule. Fewer tries (ruleNo rule)))
     (λ number at. Book (refusalAt number at)) (λ number. getD refusals number NoAtom)
 
 named-again : (x : Named) → namedAt (told x) ≡ x
 named-again (Paper tries length) = refl
-named-again (Fewer tries) = refl
+named-again (Fewer tries rule) = refl
 named-again (Stopped limit) = refl
 named-again (Book f) = ap Book (refusal-again f)
 named-again NotCertain = refl

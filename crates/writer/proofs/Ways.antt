@@ -21,7 +21,7 @@ use Rattle.meaning.proofs.LeastModel.{Proper, answer-inside}
 use Rattle.book.specs.Writing.{Fits}
 use Rattle.walk.specs.Events.{events}
 use Rattle.walk.specs.Readings.{readings}
-use Rattle.walk.specs.Tries.{Kth, to-reading, to-end}
+use Rattle.walk.specs.Tries.{Kth, to-reading, to-end, lastClash}
 use Rattle.walk.specs.Tries.{Needs as NeedsTries}
 use Rattle.walk.specs.Page.{setIn}
 use Rattle.walk.specs.declared.tally.Halt.the-variants.{Full}
@@ -72,7 +72,7 @@ TooLong b k buffer x = (length buffer < length (paperFor b k x)) ⊎ (60000 < le
 module _ (b : Book) (k : Claim) (limit : ℕ) (buffer : List ℕ) where
   pub data Outcome : Answered Handed → Type 0 where
     first-stopped : {n : ℕ} → NeedsTries b 1 n → limit < n → Outcome (only buffer (stopped limit))
-    no-reading : length (readings b) < 1 → length (events b nothing) ≤ limit → Outcome (only buffer (fewer (length (events b nothing)) 0))
+    no-reading : length (readings b) < 1 → length (events b nothing) ≤ limit → Outcome (only buffer (fewer (length (events b nothing)) 0 (lastClash b)))
     paper-stopped : {x : Atoms} {n : ℕ} → Found b limit x → Needs b k n → limit < n → Outcome (only buffer (stopped limit))
     got-stuck : {x : Atoms} {n : ℕ} → Found b limit x → Stuck b k n → n ≤ limit → Outcome (only buffer (refused (lacking (k .kind))))
     too-long : {x : Atoms} → Found b limit x → Settled b k limit → TooLong b k buffer x → Outcome (only buffer (refused 14))
@@ -90,10 +90,10 @@ module _ (b : Book) (k : Claim) (limit : ℕ) (buffer : List ℕ) where
     way-first-stopped p h = lt-yes _ _ _ _ (good .atom-below) ∙ rw (first-limited b limit (good .few-atoms) p h)
 
     pub way-no-reading : length (readings b) < 1 → length (events b nothing) ≤ limit
-        → writeIn b k limit buffer ≡ only buffer (fewer (length (events b nothing)) 0)
+        → writeIn b k limit buffer ≡ only buffer (fewer (length (events b nothing)) 0 (lastClash b))
     unfolding writeIn afterFirstWalk
     way-no-reading p h =
-        let (e, t) = first-none b limit (good .few-atoms) p h in lt-yes _ _ _ _ (good .atom-below) ∙ rw (e, t)
+        let (e, t, c) = first-none b limit (good .few-atoms) p h in lt-yes _ _ _ _ (good .atom-below) ∙ rw (e, t, c)
 
     module _ {x : Atoms} (found : Found b limit x) where
       ended : (firstWalk b limit .tally .halt ≡ Full) × (setIn (firstWalk b limit .out) ≡ x)

@@ -45,7 +45,7 @@ paper tries size = success (record { tries = tries; size = size })
 -- 11 tells all tries of the first walk, and that there are no sets
 abbrev pub told : Named → Told Handed
 told (Paper tries size) = paper tries size
-told (Fewer tries) = fewer tries 0
+told (Fewer tries rule) = fewer tries 0 (rule .0)
 told (Stopped limit) = stopped limit
 told (BadBook f) = refusedAt (numberOf f) (placeOf f)
 told NotCertain = refused 12
@@ -78,7 +78,7 @@ afterPaperWalk limited b k limit p row buffer = record { told = stopped limit; b
 afterPaperWalk refuted b k limit p row buffer = record { told = refused (lacking (k .kind)); buffer = buffer }
 
 unfoldable pub afterFirstWalk : Halt → Book → Claim → ℕ → State → List ℕ → Answered Handed
-afterFirstWalk Going b k limit s buffer = record { told = fewer (s .tally .tries) 0; buffer = buffer }
+afterFirstWalk Going b k limit s buffer = record { told = fewer (s .tally .tries) 0 (s .tally .clash .0); buffer = buffer }
 afterFirstWalk Full b k limit s buffer =
     let p = paperWalk b k limit in afterPaperWalk (p .course) b k limit p (s .out) buffer
 afterFirstWalk Limit b k limit s buffer = record { told = stopped limit; buffer = buffer }

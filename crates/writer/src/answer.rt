@@ -4,12 +4,14 @@ ghost use Rattle.meaning.specs.Told.{refused};
 ghost use Rattle.writer.specs.Write.{told, lacking};
 use book::Refusal;
 use meaning::Kind;
+use meaning::RuleNo;
 
 pub enum Named {
     // The paper stands in the buffer: the tries of its walk, and its length.
     Paper(u32, usize),
-    // 11: no reading; all tries of the walk to the first one.
-    Fewer(u32),
+    // 11: no reading; all tries of the walk to the first one, and the rule of the last
+    // contradictory try.
+    Fewer(u32, RuleNo),
     // 9: more than this many tries are needed.
     Stopped(u32),
     // 1 to 7: the book is refused.

@@ -34,7 +34,10 @@ fn write_in(book: &[u8], shape: Shape, claim: Claim, limit: u32, paper: &mut [u8
     let reading = first(book, shape, limit, &mut row);
     let halt = reading.halt;
     match halt {
-        Halt::Going => return Named::Fewer(reading.tries),
+        Halt::Going => {
+            let rule = reading.clash;
+            return Named::Fewer(reading.tries, rule);
+        }
         Halt::Limit => return Named::Stopped(limit),
         Halt::Full => {}
     }

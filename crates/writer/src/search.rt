@@ -3,14 +3,14 @@
 ghost use mathlib.Core.Path.{_≡_};
 ghost use Rattle.meaning.specs.Lowest.{lowest};
 ghost use Rattle.book.specs.Format.{bookIn, ReadAs};
-ghost use Rattle.walk.specs.Picked.{picked};
+ghost use Rattle.closing.specs.Picked.{picked};
 ghost use Rattle.writer.specs.Steps.{newOn, newOff};
 use book::Shape;
 use book::goes_on;
 use book::is_blocked;
 use book::wide;
+use closing::Picked;
 use meaning::RuleNo;
-use walk::Picked;
 
 // 41: the lowest rule that may go on and isn't on.
 pub fn lowest_on<'a>(

@@ -1,6 +1,7 @@
 // The next step of the engine's own paper, on the colouring as it stands. Nothing is changed.
 ghost use mathlib.Core.Path.{_≡_};
 ghost use Prim.Native.Nat.{_<_};
+ghost use Rattle.meaning.specs.Colours.{clashing};
 ghost use Rattle.meaning.specs.Claim.{claimed};
 ghost use Rattle.meaning.specs.Written.{lent};
 ghost use Rattle.meaning.specs.Engine.{next};
@@ -13,12 +14,12 @@ use book::Shape;
 use book::heads_of;
 use book::lost_in;
 use book::wide;
+use closing::Picked;
+use closing::lowest_clash;
 use meaning::Claim;
 use meaning::Colouring;
 use meaning::Kind;
 use meaning::RuleNo;
-use walk::Picked;
-use walk::clashes;
 use walk::lowest_uncoloured;
 
 // A step that the branch goes on after, or what it stops by.
@@ -38,6 +39,18 @@ pub enum Tip {
     Parted(RuleNo),
     // No step is left, every rule has a colour, and 45 isn't allowed.
     Unsettled,
+}
+
+// Some rule is in both sets.
+fn is_clashing<'a>(book: &[u8], shape: Shape, on: &'a [bool; 255], off: &'a [bool; 255]) -> bool
+    requires { ⌜ ReadAs (now book) shape ⌝ }
+    ensures { λ r. ⌜ r ≡
+        clashing (bookIn (now (book .entry))) (lent (now (on .entry)) (now (off .entry))) ⌝ }
+{
+    match lowest_clash(shape.rules, on, off) {
+        Picked::Nothing => false,
+        Picked::Rule(_) => true,
+    }
 }
 
 // What the tables say of the claimed atom: the head of an on rule, or of off rules only.
@@ -72,7 +85,7 @@ pub fn next_step<'a>(
         (next (bookIn (now (book .entry))) claim
         (lent (now (on .entry)) (now (off .entry)))) ⌝ }
 {
-    if clashes(shape.rules, on, off) {
+    if is_clashing(book, shape, on, off) {
         return Step::Stops(Tip::Ended);
     }
     let mut headed = [false; Colouring::ATOMS];

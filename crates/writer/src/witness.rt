@@ -11,7 +11,7 @@ ghost use Rattle.meaning.specs.Written.{of};
 ghost use Rattle.book.specs.Format.{bookIn, ReadAs};
 ghost use Rattle.book.specs.Tables.{atomTable};
 ghost use Rattle.walk.specs.Page.{setIn};
-ghost use Rattle.walk.specs.Picked.{picked};
+ghost use Rattle.closing.specs.Picked.{picked};
 ghost use Rattle.writer.specs.Draft.{Writes};
 ghost use Rattle.writer.specs.Steps.{mayList};
 use crate::draft::write;
@@ -20,9 +20,9 @@ use book::every_in;
 use book::heads_of;
 use book::positives;
 use book::wide;
+use closing::Picked;
 use meaning::Colouring;
 use meaning::RuleNo;
-use walk::Picked;
 use walk::generates;
 
 // How many rules the witness lists, and the draft's length behind it.

@@ -10,10 +10,11 @@ use borrow.Author.Needs.{needs}
 use Rattle.meaning.specs.Books.{Book}
 use Rattle.meaning.proofs.Written.{Sized}
 use Rattle.book.specs.Format.{bookIn}
+use Rattle.book.proofs.Places.{shape-count}
 use Rattle.closing.specs.Growing.{Condition, Pass}
 use Rattle.closing.proofs.Good.{Good, Asks, good-asks}
 use Rattle.closing.proofs.Growing.{room, pass-less, pass-no-more}
-use Rattle.closing.proofs.Closed.{Closes, closes-start, closes-on, closes-off, closes-end}
+use Rattle.closing.proofs.Closed.{Closes, closes-start, closes-on, closes-off, closes-end, clash-end}
 use Rattle.closing.proofs.close.Statement.{statement}
 use Rattle.closing.proofs.close.Tie as tie
 
@@ -83,13 +84,15 @@ grow-off-requires c κs =
 
 returns : tie.Need-returns Inv-loop μ-loop
 returns c =
-    let d = c .before .before in
+    let t = c .before .before .before in
+    let d = t .before .before in
     let p = first d .pass-on .ensures in
     let q = d .grow-off .ensures in
-    let x = not-true (first d .pass-on .result) (c .before .if1 .taken) in
-    let y = not-true (d .grow-off .result) (c .if2 .taken) in
-    closes-end _ (asks d) (entry d .args .c) (start-good (entry d) .1) (begun d .loop .inv) (tested x (p .0)) (p .1) (tested y (q .0))
-    (q .1) (q .2)
+    let x = not-true (first d .pass-on .result) (t .before .if1 .taken) in
+    let y = not-true (d .grow-off .result) (t .if2 .taken) in
+    let e = closes-end _ (asks d) (entry d .args .c) (start-good (entry d) .1) (begun d .loop .inv) (tested x (p .0)) (p .1) (tested y (q .0))
+    (q .1) (q .2) in
+    (e, clash-end _ _ (shape-count _ _ (entry d .pre)) e (c .lowest-clash .ensures))
 
 -- a pass that adds a rule leaves fewer, and the other pass no more
 loop-less : tie.Need-loop-less Inv-loop μ-loop
@@ -121,4 +124,4 @@ loop-again-2 c =
 pub close-spec : {M : Type 1} → statement M
 close-spec =
     tie.close (tie.spec Inv-loop μ-loop (λ c κs. search needs) (λ c κs. search needs) (λ c κs. search needs) loop-holds
-    pass-on-requires grow-off-requires returns loop-less loop-again loop-less-2 loop-again-2)
+    pass-on-requires grow-off-requires (λ c κs. search needs) returns loop-less loop-again loop-less-2 loop-again-2)

@@ -1,11 +1,14 @@
 -- Resuming meets its contract: each return is one way of the laws in Walking, with what the calls on that way said. The measure is the
 -- number of rules without a colour: each side of a fork has fewer.
+use mathlib.Core.Path.{_≡_}
 use Prim.Native.Nat.{ℕ, _<_}
 use borrow.Author.Needs.{needs}
 use borrow.Author.Tests.{not-true, not-false}
 use borrow.Fn.Kinds.{In}
 use borrow.Fn.PlainCycle.{Measures, is, falls, and}
 use Rattle.meaning.specs.Colours.{onSide, offSide}
+use Rattle.meaning.specs.Written.{pair}
+use Rattle.meaning.specs.Lowest.{none, clashed}
 use Rattle.meaning.proofs.Written.{Sized}
 use Rattle.book.specs.Format.{bookIn}
 use Rattle.book.proofs.Places.{in-shape}
@@ -19,7 +22,6 @@ use Rattle.walk.proofs.resume.+resume.Lts-resume as lts
 use Rattle.closing.proofs.close.Reads as close-reads
 use Rattle.meaning.proofs.colouring.Colouring.with_off.Reads as with-off-reads
 use Rattle.meaning.proofs.colouring.Colouring.with_on.Reads as with-on-reads
-use Rattle.walk.proofs.colours.clashes.Reads as clashes-reads
 use Rattle.walk.proofs.colours.lowest_uncoloured.Reads as lowest-uncoloured-reads
 use Rattle.walk.proofs.resume.generates.Reads as generates-reads
 use Rattle.walk.proofs.walk.walk.Reads as walk-reads
@@ -41,8 +43,6 @@ module _ (t : ℕ) where
   calls = (
     close-reads.Asked,
     close-reads.Learnt,
-    clashes-reads.Asked,
-    clashes-reads.Learnt,
     lowest-uncoloured-reads.Asked,
     lowest-uncoloured-reads.Learnt,
     generates-reads.Asked,
@@ -67,16 +67,19 @@ module _ (t : ℕ) where
     abbrev start : lts.Start calls here resume.Post
     start = c .before .before .before .before
 
-    closes : Closes (bookIn (start .args .book .now)) (start .args .c) (c .close .result)
-    closes = record { few = few _ _ (start .pre .1 .0) (search needs); sized = sized start; closed = c .close .ensures }
-
-  -- behind the search for a contradiction
-  abbrev closing : lts.After-clashes calls here resume.Post → lts.After-close calls here resume.Post
-  closing c = c .before .before .before .before
+    closes : Closes (bookIn (start .args .book .now)) (start .args .c) (c .close .result .colours)
+    closes = record { few = few _ _ (start .pre .1 .0) (search needs); sized = sized start; closed = c .close .ensures .0 }
 
   -- behind the search for a rule to choose: there was no contradiction
-  abbrev calm : lts.After-lowest-uncoloured calls here resume.Post → lts.Else1 calls here resume.Post
-  calm c = c .before .before .before .before
+  module _ (c : lts.After-lowest-uncoloured calls here resume.Post) where
+    abbrev quiet : lts.After-enum-told2 calls here resume.Post
+    quiet = c .before .before .before .before .before
+
+    abbrev closing : lts.After-close calls here resume.Post
+    closing = quiet .before .before
+
+    calm : clashed (bookIn (start closing .args .book .now)) (pair (closing .close .result .colours)) ≡ none
+    calm = clash-told (closes closing) (closing .close .ensures .1) (quiet .enum-told2 .given .1)
 
   -- where there is such a rule
   module _ (c : lts.After-known-told calls here resume.Post) where
@@ -84,15 +87,14 @@ module _ (t : ℕ) where
     searched = c .before .before .before
 
     abbrev closed : lts.After-close calls here resume.Post
-    closed = closing (calm searched .before)
+    closed = closing searched
 
     abbrev first : lts.Start calls here resume.Post
     first = start closed
 
-    forks : Forks (bookIn (first .args .book .now)) (first .args .c) (closed .close .result) (c .before .r .given .0 .0)
+    forks : Forks (bookIn (first .args .book .now)) (first .args .c) (closed .close .result .colours) (c .before .r .given .0 .0)
     forks =
-        forks-told _ _ (first .pre .1 .0) (closes closed) (calm searched .before .clashes .ensures) (calm searched .if1 .left)
-        (searched .lowest-uncoloured .ensures) (c .before .r .given .1)
+        forks-told _ _ (first .pre .1 .0) (closes closed) (calm searched) (searched .lowest-uncoloured .ensures) (c .before .r .given .1)
 
   -- after the way with that rule on
   module _ (c : lts.After-resume2 calls here resume.Post) where
@@ -110,17 +112,15 @@ module _ (t : ℕ) where
 
   returns : lts.Need-returns calls here resume.Post
   returns c =
-      let k = closing (c .before) in
-      resume-clash _ _ _ _ _ (closes k) (clash-told _ _ (start k .pre .1 .0) _ _ (c .before .clashes .ensures) (c .if1 .taken))
+      let k = c .before .before in
+      resume-clash _ _ _ _ _ (closes k) (clash-told (closes k) (k .close .ensures .1) (c .enum-told .given .1))
 
   returns-2 : lts.Need-returns-2 calls here resume.Post
   returns-2 c =
       let p = c .before .before in
-      let q = calm p in
-      let k = closing (q .before) in
-      resume-reading _ _ _ _ _ (closes k)
-      (clash-told _ _ (start k .pre .1 .0) _ _ (q .before .clashes .ensures) (q .if1 .left))
-      (lowest-told _ _ (start k .pre .1 .0) _ _ (p .lowest-uncoloured .ensures) (c .enum-told .given .1))
+      let k = closing p in
+      resume-reading _ _ _ _ _ (closes k) (calm p)
+      (lowest-told _ _ (start k .pre .1 .0) _ _ (p .lowest-uncoloured .ensures) (c .enum-told3 .given .1))
 
   generates-requires : lts.Need-generates-requires calls here resume.Post
   generates-requires c κs = let s = first c .pre .1 .0 in (s, in-shape _ _ s _ (fork-in-book (forks c)))
@@ -137,7 +137,7 @@ module _ (t : ℕ) where
   returns-3 c =
       let y = c .before .before .before .before in
       let g = y .before .before in
-      resume-off _ _ _ _ _ (forks (g .before)) (g .generates .ensures) (not-true _ (y .before .if2 .taken)) (y .with-off .ensures)
+      resume-off _ _ _ _ _ (forks (g .before)) (g .generates .ensures) (not-true _ (y .before .if1 .taken)) (y .with-off .ensures)
       (c .before .before .resume .ensures)
 
   with-on-requires : lts.Need-with-on-requires calls here resume.Post
@@ -162,11 +162,11 @@ module _ (t : ℕ) where
       let z = c .before .before .before .before in
       let w = resumed z in
       let y = chosen-on w in
-      resume-on _ _ _ _ _ (forks (forked w)) (y .before .before .generates .ensures) (not-false _ (y .before .if2 .left))
+      resume-on _ _ _ _ _ (forks (forked w)) (y .before .before .generates .ensures) (not-false _ (y .before .if1 .left))
       (y .with-on .ensures) (w .resume2 .ensures) (z .with-off2 .ensures) (c .before .before .walk .ensures)
 
 pub +resume-spec : {M : Type 1} → statement M
 +resume-spec = close μ-resume λ t. lts.spec (calls t) (here t) resume.Post
-    (λ c κs. search needs) (λ c κs. search needs) (returns t) (λ c κs. search needs) (λ c. search needs) (λ c. search needs)
-    (returns-2 t) (generates-requires t) (with-off-requires t) (resume-requires t) (λ c. search needs) (returns-3 t)
+    (λ c κs. search needs) (λ c. search needs) (returns t) (λ c. search needs) (λ c κs. search needs) (λ c. search needs)
+    (λ c. search needs) (returns-2 t) (generates-requires t) (with-off-requires t) (resume-requires t) (λ c. search needs) (returns-3 t)
     (with-on-requires t) (resume-requires-2 t) (with-off-requires-2 t) (walk-requires t) (λ c. search needs) (returns-4 t)

@@ -6,6 +6,8 @@ use borrow.Author.Needs.{needs}
 use borrow.Fn.Kinds.{In}
 use borrow.Fn.PlainCycle.{Measures, is, falls, and}
 use Rattle.meaning.specs.Colours.{onSide, offSide}
+use Rattle.meaning.specs.Written.{pair}
+use Rattle.meaning.specs.Lowest.{none, clashed}
 use Rattle.meaning.proofs.Written.{Sized}
 use Rattle.book.specs.Format.{bookIn}
 use Rattle.closing.specs.Left.{left}
@@ -19,9 +21,9 @@ use Rattle.walk.proofs.walk.+walk.Lts-walk as lts
 use Rattle.closing.proofs.close.Reads as close-reads
 use Rattle.meaning.proofs.colouring.Colouring.with_off.Reads as with-off-reads
 use Rattle.meaning.proofs.colouring.Colouring.with_on.Reads as with-on-reads
-use Rattle.walk.proofs.colours.clashes.Reads as clashes-reads
 use Rattle.walk.proofs.colours.lowest_uncoloured.Reads as lowest-uncoloured-reads
 use Rattle.walk.proofs.meet.meet.Reads as meet-reads
+use Rattle.walk.proofs.tally.Tally.clashed.Reads as clashed-reads
 use Rattle.walk.proofs.tally.Tally.tried.Reads as tried-reads
 use Rattle.walk.proofs.walk.+walk.{statement}
 use Rattle.walk.proofs.walk.+walk.Tie.{close}
@@ -41,14 +43,14 @@ module _ (t : ℕ) where
   calls = (
     close-reads.Asked,
     close-reads.Learnt,
-    clashes-reads.Asked,
-    clashes-reads.Learnt,
-    tried-reads.Asked,
-    tried-reads.Learnt,
+    clashed-reads.Asked,
+    clashed-reads.Learnt,
     lowest-uncoloured-reads.Asked,
     lowest-uncoloured-reads.Learnt,
     meet-reads.Asked,
     meet-reads.Learnt,
+    tried-reads.Asked,
+    tried-reads.Learnt,
     with-on-reads.Asked,
     with-on-reads.Learnt,
     below,
@@ -67,42 +69,44 @@ module _ (t : ℕ) where
     abbrev start : lts.Start calls here walk.Post
     start = c .before .before .before .before .before .before .before
 
-    closes : Closes (bookIn (start .args .book .now)) (start .args .c) (c .close .result)
-    closes = record { few = few _ _ (start .pre .1 .0) (search needs); sized = sized start; closed = c .close .ensures }
+    closes : Closes (bookIn (start .args .book .now)) (start .args .c) (c .close .result .colours)
+    closes = record { few = few _ _ (start .pre .1 .0) (search needs); sized = sized start; closed = c .close .ensures .0 }
 
     going : start .args .t .halt ≡ Going
     going = c .before .before .before .enum-told .given .1
 
-  -- behind the search for a contradiction
-  abbrev closing : lts.After-clashes calls here walk.Post → lts.After-close calls here walk.Post
-  closing c = c .before .before .before .before
-
   -- behind the search for a rule to choose: there was no contradiction
-  abbrev calm : lts.After-lowest-uncoloured calls here walk.Post → lts.Else2 calls here walk.Post
-  calm c = c .before .before .before .before
+  module _ (c : lts.After-lowest-uncoloured calls here walk.Post) where
+    abbrev quiet : lts.After-enum-told2 calls here walk.Post
+    quiet = c .before .before .before .before .before
+
+    abbrev closing : lts.After-close calls here walk.Post
+    closing = quiet .before .before
+
+    calm : clashed (bookIn (start closing .args .book .now)) (pair (closing .close .result .colours)) ≡ none
+    calm = clash-told (closes closing) (closing .close .ensures .1) (quiet .enum-told2 .given .1)
 
   -- where there is such a rule
-  module _ (c : lts.After-known-told calls here walk.Post) where
+  module _ (c : lts.After-known-told2 calls here walk.Post) where
     abbrev searched : lts.After-lowest-uncoloured calls here walk.Post
     searched = c .before .before .before
 
     abbrev closed : lts.After-close calls here walk.Post
-    closed = closing (calm searched .before)
+    closed = closing searched
 
     abbrev first : lts.Start calls here walk.Post
     first = start closed
 
-    forks : Forks (bookIn (first .args .book .now)) (first .args .c) (closed .close .result) (c .before .r .given .0 .0)
+    forks : Forks (bookIn (first .args .book .now)) (first .args .c) (closed .close .result .colours) (c .before .r .given .0 .0)
     forks =
-        forks-told _ _ (first .pre .1 .0) (closes closed) (calm searched .before .clashes .ensures) (calm searched .if2 .left)
-        (searched .lowest-uncoloured .ensures) (c .before .r .given .1)
+        forks-told _ _ (first .pre .1 .0) (closes closed) (calm searched) (searched .lowest-uncoloured .ensures) (c .before .r .given .1)
 
   -- after the walk with that rule on
   module _ (c : lts.After-walk calls here walk.Post) where
-    abbrev tried : lts.After-tried2 calls here walk.Post
+    abbrev tried : lts.After-tried calls here walk.Post
     tried = c .before .before .before
 
-    abbrev forked : lts.After-known-told calls here walk.Post
+    abbrev forked : lts.After-known-told2 calls here walk.Post
     forked = tried .before
 
   -- and with it put off
@@ -115,25 +119,22 @@ module _ (t : ℕ) where
   returns c = walk-ended _ _ _ _ (halted-told _ (c .match .keys2))
 
   returns-2 : lts.Need-returns-2 calls here walk.Post
-  returns-2 c = walk-stops _ _ _ _ (c .before .before .enum-told .given .1) (c .if1 .taken)
+  returns-2 c = walk-stops _ _ _ _ (c .before .before .before .enum-told .given .1) (c .before .if1 .taken)
 
   returns-3 : lts.Need-returns-3 calls here walk.Post
   returns-3 c =
-      let h = c .before .before in
-      let k = closing h in
+      let k = c .before .before .before .before in
       walk-clash _ _ _ _ (going k) (k .before .if1 .left) (closes k)
-      (clash-told _ _ (start k .pre .1 .0) _ _ (h .clashes .ensures) (c .before .if2 .taken)) (c .tried .ensures)
+      (clash-told (closes k) (k .close .ensures .1) (c .before .before .clash2 .given .1)) (c .clashed .ensures)
 
   returns-4 : lts.Need-returns-4 calls here walk.Post
   returns-4 c =
       let m = c .before .before in
       let n = m .before .before .before .before in
       let p = n .before .before in
-      let q = calm p in
-      let k = closing (q .before) in
-      walk-reading _ _ _ _ (going k) (k .before .if1 .left) (closes k)
-      (clash-told _ _ (start k .pre .1 .0) _ _ (q .before .clashes .ensures) (q .if2 .left))
-      (lowest-told _ _ (start k .pre .1 .0) _ _ (p .lowest-uncoloured .ensures) (n .enum-told2 .given .1)) (m .meet .ensures)
+      let k = closing p in
+      walk-reading _ _ _ _ (going k) (k .before .if1 .left) (closes k) (calm p)
+      (lowest-told _ _ (start k .pre .1 .0) _ _ (p .lowest-uncoloured .ensures) (n .enum-told3 .given .1)) (m .meet .ensures)
 
   with-on-requires : lts.Need-with-on-requires calls here walk.Post
   with-on-requires c κs = fork-low (forks (c .before))
@@ -144,7 +145,7 @@ module _ (t : ℕ) where
       let f = u .before in
       let s = first f .pre .1 in (
         side-falls (forks f) (first f .pre .0) onSide (c .before .with-on .ensures),
-        (s .0, room-tried (s .1) (going (closed f)) (u .tried2 .ensures)),
+        (s .0, room-tried (s .1) (going (closed f)) (u .tried .ensures)),
       )
 
   with-off-requires : lts.Need-with-off-requires calls here walk.Post
@@ -157,7 +158,7 @@ module _ (t : ℕ) where
       let f = forked w in
       let s = first f .pre .1 in (
         side-falls (forks f) (first f .pre .0) offSide (v .with-off .ensures),
-        (s .0, room-run (room-tried (s .1) (going (closed f)) (tried w .tried2 .ensures)) _ _ (w .walk .ensures)),
+        (s .0, room-run (room-tried (s .1) (going (closed f)) (tried w .tried .ensures)) _ _ (w .walk .ensures)),
       )
 
   returns-5 : lts.Need-returns-5 calls here walk.Post
@@ -166,12 +167,12 @@ module _ (t : ℕ) where
       let w = walked v in
       let f = forked w in
       let k = closed f in
-      walk-fork _ _ _ _ (going k) (k .before .if1 .left) (forks f) (tried w .tried2 .ensures) (w .before .before .with-on .ensures)
+      walk-fork _ _ _ _ (going k) (k .before .if1 .left) (forks f) (tried w .tried .ensures) (w .before .before .with-on .ensures)
       (w .walk .ensures) (v .with-off .ensures) (c .before .before .walk2 .ensures)
 
 pub +walk-spec : {M : Type 1} → statement M
 +walk-spec = close μ-walk λ t. lts.spec (calls t) (here t) walk.Post
-    (λ c. search needs) (returns t) (returns-2 t) (λ c κs. search needs) (λ c κs. search needs) (λ c κs. search needs)
-    (returns-3 t) (λ c κs. search needs) (λ c. search needs) (λ c. search needs) (λ c κs. search needs) (λ c. search needs)
+    (λ c. search needs) (returns t) (returns-2 t) (λ c κs. search needs) (λ c. search needs) (λ c κs. search needs)
+    (returns-3 t) (λ c. search needs) (λ c κs. search needs) (λ c. search needs) (λ c. search needs) (λ c κs. search needs) (λ c. search needs)
     (returns-4 t) (λ c κs. search needs) (with-on-requires t) (walk-requires t) (with-off-requires t) (walk-requires-2 t)
     (λ c. search needs) (returns-5 t)

@@ -42,8 +42,8 @@ module _ (c : tie.After-write-branches) where
 returns : tie.Need-returns
 unfolding firstWalk
 returns c =
-    let f = c .before .before in
-    write-fewer _ _ _ _ (in-book (start f)) (f .first .ensures) (c .enum-told .given .1)
+    let f = c .before .before .before in
+    write-fewer _ _ _ _ (in-book (start f)) (f .first .ensures) (c .before .enum-told .given .1)
 
 returns-2 : tie.Need-returns-2
 unfolding firstWalk

@@ -13,8 +13,8 @@ use Rattle.meaning.specs.Lowest.{Pick, lowest, none}
 use Rattle.meaning.specs.Engine.{less}
 use Rattle.book.specs.Format.{bookIn}
 use Rattle.book.proofs.Places.{shape-count}
-use Rattle.walk.specs.Picked.{picked}
-use Rattle.walk.proofs.Searches.{clash-in, lowest-in}
+use Rattle.closing.specs.Picked.{picked}
+use Rattle.closing.proofs.Searches.{lowest-in}
 use Rattle.writer.specs.Steps.{does-on, does-off, does-drop, does-end, does-split, does-nothing}
 use Rattle.writer.proofs.Choosing.{does-next, picked-one, picked-none, new-on-lowest, new-off-lowest}
 use Rattle.writer.proofs.Choosing.{ended-clash, ended-shown, not-ended}
@@ -66,10 +66,8 @@ module _ (c : tie.After-is-shown) where
 quiet : (c : tie.Else2) → let s = start (c .before) in ended (bookAt s) (claimAt s) (pairAt s) ≡ false
 quiet c =
     let asked = c .before in
-    let s = start asked in
-    let e = clash-in (bookAt s) (shape-count _ _ (s .pre .0)) _ _ (calm asked .before .clashes .ensures) in
-    not-ended _ _ _ _ _ _ (headed asked .heads-of .ensures) (lost asked .lost-in .ensures) (atom-small s) (asked .is-shown .ensures)
-    (sym e ∙ calm asked .if1 .left) (c .if2 .left)
+    not-ended _ _ _ _ _ _ (headed asked .heads-of .ensures) (lost asked .lost-in .ensures) (atom-small (start asked))
+    (asked .is-shown .ensures) (sym (calm asked .before .is-clashing .ensures) ∙ calm asked .if1 .left) (c .if2 .left)
 
 -- 41
 module _ (c : tie.After-lowest-on) where
@@ -123,10 +121,7 @@ is-shown-requires c κs = atom-small (c .before .before .before .before .before 
 -- ---- the returns
 
 returns : tie.Need-returns
-returns c =
-    let s = c .before .before .before in
-    let e = clash-in (bookAt s) (shape-count _ _ (s .pre .0)) _ _ (c .before .clashes .ensures) in
-    does-next (next-end _ _ _ (ended-clash _ _ _ _ (sym e ∙ c .if1 .taken))) does-end
+returns c = does-next (next-end _ _ _ (ended-clash _ _ _ _ (sym (c .before .is-clashing .ensures) ∙ c .if1 .taken))) does-end
 
 returns-2 : tie.Need-returns-2
 returns-2 c =
