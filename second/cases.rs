@@ -6,7 +6,9 @@ use crate::desk::{answer, hex, BAD_LINE};
 use crate::random::Random;
 use crate::worked::{worked_lines, Worked};
 use crate::{
-    cases_books, cases_clash, cases_clearing, cases_damage, cases_lines, cases_naming, cases_papers,
+    cases_aspif, cases_books, cases_choices, cases_clash, cases_clearing, cases_crews,
+    cases_damage, cases_levels, cases_lines, cases_lparse, cases_naming, cases_nomore,
+    cases_papers, cases_shown, cases_table,
 };
 use std::collections::{BTreeMap, BTreeSet};
 
@@ -14,7 +16,35 @@ const SEED: u64 = 20_240_607;
 const FEWEST_CASES: usize = 4_000;
 const MOST_TRIES: u64 = 300_000;
 
-pub const COMMANDS: [&str; 5] = ["find", "readings", "check", "name", "clear"];
+const COMMANDS: &[&str] = &[
+    "find", "readings", "check", "name", "clear", "levels", "levelsk", "shown", "nomore", "join",
+    "log", "table", "lparse", "aspif", "unaspif",
+];
+
+/// What a request adds, written here before the proved engine has it.
+struct Later {
+    /// Any of them brings its cases.
+    commands: &'static [&'static str],
+    /// The numbers of the table that it brings.
+    numbers: &'static [u8],
+    add: fn(&mut Cases),
+}
+
+const LATER: [Later; 8] = [
+    Later { commands: &["levels", "levelsk"], numbers: &[], add: cases_levels::add },
+    Later { commands: &["shown"], numbers: &[16], add: cases_shown::add },
+    Later { commands: &["nomore"], numbers: &[], add: cases_nomore::add },
+    Later { commands: &["join", "log"], numbers: &[17, 19], add: cases_crews::add },
+    Later { commands: &["table"], numbers: &[36], add: cases_table::add },
+    Later { commands: &["lparse"], numbers: &[30, 31, 32], add: cases_lparse::add },
+    Later { commands: &["lparse"], numbers: &[], add: cases_choices::add },
+    Later { commands: &["aspif", "unaspif"], numbers: &[33, 34, 35], add: cases_aspif::add },
+];
+
+/// What these commands bring, in its order.
+fn brought<'a>(commands: &'a [&'a str]) -> impl Iterator<Item = &'static Later> + 'a {
+    LATER.iter().filter(move |later| later.commands.iter().any(|c| commands.contains(c)))
+}
 
 struct Case {
     line: Vec<u8>,
@@ -82,6 +112,48 @@ impl Cases {
         self.ask(&format!("check {} {}", hex(book), hex(paper)))
     }
 
+    pub fn shown(&mut self, k: u64, limit: u64, room: usize, list: &[u8], book: &[u8]) -> String {
+        self.ask(&format!("shown {} {} {} {} {}", k, limit, room, hex(list), hex(book)))
+    }
+
+    pub fn nomore(&mut self, k: u64, limit: u64, room: usize, book: &[u8]) -> String {
+        self.ask(&format!("nomore {} {} {} {}", k, limit, room, hex(book)))
+    }
+
+    pub fn join(&mut self, room: usize, first: &[u8], second: &[u8]) -> String {
+        self.ask(&format!("join {} {} {}", room, hex(first), hex(second)))
+    }
+
+    pub fn log(&mut self, limits: [u64; 2], room: usize, first: &[u8], second: &[u8]) -> String {
+        let [one, two] = limits;
+        self.ask(&format!("log {} {} {} {} {}", one, two, room, hex(first), hex(second)))
+    }
+
+    pub fn table(&mut self, books: &[&[u8]]) -> String {
+        let words: String = books.iter().map(|book| format!(" {}", hex(book))).collect();
+        self.ask(&format!("table{}", words))
+    }
+
+    pub fn lparse(&mut self, room: usize, text: &[u8]) -> String {
+        self.ask(&format!("lparse {} {}", room, hex(text)))
+    }
+
+    pub fn aspif(&mut self, room: usize, book: &[u8]) -> String {
+        self.ask(&format!("aspif {} {}", room, hex(book)))
+    }
+
+    pub fn unaspif(&mut self, room: usize, text: &[u8]) -> String {
+        self.ask(&format!("unaspif {} {}", room, hex(text)))
+    }
+
+    pub fn levels(&mut self, book: &[u8]) -> String {
+        self.ask(&format!("levels {}", hex(book)))
+    }
+
+    pub fn levelsk(&mut self, k: u64, limit: u64, room: usize, book: &[u8]) -> String {
+        self.ask(&format!("levelsk {} {} {} {}", k, limit, room, hex(book)))
+    }
+
     pub fn readings(&mut self, book: &[u8]) -> String {
         self.ask(&format!("readings {}", hex(book)))
     }
@@ -89,6 +161,7 @@ impl Cases {
 
 /// The number of the table that an answer gives.
 fn number_of(text: &str) -> Option<u8> {
+    let text = text.trim_start_matches("book1 ").trim_start_matches("book2 ");
     let mut words = text.trim_end_matches('|').split(' ');
     match words.next() {
         Some("limit") => Some(9),
@@ -98,9 +171,9 @@ fn number_of(text: &str) -> Option<u8> {
     }
 }
 
-/// All cases of all commands, always the same. What a request adds comes behind what was there and
-/// draws from a seed of its own, so that the lines before it stay.
-fn all_cases() -> Cases {
+/// All cases of these commands and their requests, always the same. What a request adds comes behind
+/// what was there and draws from a seed of its own, so that the lines before it stay.
+fn all_cases(commands: &[&str]) -> Cases {
     let mut cases = Cases {
         list: Vec::new(),
         known: BTreeSet::new(),
@@ -117,14 +190,18 @@ fn all_cases() -> Cases {
     cases_lines::add(&mut cases);
     cases_clearing::add(&mut cases);
     cases_clash::add(&mut cases);
+    for later in brought(commands) {
+        (later.add)(&mut cases);
+    }
     cases_lines::add_last(&mut cases);
     cases
 }
 
-fn assert_covered(cases: &Cases) {
+fn assert_covered(cases: &Cases, commands: &[&str]) {
     assert!(cases.list.len() >= FEWEST_CASES, "{} cases", cases.list.len());
     assert!(cases.tries < MOST_TRIES, "{} tries", cases.tries);
-    for number in (1..=9).chain(11..=15).chain([18]).chain(20..=27) {
+    let later = brought(commands).flat_map(|later| later.numbers.iter().copied());
+    for number in (1..=9).chain(11..=15).chain([18]).chain(20..=27).chain(later) {
         assert!(cases.numbers.contains_key(&number), "number {} does not occur", number);
     }
     for kind in cases_lines::KINDS {
@@ -144,8 +221,8 @@ pub fn write(folder: &str, commands: &[&str]) -> Result<(), String> {
             return Err(format!("no command {} in desk", command));
         }
     }
-    let cases = all_cases();
-    assert_covered(&cases);
+    let cases = all_cases(commands);
+    assert_covered(&cases, commands);
     let wanted = |case: &&Case| {
         case.answer == BAD_LINE || commands.iter().any(|c| c.as_bytes() == command_of(case))
     };

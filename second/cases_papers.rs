@@ -53,7 +53,7 @@ pub fn every_place(cases: &mut Cases, book: &Book, claim: Claim) {
 pub fn papers_of(cases: &mut Cases, book: &Book, claim: Claim, random: &mut Random) {
     let bytes = book.write();
     let on = match find_set(book, 1, 1_000) {
-        Finding::Set(found) => found.on,
+        Finding::Set(found) => found.colouring.on,
         _ => return without_reading(cases, book, claim, random),
     };
     let split_once_in = 4 * book.rules.len();

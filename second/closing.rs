@@ -3,15 +3,60 @@
 use crate::book::{Book, Rule};
 use crate::numbers::{AtomSet, RuleNo, RuleSet};
 
+/// The pair of sets, how many choices were made so far, and for each coloured rule the number of
+/// choices made when it got its colour.
 #[derive(Clone, Copy, PartialEq, Eq, Debug)]
 pub struct Colouring {
     pub on: RuleSet,
     pub off: RuleSet,
+    level: u8,
+    levels: [u8; 256],
 }
 
 impl Colouring {
     pub fn empty() -> Colouring {
-        Colouring { on: RuleSet::none(), off: RuleSet::none() }
+        Colouring::of(RuleSet::none(), RuleSet::none())
+    }
+
+    /// A pair before any choice.
+    pub fn of(on: RuleSet, off: RuleSet) -> Colouring {
+        Colouring { on, off, level: 0, levels: [0; 256] }
+    }
+
+    pub fn coloured(&self) -> RuleSet {
+        self.on.union(&self.off)
+    }
+
+    pub fn level(&self) -> u8 {
+        self.level
+    }
+
+    pub fn level_of(&self, rule: RuleNo) -> u8 {
+        self.levels[rule.0 as usize]
+    }
+
+    /// The rule put on by choice, one level deeper.
+    pub fn choose_on(self, rule: RuleNo) -> Colouring {
+        self.deeper(rule).with_on(rule)
+    }
+
+    /// The rule put off by choice, one level deeper.
+    pub fn choose_off(self, rule: RuleNo) -> Colouring {
+        self.deeper(rule).with_off(rule)
+    }
+
+    fn deeper(mut self, chosen: RuleNo) -> Colouring {
+        self.level += 1;
+        self.levels[chosen.0 as usize] = self.level;
+        self
+    }
+
+    /// Gives this level to each rule that has a colour now and had none in `before`.
+    fn stamp(mut self, before: &Colouring) -> Colouring {
+        for r in self.coloured().minus(&before.coloured()).members() {
+            self.levels[r.0 as usize] = self.level;
+        }
+        self
     }
 
     pub fn contradicts(&self) -> bool {
@@ -111,7 +156,7 @@ pub fn close(book: &Book, start: &Colouring, part: Support) -> Colouring {
             closed.off = closed.off.union(&outside);
         }
         if closed == before {
-            return closed;
+            return closed.stamp(start);
         }
     }
 }

@@ -1,19 +1,30 @@
 // The line protocol of `desk`: one command a line, one line of answer each.
 
+use crate::aspif::{export, restore};
 use crate::book::{Book, Refusal};
 use crate::checker::check;
 use crate::claim::{certain, clear, Claim};
+use crate::crews::{join, log, Logged, NotJoined};
+use crate::levels::{find_levels, settle};
 use crate::listing::{write_readings, LISTING_LIMIT};
-use crate::numbers::RuleNo;
+use crate::lparse::import;
+use crate::nomore::find_nomore;
+use crate::numbers::{AtomSet, RuleNo, RuleSet};
 use crate::paper::{write_paper, Written};
-use crate::walk::{find, Finding};
+use crate::shown::find_shown;
+use crate::table::{table, File};
+use crate::walk::{find, Finding, Found};
 use std::fmt::Write as _;
-use std::io::{BufRead, Result, Write};
+use std::io::{self, BufRead, Write};
 
 pub const MOST_BOOK: usize = 16_384;
 pub const MOST_PAPER: usize = 65_536;
 pub const MOST_ROOM: u64 = 65_536;
+pub const MOST_SHOWN: usize = 4_096;
+pub const MOST_TEXT: usize = 65_536;
 pub const MOST_NUMBER: u64 = 4_294_967_295;
+/// The longest line: a `check` with the most of both.
+pub const MOST_LINE: usize = 7 + 2 * MOST_BOOK + 2 * MOST_PAPER;
 pub const BAD_LINE: &str = "bad line";
 
 /// An answer, and the tries of all walks that were made for it.
@@ -23,7 +34,7 @@ pub struct Answer {
 }
 
 /// Answers each line before the next is read. A last line without a line end is a line too.
-pub fn run(input: &mut dyn BufRead, out: &mut dyn Write) -> Result<()> {
+pub fn run(input: &mut dyn BufRead, out: &mut dyn Write) -> io::Result<()> {
     let mut line = Vec::new();
     loop {
         line.clear();
@@ -40,38 +51,70 @@ pub fn run(input: &mut dyn BufRead, out: &mut dyn Write) -> Result<()> {
 
 pub fn answer(line: &[u8]) -> Answer {
     let bad = || Answer { text: BAD_LINE.to_string(), tries: 0 };
+    if line.len() > MOST_LINE {
+        return bad();
+    }
     let words: Vec<&[u8]> = line.split(|byte| *byte == b' ').collect();
     let known = match (words[0], words.len()) {
-        (b"find", 5) => answer_find(&words),
+        (b"table", _) => answer_table(&words[1..]),
+        (b"find", 5) => answer_find(find, &words),
+        (b"nomore", 5) => answer_find(find_nomore, &words),
         (b"name", 5) => answer_paper(certain, &words),
         (b"clear", 5) => answer_paper(clear, &words),
         (b"check", 3) => answer_check(&words),
         (b"readings", 2) => answer_readings(&words),
+        (b"shown", 6) => answer_shown(&words),
+        (b"levels", 2) => answer_settled(&words),
+        (b"join", 4) => answer_join(&words),
+        (b"lparse", 3) => answer_made(import, &words),
+        (b"aspif", 3) => answer_aspif(&words),
+        (b"unaspif", 3) => answer_made(restore, &words),
+        (b"log", 6) => answer_log(&words),
+        (b"levelsk", 5) => answer_levels(&words),
         _ => None,
     };
     known.unwrap_or_else(bad)
 }
 
-fn answer_find(words: &[&[u8]]) -> Option<Answer> {
+/// One of the two engines: the book, K, L and the room.
+type Finder = fn(&Book, u64, u64, usize) -> Result<Finding, Refusal>;
+
+fn answer_find(finder: Finder, words: &[&[u8]]) -> Option<Answer> {
     let k = decimal(words[1], MOST_NUMBER)?;
     let limit = decimal(words[2], MOST_NUMBER)?;
     let room = decimal(words[3], MOST_ROOM)? as usize;
     let bytes = hexadecimal(words[4], MOST_BOOK)?;
-    Some(match Book::read(&bytes).and_then(|book| find(&book, k, limit, room)) {
+    Some(match Book::read(&bytes).and_then(|book| finder(&book, k, limit, room)) {
         Err(refusal) => refused(refusal, 0),
-        Ok(finding) => found_answer(finding, limit),
+        Ok(finding) => found_answer(finding, limit, &set_text),
     })
 }
 
-fn found_answer(finding: Finding, limit: u64) -> Answer {
+fn answer_shown(words: &[&[u8]]) -> Option<Answer> {
+    let k = decimal(words[1], MOST_NUMBER)?;
+    let limit = decimal(words[2], MOST_NUMBER)?;
+    let room = decimal(words[3], MOST_ROOM)? as usize;
+    let shown = hexadecimal(words[4], MOST_SHOWN)?;
+    let bytes = hexadecimal(words[5], MOST_BOOK)?;
+    Some(match Book::read(&bytes).and_then(|book| find_shown(&book, k, limit, &shown, room)) {
+        Err(refusal) => refused(refusal, 0),
+        Ok(finding) => found_answer(finding, limit, &set_text),
+    })
+}
+
+fn set_text(found: &Found) -> String {
+    format!("set {}{}", found.tries, spaced(found.set.members().map(|atom| atom.0)))
+}
+
+/// The numbers, each after a space.
+fn spaced(numbers: impl Iterator<Item = u8>) -> String {
+    numbers.map(|number| format!(" {}", number)).collect()
+}
+
+/// What was found, told by `tell`, or why nothing was.
+fn found_answer(finding: Finding, limit: u64, tell: &dyn Fn(&Found) -> String) -> Answer {
     match finding {
-        Finding::Set(found) => {
-            let mut text = format!("set {}", found.tries);
-            for atom in found.set.members() {
-                write!(text, " {}", atom.0).expect("a string takes all");
-            }
-            Answer { text, tries: found.tries }
-        }
+        Finding::Set(found) => Answer { text: tell(&found), tries: found.tries },
         Finding::Fewer { tries, sets, clash } => Answer { text: fewer(tries, sets, clash), tries },
         Finding::Limit => Answer { text: format!("limit {}", limit), tries: limit },
     }
@@ -104,6 +147,117 @@ fn answer_check(words: &[&[u8]]) -> Option<Answer> {
         Ok(claim) => Answer { text: format!("{} {}", claim.word(), claim.byte()), tries: 0 },
         Err(refusal) => refused(refusal, 0),
     })
+}
+
+fn answer_settled(words: &[&[u8]]) -> Option<Answer> {
+    let bytes = hexadecimal(words[1], MOST_BOOK)?;
+    let settled = match Book::read(&bytes) {
+        Ok(book) => settle(&book),
+        Err(refusal) => return Some(refused(refusal, 0)),
+    };
+    let rules = |set: &RuleSet| spaced(set.members().map(|rule| rule.0));
+    let atoms = |set: &AtomSet| spaced(set.members().map(|atom| atom.0));
+    let (on, off) = (rules(&settled.on), rules(&settled.off));
+    let (true_atoms, false_atoms) = (atoms(&settled.true_atoms), atoms(&settled.false_atoms));
+    let text = format!("levels on{} off{} true{} false{}", on, off, true_atoms, false_atoms);
+    Some(Answer { text, tries: 1 })
+}
+
+fn answer_levels(words: &[&[u8]]) -> Option<Answer> {
+    let k = decimal(words[1], MOST_NUMBER)?;
+    let limit = decimal(words[2], MOST_NUMBER)?;
+    let room = decimal(words[3], MOST_ROOM)? as usize;
+    let bytes = hexadecimal(words[4], MOST_BOOK)?;
+    let book = match Book::read(&bytes) {
+        Ok(book) => book,
+        Err(refusal) => return Some(refused(refusal, 0)),
+    };
+    let levels_text = |found: &Found| {
+        let levels = book.all_rules().members().map(|r| found.colouring.level_of(r));
+        format!("levels {}{}", found.tries, spaced(levels))
+    };
+    Some(match find_levels(&book, k, limit, room) {
+        Err(refusal) => refused(refusal, 0),
+        Ok(finding) => found_answer(finding, limit, &levels_text),
+    })
+}
+
+fn answer_join(words: &[&[u8]]) -> Option<Answer> {
+    let room = decimal(words[1], MOST_ROOM)? as usize;
+    let first = hexadecimal(words[2], MOST_BOOK)?;
+    let second = hexadecimal(words[3], MOST_BOOK)?;
+    Some(match join(&first, &second, room) {
+        Ok(joined) => Answer { text: format!("book {}", hex(&joined)), tries: 0 },
+        Err(trouble) => not_joined(trouble),
+    })
+}
+
+fn answer_log(words: &[&[u8]]) -> Option<Answer> {
+    let limits = [decimal(words[1], MOST_NUMBER)?, decimal(words[2], MOST_NUMBER)?];
+    let room = decimal(words[3], MOST_ROOM)? as usize;
+    let first = hexadecimal(words[4], MOST_BOOK)?;
+    let second = hexadecimal(words[5], MOST_BOOK)?;
+    let (logged, tries) = match log(&first, &second, limits, room) {
+        Ok(answer) => answer,
+        Err(trouble) => return Some(not_joined(trouble)),
+    };
+    let text = match logged {
+        Logged::Limit(limit) => format!("limit {}", limit),
+        Logged::Book { readings, joined } => {
+            let word = match readings {
+                [true, true] => "both",
+                [false, true] => "none-in-first",
+                [true, false] => "none-in-second",
+                [false, false] => "none-in-either",
+            };
+            format!("{} {}", word, hex(&joined))
+        }
+    };
+    Some(Answer { text, tries })
+}
+
+fn not_joined(trouble: NotJoined) -> Answer {
+    let (word, refusal) = match trouble {
+        NotJoined::First(refusal) => ("book1 ", refusal),
+        NotJoined::Second(refusal) => ("book2 ", refusal),
+        NotJoined::Together(number) => ("", Refusal::placeless(number)),
+    };
+    Answer { text: format!("{}{}", word, refused(refusal, 0).text), tries: 0 }
+}
+
+/// A reader of texts: the text and the room to a book.
+type Reader = fn(&[u8], usize) -> Result<Vec<u8>, Refusal>;
+
+fn answer_made(reader: Reader, words: &[&[u8]]) -> Option<Answer> {
+    let room = decimal(words[1], MOST_ROOM)? as usize;
+    let text = hexadecimal(words[2], MOST_TEXT)?;
+    Some(match reader(&text, room) {
+        Ok(book) => Answer { text: format!("book {}", hex(&book)), tries: 0 },
+        Err(refusal) => refused(refusal, 0),
+    })
+}
+
+fn answer_aspif(words: &[&[u8]]) -> Option<Answer> {
+    let room = decimal(words[1], MOST_ROOM)? as usize;
+    let book = hexadecimal(words[2], MOST_BOOK)?;
+    Some(match export(&book, room) {
+        Ok(text) => Answer { text: format!("text {}", hex(&text)), tries: 0 },
+        Err(refusal) => refused(refusal, 0),
+    })
+}
+
+/// Books, or `?` for a name that can't be opened.
+fn answer_table(words: &[&[u8]]) -> Option<Answer> {
+    let mut files = Vec::new();
+    for word in words {
+        files.push(match *word {
+            b"?" => File::Closed,
+            word => File::Bytes(hexadecimal(word, MOST_BOOK)?),
+        });
+    }
+    let (lines, tries) = table(&files, LISTING_LIMIT);
+    let text = lines.iter().map(|line| format!("{}|", line.join(" "))).collect();
+    Some(Answer { text, tries })
 }
 
 fn answer_readings(words: &[&[u8]]) -> Option<Answer> {

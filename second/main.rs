@@ -3,34 +3,57 @@
 // says from what else, and has the commands.
 
 mod altered;
+mod aspif;
 mod book;
 mod cases;
+mod cases_aspif;
 mod cases_bad;
 mod cases_books;
+mod cases_choices;
 mod cases_clash;
 mod cases_clearing;
+mod cases_crews;
 mod cases_damage;
+mod cases_levels;
 mod cases_lines;
+mod cases_lparse;
 mod cases_naming;
+mod cases_nomore;
 mod cases_papers;
+mod cases_shown;
+mod cases_table;
 mod checker;
 mod claim;
 mod clash;
 mod closing;
+mod crews;
 mod desk;
 mod forged;
 mod legal;
+mod levels;
 mod listing;
+mod lparse;
+mod lparse_meaning;
 mod meaning;
+mod nomore;
 mod numbers;
 mod paper;
 mod random;
 mod selftest;
+mod selftest_aspif;
 mod selftest_closing;
+mod selftest_crews;
+mod selftest_levels;
+mod selftest_lparse;
+mod selftest_nomore;
 mod selftest_papers;
+mod selftest_shown;
+mod selftest_table;
 mod selftest_words;
 mod shapes;
+mod shown;
 mod steps;
+mod table;
 mod walk;
 mod words;
 mod worked;
@@ -38,11 +61,13 @@ mod worked_requests;
 
 use std::fs;
 use std::io::{self, BufWriter, Read, Write};
+use std::os::unix::ffi::OsStrExt;
 use std::process::exit;
 
 const USAGE: &str = "usage:
   second desk                              commands on standard input, one line of answer each
   second readings                          all readings of the book on standard input
+  second table                             the quarterly table of the books named on standard input
   second cases FOLDER COMMAND...           writes FOLDER/stdin and FOLDER/stdout for desk
   second selftest                          the engine against the definition
   second book WORDSFILE BOOKFILE NAMESFILE rules in words to a book (`-`: standard input)
@@ -57,6 +82,7 @@ fn main() {
     let outcome = match words.as_slice() {
         ["desk"] => desk::run(&mut io::stdin().lock(), &mut io::stdout().lock()).map_err(told),
         ["readings"] => run_readings(),
+        ["table"] => run_table(),
         ["cases", folder, commands @ ..] if !commands.is_empty() => cases::write(folder, commands),
         ["selftest"] => selftest::run(),
         ["book", text, book, names] => run_book(text, book, names),
@@ -100,6 +126,43 @@ fn run_readings() -> Result<(), String> {
     let mut out = BufWriter::new(io::stdout());
     listing::write_readings(&bytes, listing::LISTING_LIMIT, &mut out).map_err(told)?;
     out.flush().map_err(told)
+}
+
+/// The table of the books whose names stand on standard input, one a line, parted by tabs.
+fn run_table() -> Result<(), String> {
+    let mut names: Vec<Vec<u8>> = read_file("-")?.split(|b| *b == b'\n').map(Vec::from).collect();
+    if names.last().map_or(false, |last| last.is_empty()) {
+        names.pop();
+    }
+    let mut out = BufWriter::new(io::stdout());
+    if names.len() > table::MOST_BOOKS {
+        return writeln!(out, "refused 36").map_err(told);
+    }
+    let files: Vec<table::File> = names.iter().map(|name| open_book(name)).collect();
+    let (lines, _) = table::table(&files, listing::LISTING_LIMIT);
+    for (number, mut line) in lines.into_iter().enumerate() {
+        if let Some(name) = names.get(number) {
+            line.insert(1, plain_name(name));
+        }
+        writeln!(out, "{}", line.join("\t")).map_err(told)?;
+    }
+    out.flush().map_err(told)
+}
+
+/// The bytes of a named book; a name that is too long, empty or none is closed.
+fn open_book(name: &[u8]) -> table::File {
+    const LONGEST_NAME: usize = 4_095;
+    if name.len() > LONGEST_NAME {
+        return table::File::Closed;
+    }
+    let path = std::ffi::OsStr::from_bytes(name);
+    fs::read(path).map_or(table::File::Closed, table::File::Bytes)
+}
+
+/// A name as it is printed: what could break a line is `?`.
+fn plain_name(name: &[u8]) -> String {
+    let plain = |byte: &u8| if byte.is_ascii_control() { b'?' } else { *byte };
+    String::from_utf8_lossy(&name.iter().map(plain).collect::<Vec<u8>>()).into_owned()
 }
 
 /// Nothing is written where the words have an error.

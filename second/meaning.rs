@@ -31,6 +31,25 @@ pub fn is_answer_set(book: &Book, x: &AtomSet) -> bool {
     least_model(&reduct(book, x)) == *x
 }
 
+/// The least model of the reduct by X, which is X itself for an answer set.
+fn gamma(book: &Book, x: &AtomSet) -> AtomSet {
+    least_model(&reduct(book, x))
+}
+
+/// The well-founded model by its own definition, without colours: the true atoms are the least
+/// fixpoint of applying `gamma` twice, the false ones those outside `gamma` of it.
+pub fn well_founded(book: &Book) -> (AtomSet, AtomSet) {
+    let mut true_atoms = AtomSet::none();
+    loop {
+        let possible = gamma(book, &true_atoms);
+        let next = gamma(book, &possible);
+        if next == true_atoms {
+            return (true_atoms, book.all_atoms().minus(&possible));
+        }
+        true_atoms = next;
+    }
+}
+
 /// All answer sets, each once, in no order that matters.
 pub fn answer_sets(book: &Book) -> Vec<AtomSet> {
     let subset = |bits: u32| {

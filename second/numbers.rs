@@ -85,6 +85,13 @@ impl<T: Numbered> SetOf<T> {
         self
     }
 
+    pub fn meet(mut self, other: &Self) -> Self {
+        for (word, keep) in self.words.iter_mut().zip(&other.words) {
+            *word &= keep;
+        }
+        self
+    }
+
     pub fn meets(&self, other: &Self) -> bool {
         self.words.iter().zip(&other.words).any(|(a, b)| a & b != 0)
     }

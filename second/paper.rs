@@ -168,7 +168,7 @@ pub fn write_paper(book: &Book, claim: Claim, limit: u64, room: usize) -> (Writt
         }
         Ok(()) => (),
     }
-    let witness = witness(book, &first.on);
+    let witness = witness(book, &first.colouring.on);
     let length = writer.length + witness.len() as u64 + 6;
     if length > room as u64 || length > LONGEST_PAPER as u64 {
         return (Written::Refused(Refusal::placeless(14)), spent);

@@ -8,13 +8,23 @@ use crate::closing::{close, Colouring, Support};
 use crate::meaning::{answer_sets, comes_before};
 use crate::numbers::AtomSet;
 use crate::random::Random;
+use crate::selftest_aspif::round_trips;
 use crate::selftest_closing::{closings, ClosingCounts};
+use crate::selftest_crews::crews;
+use crate::selftest_levels::{levels, LevelCounts};
+use crate::selftest_lparse::texts;
+use crate::selftest_nomore::{nomore, NomoreCounts};
 use crate::selftest_papers::{papers, PaperCounts};
+use crate::selftest_shown::{shown, ShownCounts};
+use crate::selftest_table::tables;
 use crate::selftest_words::{steps_back, words_back};
 use crate::shapes::{random_book, SHAPES};
 use crate::walk::{all_readings, find, Finding};
 use crate::worked::{assert_worked, worked_lines};
-use crate::worked_requests::{clash_lines, clearing_lines};
+use crate::worked_requests::{
+    aspif_lines, choice_lines, clash_lines, clearing_lines, crew_lines, level_lines, lparse_lines,
+    nomore_lines, shown_lines, table_lines,
+};
 use std::cmp::Ordering;
 
 const SEED: u64 = 3;
@@ -36,20 +46,41 @@ pub fn run() -> Result<(), String> {
     println!("worked books: {} lines as document 01 prints them", assert_worked(&worked_lines()));
     println!("worked clearing: {} lines", assert_worked(&clearing_lines()));
     println!("worked clashes: {} lines", assert_worked(&clash_lines()));
+    println!("worked levels: {} lines", assert_worked(&level_lines()));
+    println!("worked shown atoms: {} lines", assert_worked(&shown_lines()));
+    println!("worked noMoRe: {} lines", assert_worked(&nomore_lines()));
+    println!("worked crews: {} lines", assert_worked(&crew_lines()));
+    println!("worked tables: {} lines", assert_worked(&table_lines()));
+    println!("worked texts: {} lines", assert_worked(&lparse_lines()));
+    println!("worked choices: {} lines", assert_worked(&choice_lines()));
+    println!("worked aspif: {} lines", assert_worked(&aspif_lines()));
     let mut random = Random::new(SEED);
     let mut counts = BookCounts::default();
     let mut closing_counts = ClosingCounts::default();
+    let mut level_counts = LevelCounts::default();
+    let mut shown_counts = ShownCounts::default();
+    let mut nomore_counts = NomoreCounts::default();
     let mut paper_counts: [PaperCounts; 2] = Default::default();
     for number in 0..BOOKS {
         let book = drawn_book(&mut random, number);
         let sets = compare(&book, &mut counts);
         closings(&book, &sets, &mut closing_counts);
+        levels(&book, &sets, &mut level_counts);
+        shown(&book, &sets, &mut Random::new(number as u64), &mut shown_counts);
+        nomore(&book, &sets, &mut nomore_counts);
         papers(&book, &sets, &mut random, &mut paper_counts);
     }
     report(&counts);
     closing_counts.report();
+    level_counts.report();
+    shown_counts.report();
+    nomore_counts.report();
     paper_counts[0].report(certain);
     paper_counts[1].report(clear);
+    println!("two crews: {} pairs of books, joined and logged", crews(&mut random));
+    println!("tables: {} of up to 6 books", tables(&mut random));
+    println!("Lparse: {} texts, whose books have their answer sets", texts(&mut random));
+    println!("aspif: {} books written and read back", round_trips(&mut random, drawn_book));
     println!("damaged bytes: {} books and papers read to an end", damaged(&mut random));
     println!("words: {} books to words and back", words_back(&mut random, drawn_book));
     println!("words: {} papers to words and back", steps_back(&mut random, drawn_book));

@@ -26,7 +26,7 @@ pub fn closings(book: &Book, sets: &[AtomSet], counts: &mut ClosingCounts) {
     for bits in 0..1u32 << book.rules.len() {
         let rules = (0..book.rules.len()).filter(|r| bits >> r & 1 == 1);
         let on = rules.fold(RuleSet::none(), |set, r| set.with(RuleNo(r as u8)));
-        let pair = Colouring { on, off: book.all_rules().minus(&on) };
+        let pair = Colouring::of(on, book.all_rules().minus(&on));
         counts.pairs += 1;
         if close(book, &pair, Support::Kept) == pair {
             let heads = book.heads(&on);

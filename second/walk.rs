@@ -2,7 +2,7 @@
 
 use crate::book::{Book, Refusal};
 use crate::closing::{close, Colouring, Support};
-use crate::numbers::{AtomSet, RuleNo, RuleSet};
+use crate::numbers::{AtomSet, RuleNo};
 
 /// How a walk came to its end.
 #[derive(Clone, Copy, PartialEq, Eq, Debug)]
@@ -49,8 +49,8 @@ impl Walk<'_> {
                 Visit::Stop => Some(WalkEnd::Stopped),
             },
             Some(r) => {
-                let end = self.branch(&closed.with_on(r));
-                end.or_else(|| self.branch(&closed.with_off(r)))
+                let end = self.branch(&closed.choose_on(r));
+                end.or_else(|| self.branch(&closed.choose_off(r)))
             }
         }
     }
@@ -81,7 +81,7 @@ pub fn walk(
 #[derive(Clone, Copy, PartialEq, Eq, Debug)]
 pub struct Found {
     pub set: AtomSet,
-    pub on: RuleSet,
+    pub colouring: Colouring,
     pub tries: u64,
 }
 
@@ -95,10 +95,10 @@ pub enum Finding {
 /// The walk for the k-th answer set; k is at least 1.
 pub fn find_set(book: &Book, k: u64, limit: u64) -> Finding {
     let mut sets = 0;
-    let mut on = RuleSet::none();
+    let mut last = Colouring::empty();
     let Walked { end, tries, clash } = walk(book, limit, Support::Kept, &mut |colouring, _| {
         sets += 1;
-        on = colouring.on;
+        last = *colouring;
         if sets == k {
             Visit::Stop
         } else {
@@ -108,7 +108,9 @@ pub fn find_set(book: &Book, k: u64, limit: u64) -> Finding {
     match end {
         WalkEnd::Limit => Finding::Limit,
         WalkEnd::Whole => Finding::Fewer { tries, sets, clash },
-        WalkEnd::Stopped => Finding::Set(Found { set: book.heads(&on), on, tries }),
+        WalkEnd::Stopped => {
+            Finding::Set(Found { set: book.heads(&last.on), colouring: last, tries })
+        }
     }
 }
 
