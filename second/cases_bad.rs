@@ -32,6 +32,11 @@ fn parted(cases: &mut Cases, line: &str) {
     cases.bad("word too many", format!("{} -", line).as_bytes());
     let capitals = format!("{} {}", command.to_uppercase(), rest);
     cases.bad("command in capitals", capitals.as_bytes());
+    spaces(cases, line);
+}
+
+/// The line with a space too many or another blank, in each place.
+pub fn spaces(cases: &mut Cases, line: &str) {
     for (place, _) in line.match_indices(' ') {
         let doubled = format!("{} {}", &line[..place], &line[place..]);
         cases.bad("two spaces", doubled.as_bytes());

@@ -2,6 +2,7 @@
 
 use crate::book::{Book, Rule};
 use crate::cases::Cases;
+use crate::cases_bad;
 use crate::desk::{hex, MOST_BOOK, MOST_PAPER};
 
 const BOOK: &str = "0000000000010103005242";
@@ -98,15 +99,7 @@ fn good_lines() -> Vec<String> {
 
 fn spaces(cases: &mut Cases) {
     for line in good_lines() {
-        for (place, _) in line.match_indices(' ') {
-            let doubled = format!("{} {}", &line[..place], &line[place..]);
-            cases.bad("two spaces", doubled.as_bytes());
-            let tab = format!("{}\t{}", &line[..place], &line[place + 1..]);
-            cases.bad("tab", tab.as_bytes());
-        }
-        cases.bad("space before", format!(" {}", line).as_bytes());
-        cases.bad("space after", format!("{} ", line).as_bytes());
-        cases.bad("carriage return", format!("{}\r", line).as_bytes());
+        cases_bad::spaces(cases, &line);
     }
     cases.bad("two spaces", b"  ");
     cases.bad("space after", b"readings ");
