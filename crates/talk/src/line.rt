@@ -2,8 +2,6 @@
 // append to the same file then mix no line. Each function here takes how many bytes the buffer
 // holds, and gives how many it holds then. A buffer is made with room for the longest line; a word
 // that has no room is left out whole.
-ghost use mathlib.Core.Path.{_≡_};
-ghost use lib.ListN.{length};
 ghost use Rattle.io.specs.Counts.{Counts};
 use crate::output::least;
 use crate::output::put_digits;

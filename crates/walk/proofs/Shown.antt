@@ -25,7 +25,7 @@ use Rattle.walk.proofs.Readings.{readings-append}
 use Rattle.walk.proofs.Needs.{amount}
 use Rattle.walk.proofs.Demand.{read-fits}
 use Rattle.walk.proofs.Paging.{filled, Outcome, all-rows, full-page as full, limit-met, no-room, page-outcome}
-use Rattle.walk.proofs.Listing.{Listed, listed-start, Joined, Cut, pages-join, pages-end, pages-stop}
+use Rattle.walk.proofs.Listing.{Listed, listed-start, pages-join, pages-end, pages-stop}
 
 -- ---- rows
 
