@@ -15,7 +15,7 @@ use Rattle.meaning.specs.Sets.{Set, everyBelow, someBelow}
 use Rattle.meaning.specs.Books.{Atoms, Rules, atomNo, ruleNo, sameAtom, Book, count, rule, everyRule, someRule}
 use Rattle.meaning.specs.Written.{of}
 use Rattle.meaning.specs.Colours.{heads, allIn}
-use Rattle.meaning.proofs.Tests.{first, other}
+use Rattle.meaning.proofs.Tests.{or-left, or-right}
 use Rattle.meaning.proofs.Sets.{all-next}
 use Rattle.meaning.proofs.Rules.{atom-same}
 use Rattle.book.specs.Tables.{tableFrom, atomTable, atomsIn}
@@ -96,7 +96,7 @@ module _ (b : Book) (s : Rules) where
       → (l : List Bool) (n : ℕ) → l ≡ atomTable (headsTo b s k) → n ≡ a .0 → set l n true ≡ atomTable (headsTo b s (k + 1))
   unfolding headsTo someBelow
   heads-store k a q h e l n f p =
-      rw (f, p) (table-set _ _ a true h (rw (add-one, e) (first _ (atom-same (sym q)))) (λ c d. rw (add-one, e, ← q, other-atom a c d)))
+      rw (f, p) (table-set _ _ a true h (rw (add-one, e) (or-left _ (atom-same (sym q)))) (λ c d. rw (add-one, e, ← q, other-atom a c d)))
 
   pub heads-end : (k : ℕ) → k ≡ count b → atomTable (headsTo b s k) ≡ atomTable (heads b s)
   unfolding heads headsTo someRule
@@ -114,7 +114,7 @@ module _ (b : Book) (s : Rules) where
 
   pub all-skip : (k : ℕ) → s (ruleNo k) ≡ true → atomTable (allTo b s k) ≡ atomTable (allTo b s (k + 1))
   unfolding allTo everyBelow
-  all-skip k e = table-same _ _ (λ a. rw (add-one, other (not (sameAtom (rule b (ruleNo k) .head) a)) e))
+  all-skip k e = table-same _ _ (λ a. rw (add-one, or-right (not (sameAtom (rule b (ruleNo k) .head) a)) e))
 
   pub all-store : (k : ℕ) (a : AtomNo) → a ≡ rule b (ruleNo k) .head → a .0 < 255 → s (ruleNo k) ≡ false
       → (l : List Bool) (n : ℕ) → l ≡ atomTable (allTo b s k) → n ≡ a .0 → set l n false ≡ atomTable (allTo b s (k + 1))
@@ -134,7 +134,7 @@ module _ (b : Book) (s : Rules) where
 
     pub all-at-skip : s (ruleNo k) ≡ true → allTo b s k a ≡ true → allTo b s (k + 1) a ≡ true
     unfolding allTo
-    all-at-skip e t = all-next k _ (other (not (sameAtom (rule b (ruleNo k) .head) a)) e) t
+    all-at-skip e t = all-next k _ (or-right (not (sameAtom (rule b (ruleNo k) .head) a)) e) t
 
     pub all-at-other : (c : AtomNo) → c ≡ rule b (ruleNo k) .head → (c .0 ≡ a .0 → ⊥) → allTo b s k a ≡ true
         → allTo b s (k + 1) a ≡ true

@@ -13,7 +13,7 @@ use Rattle.meaning.specs.declared.AtomNo.{AtomNo}
 use Rattle.meaning.specs.Sets.{every, some}
 use Rattle.meaning.specs.Books.{Atoms, Rules, atomNo, ruleNo, Book, count, rule}
 use Rattle.meaning.specs.Colours.{allIn}
-use Rattle.meaning.proofs.Tests.{clash, refuted}
+use Rattle.meaning.proofs.Tests.{true-and-false, refuted}
 use Rattle.meaning.proofs.Rules.{allIn-at}
 use Rattle.book.specs.Tables.{atomsIn, Below}
 use Rattle.book.specs.Writing.{atomBytes}
@@ -52,7 +52,7 @@ pub not-all-in : (b : Book) (s : Rules) (q n : ℕ) (a : AtomNo) → q < count b
     → s (ruleNo q) ≡ false → allIn b s (atomNo n) ≡ false
 not-all-in b s q n a h e f g =
     let p : a ≡ atomNo n = λ i. record { 0 = f i } in
-    refuted (λ m. clash (allIn-at b s (atomNo n) m (ruleNo q) h (sym e ∙ p)) g)
+    refuted (λ m. true-and-false (allIn-at b s (atomNo n) m (ruleNo q) h (sym e ∙ p)) g)
 
 -- ---- bytes and atoms
 

@@ -12,13 +12,13 @@ use Rattle.meaning.specs.Books.{atomNo, Rule, Book, count}
 use Rattle.meaning.specs.Sets.{every, ascending}
 use Rattle.meaning.specs.Choice.{ifb, ifLt, ifEq}
 use Rattle.meaning.proofs.Sets.{every-at}
-use Rattle.book.specs.Format.{u16At, partOf, andThen, bytesOf, recordOf, lengthOf, ruleOf, recordsOf, rulesOf}
+use Rattle.book.specs.Format.{u16At, partOf, andThen, bytesOf, recordOf, lengthOf, ruleOf, recordsOf, rulesOf, bookBytes}
 use Rattle.book.specs.Format.{BookRead, good, bad, ifFine, bodyOf, readOf}
 use Rattle.book.specs.Writing.{BodyFits, Fits, recordBytes, recordsBytes, indexBytes, trailerBytes, bytesOfBook}
 use Rattle.book.proofs.Refusals.{refused-length}
 use Rattle.book.proofs.ReadBack.{read-write}
 
-pub too-long : (s : List ℕ) → 9441 < length s → readOf s ≡ bad 1 0
+pub too-long : (s : List ℕ) → bookBytes < length s → readOf s ≡ bad 1 0
 too-long s h = refused-length s 0 .1 ((λ l. omega (arith, l .at-most)), refl)
 
 abbrev sixteen : List ℕ
@@ -93,7 +93,7 @@ longest-fits = record {
     repeated (suc n) (List·Memᴰ·head e) = e
     repeated (suc n) (List·Memᴰ·tail m) = repeated n m
 
-pub longest-length : length (bytesOfBook longest) ≡ 9441
+pub longest-length : length (bytesOfBook longest) ≡ bookBytes
 unfolding bytesOfBook recordsBytes recordBytes indexBytes trailerBytes
 longest-length = refl
 

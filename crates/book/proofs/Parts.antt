@@ -12,7 +12,7 @@ use borrow.Author.Tests.{lt-ltb, ltb-true}
 use Rattle.meaning.specs.Choice.{ifLt}
 use Rattle.meaning.specs.Sets.{ascending}
 use Rattle.meaning.proofs.Choice.{lt-yes, lt-no, lt-either}
-use Rattle.meaning.proofs.Tests.{both, left, right}
+use Rattle.meaning.proofs.Tests.{both, and-left, and-right}
 use Rattle.book.specs.Format.{Check, fine, wrong, partOf, andThen, positiveBytes, negativeBytes, bytesOf, recordOf, lengthOf}
 
 -- ---- what a check's answer says
@@ -61,7 +61,7 @@ ascends-more x (some y h) e = both (lt-ltb x y (omega arith)) e
 ascends-rest : (x : ℕ) (l : List ℕ) → ascending (x ∷ l) ≡ true → From (x + 1) l × (ascending l ≡ true)
 unfolding ascending
 ascends-rest x [] e = (none, refl)
-ascends-rest x (y ∷ l) e = (some y (omega (arith, ltb-true x y (left _ _ e))), right (ltb x y) _ e)
+ascends-rest x (y ∷ l) e = (some y (omega (arith, ltb-true x y (and-left _ _ e))), and-right (ltb x y) _ e)
 
 from-fine : (n at least : ℕ) (l : List ℕ) → partOf n at least l ≡ fine → From least l × PartFine n l
 unfolding partOf ascending

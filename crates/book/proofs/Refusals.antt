@@ -10,7 +10,7 @@ use lib.ListN.{length}
 use Rattle.meaning.specs.Books.{Rule, Book}
 use Rattle.meaning.proofs.Choice.{lt-no, lt-either, eq-yes, eq-no, eq-either}
 use Rattle.book.specs.Format.{Check, fine, wrong, rulesOf, BookRead, good, bad, ifFine, bodyOf, readOf, bookOf, bookIn}
-use Rattle.book.specs.Rows.{LengthGood, MarkGood, atomCount, ruleCount, indexStart, TrailerGood, Framed, RecordsGood, none}
+use Rattle.book.specs.Rows.{LengthGood, MarkGood, atomCount, ruleCount, indexStart, TrailerGood, FramedBook, RecordsGood, none}
 use Rattle.book.specs.Rows.{EntryWrong, RecordWrong, BytesWrong, GoodAs, GoodBook}
 use Rattle.book.proofs.Records.{RecordsRow, all-good, at-entry, at-record, at-atom, at-order, records-row, records-told}
 
@@ -19,9 +19,9 @@ pub data BookRow (s : List ℕ) : BookRead → Type 0 where
   at-length : ¬ LengthGood s → BookRow s (bad 1 0)
   at-mark : LengthGood s → ¬ MarkGood s → BookRow s (bad 2 (length s - 2))
   at-trailer : LengthGood s → MarkGood s → ¬ TrailerGood s → BookRow s (bad 3 (length s - 4))
-  in-records : {number place : ℕ} → Framed s → RecordsRow s (atomCount s) (ruleCount s) (indexStart s) (wrong number place)
+  in-records : {number place : ℕ} → FramedBook s → RecordsRow s (atomCount s) (ruleCount s) (indexStart s) (wrong number place)
       → BookRow s (bad number place)
-  nowhere : Framed s → RecordsGood s (atomCount s) (indexStart s) (ruleCount s) (indexStart s)
+  nowhere : FramedBook s → RecordsGood s (atomCount s) (indexStart s) (ruleCount s) (indexStart s)
       → BookRow s (good (atomCount s) (ruleCount s) (indexStart s) (rulesOf (ruleCount s) s (indexStart s) 0))
 
 module _ (s : List ℕ) where
@@ -34,7 +34,7 @@ module _ (s : List ℕ) where
   abbrev index : ℕ
   index = indexStart s
 
-  read-row : Framed s → (c : Check) → RecordsRow s n k index c → BookRow s (ifFine c (good n k index (rulesOf k s index 0)))
+  read-row : FramedBook s → (c : Check) → RecordsRow s n k index c → BookRow s (ifFine c (good n k index (rulesOf k s index 0)))
   unfolding ifFine
   read-row f fine (all-good g) = nowhere f g
   read-row f (wrong number place) row = in-records f row
@@ -61,7 +61,7 @@ module _ (s : List ℕ) where
   unfolding readOf
   marked-read l m = lt-no _ _ _ _ (l .at-least) ∙ lt-no _ _ _ _ (l .at-most) ∙ eq-yes _ _ _ _ (m .first) ∙ eq-yes _ _ _ _ (m .second)
 
-  framed-read : (c : Check) → Framed s → RecordsRow s n k index c → readOf s ≡ ifFine c (good n k index (rulesOf k s index 0))
+  framed-read : (c : Check) → FramedBook s → RecordsRow s n k index c → readOf s ≡ ifFine c (good n k index (rulesOf k s index 0))
   unfolding bodyOf
   framed-read c f row =
       let t = f .trailer in
@@ -106,31 +106,31 @@ module _ (s : List ℕ) where
       there (at-trailer l m t) = (l, m, t, refl)
 
   -- 4: these are right, and so are all records up to an entry, or to the last end, that is wrong
-  pub refused-entry : (place : ℕ) → (readOf s ≡ bad 4 place) ↔ (Framed s × EntryWrong s n k index place)
+  pub refused-entry : (place : ℕ) → (readOf s ≡ bad 4 place) ↔ (FramedBook s × EntryWrong s n k index place)
   refused-entry place = (λ e. there (row-of e), λ c. book-told (in-records (c .0) (at-entry (c .1))))
     where
-      there : {place : ℕ} → BookRow s (bad 4 place) → Framed s × EntryWrong s n k index place
+      there : {place : ℕ} → BookRow s (bad 4 place) → FramedBook s × EntryWrong s n k index place
       there (in-records f (at-entry w)) = (f, w)
 
   -- 5: these are right, all records up to one, and its entry, but it does not fit
-  pub refused-record : (place : ℕ) → (readOf s ≡ bad 5 place) ↔ (Framed s × RecordWrong s n k index place)
+  pub refused-record : (place : ℕ) → (readOf s ≡ bad 5 place) ↔ (FramedBook s × RecordWrong s n k index place)
   refused-record place = (λ e. there (row-of e), λ c. book-told (in-records (c .0) (at-record (c .1))))
     where
-      there : {place : ℕ} → BookRow s (bad 5 place) → Framed s × RecordWrong s n k index place
+      there : {place : ℕ} → BookRow s (bad 5 place) → FramedBook s × RecordWrong s n k index place
       there (in-records f (at-record w)) = (f, w)
 
   -- 6: these are right, all records up to one, its entry and its limits, and all its bytes up to one that is not below A
-  pub refused-atom : (place : ℕ) → (readOf s ≡ bad 6 place) ↔ (Framed s × BytesWrong s n k index 6 place)
+  pub refused-atom : (place : ℕ) → (readOf s ≡ bad 6 place) ↔ (FramedBook s × BytesWrong s n k index 6 place)
   refused-atom place = (λ e. there (row-of e), λ c. book-told (in-records (c .0) (at-atom (c .1))))
     where
-      there : {place : ℕ} → BookRow s (bad 6 place) → Framed s × BytesWrong s n k index 6 place
+      there : {place : ℕ} → BookRow s (bad 6 place) → FramedBook s × BytesWrong s n k index 6 place
       there (in-records f (at-atom w)) = (f, w)
 
   -- 7: the same, up to a byte that is below A and not above the byte before it in its part
-  pub refused-order : (place : ℕ) → (readOf s ≡ bad 7 place) ↔ (Framed s × BytesWrong s n k index 7 place)
+  pub refused-order : (place : ℕ) → (readOf s ≡ bad 7 place) ↔ (FramedBook s × BytesWrong s n k index 7 place)
   refused-order place = (λ e. there (row-of e), λ c. book-told (in-records (c .0) (at-order (c .1))))
     where
-      there : {place : ℕ} → BookRow s (bad 7 place) → Framed s × BytesWrong s n k index 7 place
+      there : {place : ℕ} → BookRow s (bad 7 place) → FramedBook s × BytesWrong s n k index 7 place
       there (in-records f (at-order w)) = (f, w)
 
   -- no other number is given

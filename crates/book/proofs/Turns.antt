@@ -11,7 +11,7 @@ use Rattle.meaning.specs.Choice.{ifLt, ifEq}
 use Rattle.meaning.specs.Told.{refusedAt}
 use Rattle.meaning.proofs.Choice.{lt-yes, lt-no, eq-yes}
 use Rattle.book.specs.Numbers.{shape}
-use Rattle.book.specs.Format.{u16At, Check, fine, wrong, partOf, andThen, positiveBytes, negativeBytes, bytesOf, recordOf, lengthOf}
+use Rattle.book.specs.Format.{u16At, Check, fine, wrong, partOf, andThen, positiveBytes, negativeBytes, bytesOf, recordOf, lengthOf, bookBytes}
 use Rattle.book.specs.Format.{partFrom, recordsOf, rulesOf, BookRead, good, bad, ifFine, bodyOf, readOf, toldOf}
 
 module _ (s : List ℕ) (i n at least : ℕ) where
@@ -71,17 +71,17 @@ unfolding toldOf
 told-bad x i at e = rw e
 
 -- the length, the mark and the trailer are right
-pub record Framed (s : List ℕ) (k index : ℕ) : Type 0 where
+pub record FrameRead (s : List ℕ) (k index : ℕ) : Type 0 where
   pub count : k ≡ getD s (length s - 5) 0
   pub start : index ≡ u16At s (length s - 4)
   pub least : 6 ≤ length s
-  pub most : length s ≤ 9441
+  pub most : length s ≤ bookBytes
   pub first : getD s (length s - 2) 0 ≡ 0x52
   pub second : getD s (length s - 1) 0 ≡ 0x42
   pub fills : index + 2 * k + 6 ≡ length s
 
 -- and the records were found x
-module _ {s : List ℕ} {k index : ℕ} (f : Framed s k index) (x : Check)
+module _ {s : List ℕ} {k index : ℕ} (f : FrameRead s k index) (x : Check)
     (e : x ≡ recordsOf k s (getD s (length s - 6) 0) index 0 0) where
   found : readOf s ≡ ifFine x (good (getD s (length s - 6) 0) k index (rulesOf k s index 0))
   unfolding readOf bodyOf

@@ -1,6 +1,7 @@
 -- The format of a rule book: for every list of bytes the refusal with its place, or the shape and the rules. Document 01, "The rule
 -- book" and "Numbers given back". This is the only definition of the format, and it computes.
 --
+--   bookBytes        the length that no book passes
 --   u16At s at       "Numbers of two bytes are little-endian."
 --   partOf n at least l    one part of a body, whose first byte stands at `at`: byte by byte, 6 before 7
 --   recordOf n at s  "head, count p of positive atoms, count n of negative atoms, the positive atoms, the negative atoms", in a part
@@ -17,6 +18,10 @@ use Rattle.meaning.specs.Choice.{ifLt, ifEq}
 use Rattle.meaning.specs.Told.{Told, success, refusedAt}
 use Rattle.book.specs.Numbers.{shape}
 use Rattle.book.specs.declared.reader.Shape.{Shape}
+
+-- a book of 255 rules with 16 atoms in each part: 255 records of 35 bytes, two bytes of index for each, and the trailer
+abbrev pub bookBytes : ℕ
+bookBytes = 9441
 
 unfoldable pub u16At : List ℕ → ℕ → ℕ
 u16At s at = getD s at 0 + 256 * getD s (at + 1) 0
@@ -100,7 +105,7 @@ bodyOf s n k index =
 unfoldable pub readOf : List ℕ → BookRead
 readOf s =
     ifLt (length s) 6 (bad 1 0)
-    (ifLt 9441 (length s) (bad 1 0)
+    (ifLt bookBytes (length s) (bad 1 0)
     (ifEq (getD s (length s - 2) 0) 0x52
     (ifEq (getD s (length s - 1) 0) 0x42
     (bodyOf s (getD s (length s - 6) 0) (getD s (length s - 5) 0) (u16At s (length s - 4)))

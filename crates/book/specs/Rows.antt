@@ -1,7 +1,7 @@
 -- Document 01's table for the book, said of the bytes: what 1 to 7 are given for. Reading does not go by these; the laws of
 -- proofs/Refusals.antt say that it gives each number and place exactly where its row holds and no row before it does.
 --
---   LengthGood, MarkGood, TrailerGood    the opposites of 1, 2 and 3; Framed: all three
+--   LengthGood, MarkGood, TrailerGood    the opposites of 1, 2 and 3; FramedBook: all three
 --   RecordFits, ByteWrong                the opposite of 5; 6 and 7 of one byte
 --   RecordsGood s n index r at           nothing is wrong with the first r records, and the next is to start at `at`
 --   EntryWrong, RecordWrong, BytesWrong  4, 5, and 6 or 7, each with its place, in a book of n atoms, k rules and this index
@@ -12,7 +12,7 @@ use mathlib.Core.List.{List}
 use Prim.Native.Nat.{ℕ, suc, _+_, _*_, _-_, _≤_, _<_}
 use lib.ListN.{length, getD}
 use Rattle.meaning.specs.Books.{Rule, Book}
-use Rattle.book.specs.Format.{u16At, rulesOf}
+use Rattle.book.specs.Format.{u16At, rulesOf, bookBytes}
 
 -- every byte is below 256, as a byte is
 abbrev pub Bytes : List ℕ → Type 0
@@ -21,7 +21,7 @@ Bytes s = (i : ℕ) → getD s i 0 < 256
 -- 1: "book under 6 or over 9,441 bytes"
 pub record LengthGood (s : List ℕ) : Type 0 where
   pub at-least : 6 ≤ length s
-  pub at-most : length s ≤ 9441
+  pub at-most : length s ≤ bookBytes
 
 -- 2: "mark isn't 52 42"
 pub record MarkGood (s : List ℕ) : Type 0 where
@@ -42,7 +42,7 @@ indexStart s = u16At s (length s - 4)
 abbrev pub TrailerGood : List ℕ → Type 0
 TrailerGood s = indexStart s + 2 * ruleCount s + 6 ≡ length s
 
-pub record Framed (s : List ℕ) : Type 0 where
+pub record FramedBook (s : List ℕ) : Type 0 where
   pub size : LengthGood s
   pub mark : MarkGood s
   pub trailer : TrailerGood s
@@ -121,7 +121,7 @@ pub data BytesWrong (s : List ℕ) (n k index : ℕ) : ℕ → ℕ → Type 0 wh
       → GoodBefore s n at place → ByteWrong s n at place number → BytesWrong s n k index number place
 
 pub record GoodAs (s : List ℕ) (n k index : ℕ) (l : List Rule) : Type 0 where
-  pub framed : Framed s
+  pub framed : FramedBook s
   pub atoms : atomCount s ≡ n
   pub rules : ruleCount s ≡ k
   pub start : indexStart s ≡ index

@@ -15,10 +15,11 @@ use crate::reader::Shape;
 use crate::rules::head;
 use crate::rules::negatives;
 use crate::rules::positives;
+use meaning::Colouring;
 use meaning::RuleNo;
 
 // Every atom of the part is in the table.
-pub fn every_in(part: &[u8], table: &[bool; 255]) -> bool
+pub fn every_in(part: &[u8], table: &[bool; Colouring::ATOMS]) -> bool
     requires { ⌜ Below 255 (now part) ⌝ }
     ensures { λ b. ⌜ b ≡ every (atomsIn (now (table .entry))) (map atomNo (now (part .entry))) ⌝ }
 {
@@ -33,7 +34,7 @@ pub fn every_in(part: &[u8], table: &[bool; 255]) -> bool
 }
 
 // Some atom of the part is in the table.
-pub fn some_in(part: &[u8], table: &[bool; 255]) -> bool
+pub fn some_in(part: &[u8], table: &[bool; Colouring::ATOMS]) -> bool
     requires { ⌜ Below 255 (now part) ⌝ }
     ensures { λ b. ⌜ b ≡ some (atomsIn (now (table .entry))) (map atomNo (now (part .entry))) ⌝ }
 {
@@ -53,8 +54,8 @@ pub fn goes_on<'a>(
     book: &[u8],
     shape: Shape,
     r: RuleNo,
-    headed: &'a [bool; 255],
-    lost: &'a [bool; 255],
+    headed: &'a [bool; Colouring::ATOMS],
+    lost: &'a [bool; Colouring::ATOMS],
 ) -> bool
     requires { ⌜ ReadAs (now book) shape × (r .0 < shape .rules) ⌝ }
     ensures { λ b. ⌜ b ≡
@@ -68,7 +69,7 @@ pub fn goes_on<'a>(
 }
 
 // The rule goes off: some negative atom is in the table.
-pub fn is_blocked(book: &[u8], shape: Shape, r: RuleNo, headed: &[bool; 255]) -> bool
+pub fn is_blocked(book: &[u8], shape: Shape, r: RuleNo, headed: &[bool; Colouring::ATOMS]) -> bool
     requires { ⌜ ReadAs (now book) shape × (r .0 < shape .rules) ⌝ }
     ensures { λ b. ⌜ b ≡
         some (atomsIn (now (headed .entry))) (rule (bookIn (now (book .entry))) r .neg) ⌝ }
@@ -77,7 +78,7 @@ pub fn is_blocked(book: &[u8], shape: Shape, r: RuleNo, headed: &[bool; 255]) ->
 }
 
 // The rule goes off: some positive atom has all its rules off.
-pub fn is_starved(book: &[u8], shape: Shape, r: RuleNo, off: &[bool; 255]) -> bool
+pub fn is_starved(book: &[u8], shape: Shape, r: RuleNo, off: &[bool; Colouring::RULES]) -> bool
     requires { ⌜ ReadAs (now book) shape × (r .0 < shape .rules) ⌝ }
     ensures { λ b. ⌜ b ≡
         some (allIn (bookIn (now (book .entry))) (of (now (off .entry))))

@@ -29,3 +29,6 @@ pub use tables::lost_in;
 
 // The last two bytes of every book: 52 42.
 pub const BOOK_MARK: [u8; 2] = [0x52, 0x42];
+
+// A book has at most so many bytes: 255 rules with full bodies, the index and the trailer.
+pub const BOOK_BYTES: usize = 9441;

@@ -2,6 +2,7 @@
 ghost use mathlib.Core.Path.{_≡_};
 ghost use Rattle.book.specs.Numbers.{told};
 ghost use Rattle.book.specs.Format.{readOf, toldOf};
+use crate::BOOK_BYTES;
 use crate::BOOK_MARK;
 use crate::number::u16_at;
 use crate::number::wide;
@@ -30,7 +31,7 @@ pub fn read_book(book: &[u8]) -> Read
     if len < 6 {
         return Read::Refused(Refusal::Length);
     }
-    if 9441 < len {
+    if BOOK_BYTES < len {
         return Read::Refused(Refusal::Length);
     }
     if book[len - 2] != BOOK_MARK[0] {

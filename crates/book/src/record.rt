@@ -2,7 +2,7 @@
 ghost use mathlib.Core.Path.{_≡_};
 ghost use Prim.Native.Nat.{_+_, _*_, _<_, _≤_};
 ghost use lib.ListN.{length};
-ghost use Rattle.book.specs.Format.{recordOf, lengthOf, recordsOf};
+ghost use Rattle.book.specs.Format.{recordOf, lengthOf, recordsOf, bookBytes};
 ghost use Rattle.book.specs.Checks.{checked};
 use crate::number::u16_at;
 use crate::number::wide;
@@ -52,7 +52,7 @@ pub fn record_length(part: &[u8]) -> usize
 // All records, each as the part of the book from its own start to the index, and each where its
 // index entry says.
 pub fn check_records(book: &[u8], atoms: u8, index: usize, rules: usize) -> Checked
-    requires { ⌜ (index + 2 * rules + 6 ≡ length (now book)) × (length (now book) ≤ 9441) ⌝ }
+    requires { ⌜ (index + 2 * rules + 6 ≡ length (now book)) × (length (now book) ≤ bookBytes) ⌝ }
     ensures { λ r. ⌜ checked r ≡ recordsOf rules (now (book .entry)) atoms index 0 0 ⌝ }
 {
     let mut rule = 0;

@@ -12,7 +12,12 @@ use meaning::Colouring;
 use meaning::RuleNo;
 
 // Writes the heads of the rules of the set over whatever the table held.
-pub fn heads_of(book: &[u8], shape: Shape, set: &[bool; 255], out: &mut [bool; 255])
+pub fn heads_of(
+    book: &[u8],
+    shape: Shape,
+    set: &[bool; Colouring::RULES],
+    out: &mut [bool; Colouring::ATOMS],
+)
     requires { ⌜ ReadAs (now book) shape ⌝ }
     ensures { λ _. ⌜ now (out .exit) ≡
         atomTable (heads (bookIn (now (book .entry))) (of (now (set .entry)))) ⌝ }
@@ -30,7 +35,12 @@ pub fn heads_of(book: &[u8], shape: Shape, set: &[bool; 255], out: &mut [bool; 2
 
 // Writes the atoms all of whose rules are in the set over whatever the table held. An atom with no
 // rule counts.
-pub fn lost_in(book: &[u8], shape: Shape, set: &[bool; 255], out: &mut [bool; 255])
+pub fn lost_in(
+    book: &[u8],
+    shape: Shape,
+    set: &[bool; Colouring::RULES],
+    out: &mut [bool; Colouring::ATOMS],
+)
     requires { ⌜ ReadAs (now book) shape ⌝ }
     ensures { λ _. ⌜ now (out .exit) ≡
         atomTable (allIn (bookIn (now (book .entry))) (of (now (set .entry)))) ⌝ }

@@ -16,7 +16,7 @@ use Rattle.meaning.specs.declared.kind.Kind.{Kind}
 use Rattle.meaning.specs.declared.kind.Claim.{Claim}
 use Rattle.meaning.specs.Claim.{claimed, mark, Holding}
 use Rattle.meaning.specs.Told.{success}
-use Rattle.meaning.specs.Paper.{numbers, Branch, Witness, trailer, Keeps}
+use Rattle.meaning.specs.Paper.{numbers, Branch, Witness, trailer, Keeps, paperBytes}
 use Rattle.meaning.proofs.Marks.{mark-bytes}
 use Rattle.meaning.proofs.Papers.{keeps-holds}
 use Rattle.book.specs.Format.{u16At, partFrom, bookIn}
@@ -26,7 +26,7 @@ use Rattle.checker.specs.Numbers.{accepted}
 use Rattle.checker.specs.Branches.{done, branchOf}
 use Rattle.checker.specs.Witness.{fine, witnessVerdict}
 use Rattle.checker.specs.Check.{paperOf, checkOf}
-use Rattle.checker.specs.Rows.{countOf, startOf, claimOf, witnessBytes, MarkGood, Framed}
+use Rattle.checker.specs.Rows.{countOf, startOf, claimOf, witnessBytes, MarkGood, FramedPaper}
 use Rattle.checker.proofs.Bytes.{rules-back, numbers-back, part-none, part-two, part-split, read-two, read-past}
 use Rattle.checker.proofs.Marked.{mark-is, mark-read}
 use Rattle.checker.proofs.Branches.{done-branch, branch-done}
@@ -36,7 +36,7 @@ use Rattle.checker.proofs.Rows.{PaperRow, nowhere, row-of, row-told, Ch
 -- ---- the pieces of an accepted paper
 
 record Accepted (b : Book) (s : List ℕ) : Type 0 where
-  framed : Framed b s
+  framed : FramedPaper b s
   branch : Branch b (claimOf s) start (partFrom s (startOf s) 0)
   witness : Witness b (map ruleNo (witnessBytes s))
 
@@ -72,7 +72,7 @@ module _ (b : Book) (s : List ℕ) where
   unfolding u16At
   start-high bytes = omega (arith, bytes (length s - 4))
 
-  trailer-is : Bytes s → Framed b s → (i : ℕ) → i + 6 ≡ length s
+  trailer-is : Bytes s → FramedPaper b s → (i : ℕ) → i + 6 ≡ length s
       → trailer (claimOf s) (countOf s) (startOf s) ≡ partFrom s (length s) i
   unfolding trailer claimed mark
   trailer-is bytes f i e =
@@ -84,7 +84,7 @@ module _ (b : Book) (s : List ℕ) where
       rw (six i e, start-low bytes, start-high bytes, p₀, p₁, p₂, ← mark-is s (f .mark), p₄, p₅)
 
   -- a paper whose trailer is right is its three pieces
-  pieces-joined : Bytes s → Framed b s
+  pieces-joined : Bytes s → FramedPaper b s
       → s ≡ partFrom s (startOf s) 0 ++ (witnessBytes s ++ trailer (claimOf s) (countOf s) (startOf s))
   pieces-joined bytes f =
       let from = startOf s in
@@ -114,7 +114,7 @@ module _ (b : Book) (s : List ℕ) where
         grounds = q .witness;
       }
 
-  pub accepted-keeps : Bytes s → {k : Claim} → paperOf b s ≡ success k → Keeps b k s × (length s ≤ 60000)
+  pub accepted-keeps : Bytes s → {k : Claim} → paperOf b s ≡ success k → Keeps b k s × (length s ≤ paperBytes)
   accepted-keeps bytes e = let (p, q) = accepted-pieces e in (rw p at (keeps-pieces bytes q), q .framed .size .at-most)
 
   -- ---- a paper that keeps the printed rules
@@ -165,14 +165,14 @@ module _ (b : Book) (s : List ℕ) where
           begins = rw (p₂, x₂, x₃) (omega arith);
         }
 
-    pub keeps-accepted : length s ≤ 60000 → paperOf b s ≡ success k
+    pub keeps-accepted : length s ≤ paperBytes → paperOf b s ≡ success k
     unfolding claimed
     keeps-accepted h =
         let r = reads in
         let z : 0 + from ≡ from = omega arith in
         let n : length (numbers (g .witness)) ≡ w = length-map (g .witness) (λ r. r .0) in
         let l : take w (drop from s) ≡ numbers (g .witness) = rw (r .after-steps) (take-at (numbers (g .witness)) _ w n) in
-        let f : Framed b s = record {
+        let f : FramedPaper b s = record {
           size = record { at-least = omega (arith, r .size); at-most = h };
           mark = r .marked;
           trailer = rw (r .begins, r .count) (r .size);
@@ -183,7 +183,7 @@ module _ (b : Book) (s : List ℕ) where
         let grounds : witnessVerdict b s from w ≡ fine = witness-fine b s from w (rw (l, rules-back (g .witness)) (g .grounds)) in
         row-told b s (nowhere f (rw (r .begins, r .claims) walked) (rw (r .begins, r .count) grounds)) ∙ ap success (r .claims)
 
-  pub check-keeps : Bytes s → (k : Claim) → (paperOf b s ≡ success k) ↔ (Keeps b k s × (length s ≤ 60000))
+  pub check-keeps : Bytes s → (k : Claim) → (paperOf b s ≡ success k) ↔ (Keeps b k s × (length s ≤ paperBytes))
   check-keeps bytes k = (accepted-keeps bytes, λ (g, h). keeps-accepted k g h)
 
   -- ---- what is accepted is right
@@ -214,15 +214,15 @@ module _ (book paper : List ℕ) where
       by-row (at-paper g r) = accepted-holds (bookIn book) paper (row-told (bookIn book) paper r)
 
   -- a paper that keeps the printed rules of a good book is accepted, and tells its claim
-  pub check-complete : GoodBook book (bookIn book) → (k : Claim) → Keeps (bookIn book) k paper → length paper ≤ 60000
+  pub check-complete : GoodBook book (bookIn book) → (k : Claim) → Keeps (bookIn book) k paper → length paper ≤ paperBytes
       → checkOf book paper ≡ success k
   check-complete read k g h = row-checked book paper (at-paper read (row-of (bookIn book) paper (keeps-accepted (bookIn book) paper k g h)))
 
   pub check-exact : Bytes paper → (k : Claim)
-      → (checkOf book paper ≡ success k) ↔ (GoodBook book (bookIn book) × Keeps (bookIn book) k paper × (length paper ≤ 60000))
+      → (checkOf book paper ≡ success k) ↔ (GoodBook book (bookIn book) × Keeps (bookIn book) k paper × (length paper ≤ paperBytes))
   check-exact bytes k = (λ e. there (checked-row book paper e), λ (read, g, h). check-complete read k g h)
     where
       there : {k : Claim} → CheckRow book paper (success k)
-          → GoodBook book (bookIn book) × Keeps (bookIn book) k paper × (length paper ≤ 60000)
+          → GoodBook book (bookIn book) × Keeps (bookIn book) k paper × (length paper ≤ paperBytes)
       there (at-paper read r) =
           let (g, h) = accepted-keeps (bookIn book) paper bytes (row-told (bookIn book) paper r) in (read, g, h)

@@ -16,7 +16,7 @@ use Rattle.meaning.specs.declared.kind.Claim.{Claim}
 use Rattle.meaning.specs.Claim.{shownBy, shown, ended}
 use Rattle.meaning.specs.Paper.{unfounded}
 use Rattle.meaning.specs.Written.{of, lent}
-use Rattle.meaning.proofs.Tests.{first, not-first, not-second}
+use Rattle.meaning.proofs.Tests.{or-left, not-first, not-second}
 use Rattle.meaning.proofs.Sets.{every-here, every-all-next, every-all-end}
 use Rattle.meaning.proofs.Rules.{heads-of, all-in-not-heads}
 use Rattle.book.specs.declared.reader.Shape.{Shape}
@@ -87,7 +87,7 @@ module _ (b : Book) (on off : List Bool) (k : Claim) (n : ℕ) (e : n ≡ count 
 
   pub ended-clash : someBelow n (λ r. of on (ruleNo r) && of off (ruleNo r)) ≡ true → ended b k (lent on off) ≡ true
   unfolding ended
-  ended-clash h = first _ (sym clashing-is ∙ h)
+  ended-clash h = or-left _ (sym clashing-is ∙ h)
 
   pub ended-shown : someBelow n (λ r. of on (ruleNo r) && of off (ruleNo r)) ≡ false → ended b k (lent on off) ≡ shown b k (lent on off)
   unfolding ended

@@ -16,7 +16,7 @@ use Rattle.meaning.specs.Sets.{Set, every, some, ascending}
 use Rattle.meaning.specs.Books.{Rules, ruleNo, sameRule, among, Book, count}
 use Rattle.meaning.specs.Colours.{plus}
 use Rattle.meaning.specs.Written.{of}
-use Rattle.meaning.proofs.Tests.{both, right, not-first, not-second, decided, clash}
+use Rattle.meaning.proofs.Tests.{both, and-right, not-first, not-second, decided, true-and-false}
 use Rattle.meaning.proofs.Sets.{some-append, every-here, every-all-next, every-all-end}
 use Rattle.meaning.proofs.Written.{of-set}
 use Rattle.book.specs.Tables.{Below}
@@ -76,7 +76,7 @@ proper-next l i n h g e = every-all-next _ l i 0 h (lt-ltb _ _ g) e
 pub proper-below : (l : List ℕ) (n : ℕ) → (ascending l && every (λ x. ltb x n) l) ≡ true → Below n l
 proper-below l n e = record {
   at = λ i h. ltb-true _ n (⊎-elim (λ p. p)
-      (λ p. clash (right (ascending l) _ e) (every-here _ l i 0 h p)) (decided (ltb (getD l i 0) n)));
+      (λ p. true-and-false (and-right (ascending l) _ e) (every-here _ l i 0 h p)) (decided (ltb (getD l i 0) n)));
 }
 
 -- the test as the code makes it, with the number of rules that it has read

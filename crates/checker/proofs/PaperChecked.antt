@@ -16,6 +16,7 @@ use Rattle.meaning.specs.Told.{Told, success, refusedAt}
 use Rattle.meaning.specs.Written.{nothing, pair}
 use Rattle.meaning.proofs.Choice.{lt-yes, lt-no, eq-yes, eq-no}
 use Rattle.meaning.proofs.Written.{pair-nothing}
+use Rattle.meaning.specs.Paper.{paperBytes}
 use Rattle.book.specs.declared.reader.Shape.{Shape}
 use Rattle.book.specs.Numbers.{shape}
 use Rattle.book.specs.Format.{u16At, BookRead, good, bad, readOf, toldOf, bookOf, bookIn, ReadAs}
@@ -57,12 +58,12 @@ module _ (b : Book) (s : List ℕ) where
   unfolding paperOf
   paper-short h = lt-yes _ _ _ _ h
 
-  pub paper-long : 60000 < length s → paperOf b s ≡ refusedAt 20 0
+  pub paper-long : paperBytes < length s → paperOf b s ≡ refusedAt 20 0
   unfolding paperOf
   paper-long h = lt-no _ _ _ _ (omega arith) ∙ lt-yes _ _ _ _ h
 
   -- m is what the code found of the mark
-  pub paper-marked : 6 ≤ length s → length s ≤ 60000 → {m n : Marked} → m ≡ markIn s → m ≡ n → markedTold b s n ≡ paperOf b s
+  pub paper-marked : 6 ≤ length s → length s ≤ paperBytes → {m n : Marked} → m ≡ markIn s → m ≡ n → markedTold b s n ≡ paperOf b s
   unfolding paperOf
   paper-marked h g e f = sym (lt-no _ _ _ _ h ∙ lt-no _ _ _ _ g ∙ ap (markedTold b s) (sym e ∙ f))
 

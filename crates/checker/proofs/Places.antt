@@ -14,7 +14,7 @@ use Rattle.meaning.specs.Sets.{_∉_, some}
 use Rattle.meaning.specs.Books.{Atoms, Rules, ruleNo, sameRule, among, Book, rule, InBook, someRule}
 use Rattle.meaning.specs.Paper.{fails}
 use Rattle.meaning.proofs.Choice.{b-no, b-either}
-use Rattle.meaning.proofs.Tests.{either, neither-left, neither-right, decided, clash, refuted, proved}
+use Rattle.meaning.proofs.Tests.{either, neither-left, neither-right, decided, true-and-false, refuted, proved}
 use Rattle.meaning.proofs.Sets.{some-append}
 use Rattle.meaning.proofs.Rules.{every-rule-at, every-rule-all, some-rule-by, some-rule-one}
 use Rattle.checker.specs.Witness.{Check, fine, wrong, andThen, follows, orderOf, blockedOf, restFails, listOf}
@@ -85,7 +85,7 @@ module _ (b : Book) where
       (λ e. first-later (Turn before (n ∷ l)) (follows-yes b before n e)
       (subst (λ (p : ℕ → Rules). First (λ i. Follows b (p i) (getD l i 0)) (length l) (at + 1) (orderOf b (at + 1) (ruleNo n ∷ before) l))
       (earlier-next before n l) (order-first (at + 1) (ruleNo n ∷ before) l)))
-      (λ e. first-now (Turn before (n ∷ l)) (length l) at (λ m. clash (yes-follows b before n m) e))
+      (λ e. first-now (Turn before (n ∷ l)) (length l) at (λ m. true-and-false (yes-follows b before n m) e))
 
   blocked-first : (x : Atoms) (at : ℕ) (l : List ℕ)
       → First (λ i. some x (rule b (ruleNo (getD l i 0)) .neg) ≡ false) (length l) at (blockedOf b x at l)
@@ -93,7 +93,7 @@ module _ (b : Book) where
   blocked-first x at [] = none (λ i h. absurd (not-suc-le-zero h))
   blocked-first x at (n ∷ l) =
       b-either (First (P (n ∷ l)) (suc (length l)) at) (some x (rule b (ruleNo n) .neg)) _ _
-      (λ e. first-now (P (n ∷ l)) (length l) at (λ m. clash e m))
+      (λ e. first-now (P (n ∷ l)) (length l) at (λ m. true-and-false e m))
       (λ e. first-later (P (n ∷ l)) e (blocked-first x (at + 1) l))
     where
       P : List ℕ → ℕ → Type 0
@@ -116,11 +116,11 @@ module _ (b : Book) where
           (r, h, neither-left (among w r) _ n, neither-right (among w r) _ n)
 
       none-found : someRule b unfit ≡ false → (r : RuleNo) × InBook b r × (r ∉ among w) × (fails x (rule b r) ≡ false)
-      none-found n = clash (every-rule-all b _ (λ r h. proved (λ m. clash (some-rule-one b unfit r h (ap not m)) n))) e
+      none-found n = true-and-false (every-rule-all b _ (λ r h. proved (λ m. true-and-false (some-rule-one b unfit r h (ap not m)) n))) e
 
   one-rest : (x : Atoms) (w : List RuleNo) (r : RuleNo) → InBook b r → r ∉ among w → fails x (rule b r) ≡ false → restFails b x w ≡ false
   unfolding restFails
-  one-rest x w r h m n = refuted (λ e. ⊎-elim (λ p. clash p m) (λ p. clash p n) (either (among w r) _ (every-rule-at b _ e r h)))
+  one-rest x w r h m n = refuted (λ e. ⊎-elim (λ p. true-and-false p m) (λ p. true-and-false p n) (either (among w r) _ (every-rule-at b _ e r h)))
 
 -- ---- the whole witness
 

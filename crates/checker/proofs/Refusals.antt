@@ -19,7 +19,7 @@ use Rattle.checker.specs.Steps.{fails}
 use Rattle.checker.specs.Branches.{done, wrongAt}
 use Rattle.checker.specs.Witness.{witnessVerdict}
 use Rattle.checker.specs.Check.{checkOf}
-use Rattle.checker.specs.Rows.{startOf, claimOf, witnessBytes, LengthGood, MarkGood, TrailerGood, AtomGood, Framed}
+use Rattle.checker.specs.Rows.{startOf, claimOf, witnessBytes, LengthGood, MarkGood, TrailerGood, AtomGood, FramedPaper}
 use Rattle.checker.specs.Rows.{Malformed, Unheld, Comes, first-step}
 use Rattle.checker.specs.Places.{WrongAt}
 use Rattle.checker.proofs.Steps.{StepIs, malformed, unheld}
@@ -105,7 +105,7 @@ module _ (book paper : List ℕ) where
 
   -- ---- 24 and 25: the steps in order
 
-  module _ (f : Framed b paper) where
+  module _ (f : FramedPaper b paper) where
     inside : from ≤ length paper
     inside = let t = f .trailer in omega arith
 
@@ -114,32 +114,32 @@ module _ (book paper : List ℕ) where
 
   -- 24: none of these, and the checker comes to a step that is malformed
   pub refused-form : (at : ℕ) → (checkOf book paper ≡ refusedAt 24 at)
-      ↔ (GoodBook book b × (Framed b paper × (c : Pair) × Comes b k paper from at c × Malformed b paper from at))
+      ↔ (GoodBook book b × (FramedPaper b paper × (c : Pair) × Comes b k paper from at c × Malformed b paper from at))
   refused-form at = exactly (omega arith) there
       (λ (f, c, p, m). at-form f (comes-refused b k paper from (inside f) 24 at p (malformed m)))
     where
       is-malformed : {c : Pair} → StepIs b k paper from at c (fails 24) → Malformed b paper from at
       is-malformed (malformed m) = m
 
-      there : PaperRow b paper (refusedAt 24 at) → Framed b paper × (c : Pair) × Comes b k paper from at c × Malformed b paper from at
+      there : PaperRow b paper (refusedAt 24 at) → FramedPaper b paper × (c : Pair) × Comes b k paper from at c × Malformed b paper from at
       there (at-form f e) = let (c, p, q) = came f e in (f, c, p, is-malformed q)
 
   -- 25: none of these, and the checker comes to a step that is well-formed and whose condition does not hold
   pub refused-step : (at : ℕ) → (checkOf book paper ≡ refusedAt 25 at)
-      ↔ (GoodBook book b × (Framed b paper × (c : Pair) × Comes b k paper from at c × Unheld b k paper from at c))
+      ↔ (GoodBook book b × (FramedPaper b paper × (c : Pair) × Comes b k paper from at c × Unheld b k paper from at c))
   refused-step at = exactly (omega arith) there
       (λ (f, c, p, u). at-step f (comes-refused b k paper from (inside f) 25 at p (unheld (u .formed) (u .fails))))
     where
       is-unheld : {c : Pair} → StepIs b k paper from at c (fails 25) → Unheld b k paper from at c
       is-unheld (unheld f e) = record { test = _; next = _; formed = f; fails = e }
 
-      there : PaperRow b paper (refusedAt 25 at) → Framed b paper × (c : Pair) × Comes b k paper from at c × Unheld b k paper from at c
+      there : PaperRow b paper (refusedAt 25 at) → FramedPaper b paper × (c : Pair) × Comes b k paper from at c × Unheld b k paper from at c
       there (at-step f e) = let (c, p, q) = came f e in (f, c, p, is-unheld q)
 
   -- ---- 26 and 27: behind the last 45
 
   -- the bytes before m are the branch from byte 0
-  module _ (f : Framed b paper) where
+  module _ (f : FramedPaper b paper) where
     done-first : {m : ℕ} → walkOf b paper ≡ done m → (m ≤ from) × Branch b k start (take m paper)
     done-first {m} e =
         (done-between b k paper from _ _ _ _ e .1, rw (sub-zero m) at (done-branch b k paper from (inside f) _ _ _ _ e))
@@ -150,19 +150,19 @@ module _ (book paper : List ℕ) where
 
   -- 26: none of these, and the branch from byte 0 ends before the witness; at the first byte behind it
   pub refused-gap : (at : ℕ) → (checkOf book paper ≡ refusedAt 26 at)
-      ↔ (GoodBook book b × (Framed b paper × Branch b k start (take at paper) × (at < from)))
+      ↔ (GoodBook book b × (FramedPaper b paper × Branch b k start (take at paper) × (at < from)))
   refused-gap at = exactly (omega arith) there (λ (f, p, h). at-gap f (first-done f (omega arith) p) (λ e. omega arith))
     where
-      there : PaperRow b paper (refusedAt 26 at) → Framed b paper × Branch b k start (take at paper) × (at < from)
+      there : PaperRow b paper (refusedAt 26 at) → FramedPaper b paper × Branch b k start (take at paper) × (at < from)
       there (at-gap f e n) = let (h, p) = done-first f e in (f, p, omega arith)
 
   -- 27: none of these, so that the steps are one branch up to the witness, and the witness is wrong
   pub refused-witness : (at : ℕ) → (checkOf book paper ≡ refusedAt 27 at)
-      ↔ (GoodBook book b × (Framed b paper × Branch b k start (take from paper) × WrongAt b paper from (witnessBytes paper) at))
+      ↔ (GoodBook book b × (FramedPaper b paper × Branch b k start (take from paper) × WrongAt b paper from (witnessBytes paper) at))
   unfolding witnessVerdict
   refused-witness at = exactly (omega arith) there
       (λ (f, p, w). at-witness f (first-done f (omega arith) p) (wrong-list b paper from (witnessBytes paper) w))
     where
       there : PaperRow b paper (refusedAt 27 at)
-          → Framed b paper × Branch b k start (take from paper) × WrongAt b paper from (witnessBytes paper) at
+          → FramedPaper b paper × Branch b k start (take from paper) × WrongAt b paper from (witnessBytes paper) at
       there (at-witness f e w) = let (h, p) = done-first f e in (f, p, list-wrong b paper from (witnessBytes paper) w)

@@ -18,7 +18,7 @@ use Rattle.book.proofs.Refusals.{good-read, read-good}
 use Rattle.checker.specs.Branches.{Walked, done, wrongAt, branchOf}
 use Rattle.checker.specs.Witness.{Check, fine, wrong, witnessVerdict}
 use Rattle.checker.specs.Check.{witnessTold, branchTold, stepsTold, trailerTold, markedTold, paperOf, checkRead, checkOf}
-use Rattle.checker.specs.Rows.{countOf, startOf, claimOf, LengthGood, MarkGood, TrailerGood, AtomGood, Framed}
+use Rattle.checker.specs.Rows.{countOf, startOf, claimOf, LengthGood, MarkGood, TrailerGood, AtomGood, FramedPaper}
 use Rattle.checker.proofs.Marked.{mark-tells, mark-either, no-mark}
 use Rattle.checker.proofs.Branches.{refused-between}
 
@@ -31,24 +31,24 @@ pub data PaperRow (b : Book) (s : List ℕ) : Told Claim → Type 0 where
   at-mark : LengthGood s → ¬ MarkGood s → PaperRow b s (refusedAt 21 (length s - 2))
   at-trailer : LengthGood s → MarkGood s → ¬ TrailerGood s → PaperRow b s (refusedAt 22 (length s - 4))
   at-atom : LengthGood s → MarkGood s → TrailerGood s → ¬ AtomGood b s → PaperRow b s (refusedAt 23 (length s - 6))
-  at-form : {at : ℕ} → Framed b s → walkOf b s ≡ wrongAt 24 at → PaperRow b s (refusedAt 24 at)
-  at-step : {at : ℕ} → Framed b s → walkOf b s ≡ wrongAt 25 at → PaperRow b s (refusedAt 25 at)
-  at-gap : {at : ℕ} → Framed b s → walkOf b s ≡ done at → ¬ (at ≡ startOf s) → PaperRow b s (refusedAt 26 at)
-  at-witness : {at : ℕ} → Framed b s → walkOf b s ≡ done (startOf s) → witnessVerdict b s (startOf s) (countOf s) ≡ wrong at
+  at-form : {at : ℕ} → FramedPaper b s → walkOf b s ≡ wrongAt 24 at → PaperRow b s (refusedAt 24 at)
+  at-step : {at : ℕ} → FramedPaper b s → walkOf b s ≡ wrongAt 25 at → PaperRow b s (refusedAt 25 at)
+  at-gap : {at : ℕ} → FramedPaper b s → walkOf b s ≡ done at → ¬ (at ≡ startOf s) → PaperRow b s (refusedAt 26 at)
+  at-witness : {at : ℕ} → FramedPaper b s → walkOf b s ≡ done (startOf s) → witnessVerdict b s (startOf s) (countOf s) ≡ wrong at
       → PaperRow b s (refusedAt 27 at)
-  nowhere : Framed b s → walkOf b s ≡ done (startOf s) → witnessVerdict b s (startOf s) (countOf s) ≡ fine
+  nowhere : FramedPaper b s → walkOf b s ≡ done (startOf s) → witnessVerdict b s (startOf s) (countOf s) ≡ fine
       → PaperRow b s (success (claimOf s))
 
 module _ (b : Book) (s : List ℕ) where
   -- ---- every answer has its row
 
-  witness-row : Framed b s → walkOf b s ≡ done (startOf s) → (c : Check) → witnessVerdict b s (startOf s) (countOf s) ≡ c
+  witness-row : FramedPaper b s → walkOf b s ≡ done (startOf s) → (c : Check) → witnessVerdict b s (startOf s) (countOf s) ≡ c
       → PaperRow b s (witnessTold (claimOf s) c)
   unfolding witnessTold
   witness-row f e fine w = nowhere f e w
   witness-row f e (wrong at) w = at-witness f e w
 
-  walk-row : Framed b s → (w : Walked) → walkOf b s ≡ w → PaperRow b s (branchTold b (claimOf s) s (countOf s) (startOf s) w)
+  walk-row : FramedPaper b s → (w : Walked) → walkOf b s ≡ w → PaperRow b s (branchTold b (claimOf s) s (countOf s) (startOf s) w)
   unfolding branchTold
   walk-row f (done at) e =
       eq-either (PaperRow b s) _ _ _ _ (λ p. witness-row f (rw p at e) _ refl) (λ n. at-gap f e n)
@@ -80,7 +80,7 @@ module _ (b : Book) (s : List ℕ) where
   unfolding paperOf markedTold
   marked-told l m = lt-no _ _ _ _ (l .at-least) ∙ lt-no _ _ _ _ (l .at-most) ∙ ap (markedTold b s) (mark-tells s m)
 
-  framed-told : Framed b s → {w : Walked} → walkOf b s ≡ w → paperOf b s ≡ branchTold b (claimOf s) s (countOf s) (startOf s) w
+  framed-told : FramedPaper b s → {w : Walked} → walkOf b s ≡ w → paperOf b s ≡ branchTold b (claimOf s) s (countOf s) (startOf s) w
   unfolding trailerTold stepsTold claimed
   framed-told f e = marked-told (f .size) (f .mark) ∙ eq-yes _ _ _ _ (f .trailer) ∙ lt-yes _ _ _ _ (f .atom) ∙ rw e
 

@@ -21,7 +21,7 @@ use Rattle.meaning.specs.Colours.{heads, plus, Under}
 use Rattle.meaning.specs.Paper.{fails}
 use Rattle.meaning.specs.Written.{of}
 use Rattle.meaning.proofs.Choice.{b-yes, b-no, b-either}
-use Rattle.meaning.proofs.Tests.{both, left, not-first, not-second, first, other, either, same, decided, refuted}
+use Rattle.meaning.proofs.Tests.{both, and-left, not-first, not-second, or-left, or-right, either, same, decided, refuted}
 use Rattle.meaning.proofs.Sets.{some-of-not-every, none-of-every}
 use Rattle.meaning.proofs.Rules.{same-rule, rule-same, heads-of, heads-by, heads-mono, every-rule-at, every-rule-all}
 use Rattle.meaning.proofs.Written.{of-none, of-set}
@@ -58,11 +58,11 @@ module _ (b : Book) where
   module _ (r : RuleNo) (h : InBook b r) (before : List RuleNo) where
     grown : Under b (among before) (among (r ∷ before))
     unfolding some
-    grown q l m = other (sameRule q r) m
+    grown q l m = or-right (sameRule q r) m
 
     listed-now : r ∈ among (r ∷ before)
     unfolding some
-    listed-now = first _ (rule-same refl)
+    listed-now = or-left _ (rule-same refl)
 
     head-more : (a : AtomNo) → (rule b r .head ≡ a → ⊥) → heads b (among before) a ≡ heads b (among (r ∷ before)) a
     unfolding some
@@ -155,7 +155,7 @@ module _ (b : Book) where
   unfolding orderOf follows
   order-first at before n l =
       b-either (λ c. c ≡ fine → (n < count b) × (orderOf b (at + 1) (ruleNo n ∷ before) l ≡ fine)) (follows b before n) _ _
-      (λ t e. (ltb-true _ _ (left (ltb n (count b)) _ t), e)) (λ t e. let z : _≡_ {A = ℕ} 0 1 = cc in absurd (omega arith))
+      (λ t e. (ltb-true _ _ (and-left (ltb n (count b)) _ t), e)) (λ t e. let z : _≡_ {A = ℕ} 0 1 = cc in absurd (omega arith))
 
   order-at : (at : ℕ) (before : List RuleNo) (l : List ℕ) → orderOf b at before l ≡ fine → (i : ℕ) → i < length l → getD l i 0 < count b
   order-at at before [] e i h = absurd (not-suc-le-zero h)
@@ -197,7 +197,7 @@ blocked-same b n x y f at (r ∷ l) h =
 module _ (x : Atoms) (r : Rule) where
   pub fails-positive : every x (r .pos) ≡ false → fails x r ≡ true
   unfolding fails
-  fails-positive e = first _ (some-of-not-every (λ a n. ap not n) (r .pos) e)
+  fails-positive e = or-left _ (some-of-not-every (λ a n. ap not n) (r .pos) e)
 
   pub fails-negative : every x (r .pos) ≡ true → fails x r ≡ some x (r .neg)
   unfolding fails

@@ -16,7 +16,7 @@ use Rattle.meaning.specs.Colours.{heads}
 use Rattle.meaning.specs.Paper.{grounded, once, fails, Witness}
 use Rattle.meaning.specs.Choice.{ifb}
 use Rattle.meaning.proofs.Choice.{b-yes, b-no, b-either}
-use Rattle.meaning.proofs.Tests.{both, left, right, either, first, other, decided, clash}
+use Rattle.meaning.proofs.Tests.{both, and-left, and-right, either, or-left, or-right, decided, true-and-false}
 use Rattle.meaning.proofs.Rules.{every-rule-at, every-rule-all}
 use Rattle.checker.specs.Witness.{Check, fine, wrong, andThen, follows, orderOf, blockedOf, restFails, listOf, witnessVerdict}
 use Rattle.checker.specs.Places.{Follows}
@@ -44,11 +44,11 @@ module _ (b : Book) (before : List RuleNo) (n : ℕ) where
   pub follows-yes : follows b before n ≡ true → Follows b (among before) n
   unfolding follows
   follows-yes e =
-      let f = right (ltb n (count b)) _ e in
+      let f = and-right (ltb n (count b)) _ e in
       record {
-        below = ltb-true _ _ (left _ _ e);
-        new = not-true _ (left (not (among before (ruleNo n))) _ f);
-        held = right (not (among before (ruleNo n))) _ f;
+        below = ltb-true _ _ (and-left _ _ e);
+        new = not-true _ (and-left (not (among before (ruleNo n))) _ f);
+        held = and-right (not (among before (ruleNo n))) _ f;
       }
 
   pub yes-follows : Follows b (among before) n → follows b before n ≡ true
@@ -84,15 +84,15 @@ module _ (b : Book) where
       here : Follows b (among before) n
       here = record {
         below = o .below n (List·Memᴰ·head refl);
-        new = not-true _ (left (not (among before (ruleNo n))) _ (o .new));
-        held = left (every (heads b (among before)) _) _ (o .held);
+        new = not-true _ (and-left (not (among before (ruleNo n))) _ (o .new));
+        held = and-left (every (heads b (among before)) _) _ (o .held);
       }
 
       rest : Ordered (ruleNo n ∷ before) l
       rest = record {
         below = λ i m. o .below i (List·Memᴰ·tail m);
-        held = right (every (heads b (among before)) _) _ (o .held);
-        new = right (not (among before (ruleNo n))) _ (o .new);
+        held = and-right (every (heads b (among before)) _) _ (o .held);
+        new = and-right (not (among before (ruleNo n))) _ (o .new);
       }
 
   -- ---- the second pass
@@ -113,11 +113,11 @@ module _ (b : Book) where
 
     rest-all : (w : List RuleNo) → restFails b x w ≡ true → (r : RuleNo) → InBook b r → r ∉ among w → fails x (rule b r) ≡ true
     unfolding restFails
-    rest-all w e r h n = ⊎-elim (λ m. clash m n) (λ p. p) (either (among w r) _ (every-rule-at b _ e r h))
+    rest-all w e r h n = ⊎-elim (λ m. true-and-false m n) (λ p. p) (either (among w r) _ (every-rule-at b _ e r h))
 
     all-rest : (w : List RuleNo) → ((r : RuleNo) → InBook b r → r ∉ among w → fails x (rule b r) ≡ true) → restFails b x w ≡ true
     unfolding restFails
-    all-rest w f = every-rule-all b _ (λ r h. ⊎-elim (λ m. first _ m) (λ n. other (among w r) (f r h n)) (decided (among w r)))
+    all-rest w f = every-rule-all b _ (λ r h. ⊎-elim (λ m. or-left _ m) (λ n. or-right (among w r) (f r h n)) (decided (among w r)))
 
   -- ---- the whole witness
 

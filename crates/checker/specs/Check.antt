@@ -13,6 +13,7 @@ use Rattle.meaning.specs.declared.kind.Marked.the-variants.{Of, Neither}
 use Rattle.meaning.specs.Claim.{claim, claimed, markedBy}
 use Rattle.meaning.specs.Choice.{ifLt, ifEq}
 use Rattle.meaning.specs.Told.{Told, success, refusedAt}
+use Rattle.meaning.specs.Paper.{paperBytes}
 use Rattle.book.specs.Format.{u16At, BookRead, good, bad, readOf}
 use Rattle.checker.specs.Branches.{Walked, done, wrongAt, branchOf}
 use Rattle.checker.specs.Witness.{Check, fine, wrong, witnessVerdict}
@@ -45,7 +46,7 @@ markedTold b s Neither = refusedAt 21 (length s - 2)
 unfoldable pub paperOf : Book → List ℕ → Told Claim
 paperOf b s =
     ifLt (length s) 6 (refusedAt 20 0)
-    (ifLt 60000 (length s) (refusedAt 20 0)
+    (ifLt paperBytes (length s) (refusedAt 20 0)
     (markedTold b s (markedBy (getD s (length s - 2) 0) (getD s (length s - 1) 0))))
 
 unfoldable pub checkRead : BookRead → List ℕ → Told Claim

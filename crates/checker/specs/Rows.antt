@@ -1,7 +1,7 @@
 -- Rows 20 to 26 of document 01's table, "Numbers given back", as conditions on a book and a paper: what proofs/Refusals says of each
 -- number. Nothing is computed from these; the answer is that of Check.
 --
---   LengthGood, MarkGood, TrailerGood, AtomGood   the opposites of 20, 21, 22 and 23; Framed: all four
+--   LengthGood, MarkGood, TrailerGood, AtomGood   the opposites of 20, 21, 22 and 23; FramedPaper: all four
 --   Malformed b s from at        the four causes of 24, of the step at byte `at` where the witness starts at `from`
 --   Formed b k s from at c t x   the step is well-formed: t tests its condition with the pair c, and x comes after it if it holds
 --   Unheld b k s from at c       25: the step is well-formed and its condition does not hold
@@ -22,7 +22,7 @@ use Rattle.meaning.specs.declared.kind.Kind.the-variants.{Naming, Clearing}
 use Rattle.meaning.specs.declared.kind.Claim.{Claim}
 use Rattle.meaning.specs.Claim.{claim, ended}
 use Rattle.meaning.specs.Choice.{ifEq}
-use Rattle.meaning.specs.Paper.{unfounded, codeOn, codeOff, codeUnfounded, codeSplit, codeEnd, Branch}
+use Rattle.meaning.specs.Paper.{unfounded, codeOn, codeOff, codeUnfounded, codeSplit, codeEnd, Branch, paperBytes}
 use Rattle.book.specs.Format.{u16At, partFrom}
 use Rattle.checker.specs.Steps.{Stepped, goes, parts, ends}
 
@@ -50,7 +50,7 @@ witnessBytes s = take (countOf s) (drop (startOf s) s)
 -- 20: "paper under 6 or over 60,000 bytes"
 pub record LengthGood (s : List ℕ) : Type 0 where
   pub at-least : 6 ≤ length s
-  pub at-most : length s ≤ 60000
+  pub at-most : length s ≤ paperBytes
 
 -- 21: "21 now means neither mark" (document 02, request 2)
 pub record MarkGood (s : List ℕ) : Type 0 where
@@ -65,7 +65,7 @@ TrailerGood s = startOf s + countOf s + 6 ≡ length s
 abbrev pub AtomGood : Book → List ℕ → Type 0
 AtomGood b s = atomOf s .0 < b .atoms
 
-pub record Framed (b : Book) (s : List ℕ) : Type 0 where
+pub record FramedPaper (b : Book) (s : List ℕ) : Type 0 where
   pub size : LengthGood s
   pub mark : MarkGood s
   pub trailer : TrailerGood s

@@ -28,8 +28,8 @@ pub fn may_go_on<'a>(
     book: &[u8],
     shape: Shape,
     r: RuleNo,
-    on: &'a [bool; 255],
-    off: &'a [bool; 255],
+    on: &'a [bool; Colouring::RULES],
+    off: &'a [bool; Colouring::RULES],
 ) -> bool
     requires { ⌜ ReadAs (now book) shape × (r .0 < shape .rules) ⌝ }
     ensures { λ b. ⌜ b ≡
@@ -43,7 +43,7 @@ pub fn may_go_on<'a>(
 }
 
 // 42: some negative atom is the head of an on rule.
-pub fn may_go_off(book: &[u8], shape: Shape, r: RuleNo, on: &[bool; 255]) -> bool
+pub fn may_go_off(book: &[u8], shape: Shape, r: RuleNo, on: &[bool; Colouring::RULES]) -> bool
     requires { ⌜ ReadAs (now book) shape × (r .0 < shape .rules) ⌝ }
     ensures { λ b. ⌜ b ≡ some (heads (bookIn (now (book .entry))) (of (now (on .entry))))
         (rule (bookIn (now (book .entry))) r .neg) ⌝ }
@@ -54,7 +54,11 @@ pub fn may_go_off(book: &[u8], shape: Shape, r: RuleNo, on: &[bool; 255]) -> boo
 }
 
 // 53: the rule has no colour.
-pub fn is_uncoloured<'a>(r: RuleNo, on: &'a [bool; 255], off: &'a [bool; 255]) -> bool
+pub fn is_uncoloured<'a>(
+    r: RuleNo,
+    on: &'a [bool; Colouring::RULES],
+    off: &'a [bool; Colouring::RULES],
+) -> bool
     requires { ⌜ r .0 < 255 ⌝ }
     ensures { λ b. ⌜ b ≡ uncoloured (lent (now (on .entry)) (now (off .entry))) r ⌝ }
 {
@@ -66,7 +70,11 @@ pub fn is_uncoloured<'a>(r: RuleNo, on: &'a [bool; 255], off: &'a [bool; 255]) -
 }
 
 // Some rule is in both sets.
-fn is_clashing<'a>(rules: usize, on: &'a [bool; 255], off: &'a [bool; 255]) -> bool
+fn is_clashing<'a>(
+    rules: usize,
+    on: &'a [bool; Colouring::RULES],
+    off: &'a [bool; Colouring::RULES],
+) -> bool
     requires { ⌜ rules ≤ 255 ⌝ }
     ensures { λ b. ⌜ b ≡ someBelow rules
         (λ n. of (now (on .entry)) (ruleNo n) && of (now (off .entry)) (ruleNo n)) ⌝ }
@@ -84,7 +92,7 @@ fn is_clashing<'a>(rules: usize, on: &'a [bool; 255], off: &'a [bool; 255]) -> b
 }
 
 // The atom is the head of a rule of the set.
-fn is_head(book: &[u8], shape: Shape, a: AtomNo, set: &[bool; 255]) -> bool
+fn is_head(book: &[u8], shape: Shape, a: AtomNo, set: &[bool; Colouring::RULES]) -> bool
     requires { ⌜ ReadAs (now book) shape ⌝ }
     ensures { λ b. ⌜ b ≡ heads (bookIn (now (book .entry))) (of (now (set .entry))) a ⌝ }
 {
@@ -101,7 +109,7 @@ fn is_head(book: &[u8], shape: Shape, a: AtomNo, set: &[bool; 255]) -> bool
 }
 
 // All rules with the atom as head are in the set.
-fn is_lost(book: &[u8], shape: Shape, a: AtomNo, set: &[bool; 255]) -> bool
+fn is_lost(book: &[u8], shape: Shape, a: AtomNo, set: &[bool; Colouring::RULES]) -> bool
     requires { ⌜ ReadAs (now book) shape ⌝ }
     ensures { λ b. ⌜ b ≡ allIn (bookIn (now (book .entry))) (of (now (set .entry))) a ⌝ }
 {
@@ -122,8 +130,8 @@ fn is_shown<'a>(
     book: &[u8],
     shape: Shape,
     claim: Claim,
-    on: &'a [bool; 255],
-    off: &'a [bool; 255],
+    on: &'a [bool; Colouring::RULES],
+    off: &'a [bool; Colouring::RULES],
 ) -> bool
     requires { ⌜ ReadAs (now book) shape ⌝ }
     ensures { λ b. ⌜ b ≡
@@ -142,8 +150,8 @@ pub fn is_ended<'a>(
     book: &[u8],
     shape: Shape,
     claim: Claim,
-    on: &'a [bool; 255],
-    off: &'a [bool; 255],
+    on: &'a [bool; Colouring::RULES],
+    off: &'a [bool; Colouring::RULES],
 ) -> bool
     requires { ⌜ ReadAs (now book) shape ⌝ }
     ensures { λ b. ⌜ b ≡

@@ -41,7 +41,7 @@ pub fn is_proper(list: &[u8], rules: u8) -> bool
 }
 
 // The set with the rules of the list put in.
-pub fn with_rules(mut set: [bool; 255], list: &[u8]) -> [bool; 255]
+pub fn with_rules(mut set: [bool; Colouring::RULES], list: &[u8]) -> [bool; Colouring::RULES]
     requires { ⌜ Below 255 (now list) ⌝ }
     ensures { λ r. ⌜ of r ≡ plus (of set) (map ruleNo (now (list .entry))) ⌝ }
 {
@@ -54,7 +54,7 @@ pub fn with_rules(mut set: [bool; 255], list: &[u8]) -> [bool; 255]
 }
 
 // Some positive atom of the rule is in the table.
-fn has_positive_in(book: &[u8], shape: Shape, r: RuleNo, table: &[bool; 255]) -> bool
+fn has_positive_in(book: &[u8], shape: Shape, r: RuleNo, table: &[bool; Colouring::ATOMS]) -> bool
     requires { ⌜ ReadAs (now book) shape × (r .0 < shape .rules) ⌝ }
     ensures { λ b. ⌜ b ≡
         some (atomsIn (now (table .entry))) (rule (bookIn (now (book .entry))) r .pos) ⌝ }
@@ -64,7 +64,7 @@ fn has_positive_in(book: &[u8], shape: Shape, r: RuleNo, table: &[bool; 255]) ->
 }
 
 // Each listed rule has a positive atom in the table.
-fn each_has_in(book: &[u8], shape: Shape, list: &[u8], table: &[bool; 255]) -> bool
+fn each_has_in(book: &[u8], shape: Shape, list: &[u8], table: &[bool; Colouring::ATOMS]) -> bool
     requires { ⌜ ReadAs (now book) shape × Below (shape .rules) (now list) ⌝ }
     ensures { λ b. ⌜ b ≡
         every (λ r. some (atomsIn (now (table .entry))) (rule (bookIn (now (book .entry))) r .pos))
@@ -81,7 +81,7 @@ fn each_has_in(book: &[u8], shape: Shape, list: &[u8], table: &[bool; 255]) -> b
 }
 
 // 55: each listed rule has a positive atom all of whose rules are off or listed.
-pub fn is_unfounded(book: &[u8], shape: Shape, list: &[u8], off: &[bool; 255]) -> bool
+pub fn is_unfounded(book: &[u8], shape: Shape, list: &[u8], off: &[bool; Colouring::RULES]) -> bool
     requires { ⌜ ReadAs (now book) shape × Below (shape .rules) (now list) ⌝ }
     ensures { λ b. ⌜ b ≡
         unfounded (bookIn (now (book .entry))) (of (now (off .entry)))

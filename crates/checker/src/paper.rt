@@ -4,6 +4,7 @@ ghost use mathlib.Core.Path.{_≡_};
 ghost use Prim.Native.Nat.{_+_, _≤_};
 ghost use lib.ListN.{length};
 ghost use Rattle.meaning.specs.declared.kind.Marked.the-variants.{Of};
+ghost use Rattle.meaning.specs.Paper.{paperBytes};
 ghost use Rattle.book.specs.Format.{bookIn, ReadAs};
 ghost use Rattle.checker.specs.Numbers.{told};
 ghost use Rattle.checker.specs.Check.{stepsTold, markedTold, paperOf, checkOf};
@@ -23,13 +24,14 @@ use meaning::Claim;
 use meaning::Colouring;
 use meaning::Kind;
 use meaning::Marked;
+use meaning::PAPER_BYTES;
 
 // The steps from the empty colouring, then that nothing stands between them and the witness, then
 // the witness.
 fn check_steps(book: &[u8], shape: Shape, paper: &[u8], trailer: Trailer) -> Checked
     requires { ⌜ ReadAs (now book) shape
         × (trailer .from + trailer .count + 6 ≡ length (now paper))
-        × (length (now paper) ≤ 60000) ⌝ }
+        × (length (now paper) ≤ paperBytes) ⌝ }
     ensures { λ r. ⌜ told r ≡ stepsTold (bookIn (now (book .entry))) (trailer .claim)
         (now (paper .entry)) (trailer .count) (trailer .from) ⌝ }
 {
@@ -52,7 +54,7 @@ fn check_steps(book: &[u8], shape: Shape, paper: &[u8], trailer: Trailer) -> Che
 // A paper with a mark of this kind: the trailer, then the steps and the witness.
 fn check_claim(book: &[u8], shape: Shape, paper: &[u8], kind: Kind) -> Checked
     requires { ⌜ ReadAs (now book) shape
-        × (6 ≤ length (now paper)) × (length (now paper) ≤ 60000) ⌝ }
+        × (6 ≤ length (now paper)) × (length (now paper) ≤ paperBytes) ⌝ }
     ensures { λ r. ⌜ told r ≡
         markedTold (bookIn (now (book .entry))) (now (paper .entry)) (Of kind) ⌝ }
 {
@@ -82,7 +84,7 @@ fn check_paper(book: &[u8], shape: Shape, paper: &[u8]) -> Checked
     if len < 6 {
         return Checked::Length;
     }
-    if 60000 < len {
+    if PAPER_BYTES < len {
         return Checked::Length;
     }
     match Kind::by_mark(paper[len - 2], paper[len - 1]) {

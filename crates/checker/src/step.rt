@@ -17,6 +17,7 @@ use crate::list::is_unfounded;
 use crate::trailer::Trailer;
 use book::Shape;
 use book::wide;
+use meaning::Colouring;
 use meaning::RuleNo;
 use meaning::STEP_END;
 use meaning::STEP_OFF;
@@ -53,8 +54,8 @@ fn check_rule_step<'a>(
     paper: &[u8],
     trailer: Trailer,
     at: usize,
-    on: &'a [bool; 255],
-    off: &'a [bool; 255],
+    on: &'a [bool; Colouring::RULES],
+    off: &'a [bool; Colouring::RULES],
 ) -> Step
     requires { ⌜ Ready (now book) shape (now paper) (trailer .from) × (at < trailer .from)
         × (getD (now paper) at 0 ≡ codeUnfounded → ⊥) × (getD (now paper) at 0 ≡ codeEnd → ⊥) ⌝ }
@@ -99,7 +100,7 @@ fn check_list_step(
     paper: &[u8],
     trailer: Trailer,
     at: usize,
-    off: &[bool; 255],
+    off: &[bool; Colouring::RULES],
 ) -> Step
     requires { ⌜ Ready (now book) shape (now paper) (trailer .from) × (at < trailer .from)
         × (getD (now paper) at 0 ≡ codeUnfounded) ⌝ }
@@ -135,8 +136,8 @@ pub fn check_step<'a>(
     paper: &[u8],
     trailer: Trailer,
     at: usize,
-    on: &'a [bool; 255],
-    off: &'a [bool; 255],
+    on: &'a [bool; Colouring::RULES],
+    off: &'a [bool; Colouring::RULES],
 ) -> Step
     requires { ⌜ Ready (now book) shape (now paper) (trailer .from) ⌝ }
     ensures { λ x. ⌜ Finds (bookIn (now (book .entry))) (trailer .claim)

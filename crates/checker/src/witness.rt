@@ -5,7 +5,7 @@ ghost use mathlib.Core.List.{[]};
 ghost use Prim.Native.Nat.{_+_, _<_, _≤_};
 ghost use lib.ListN.{length};
 ghost use Rattle.meaning.specs.Books.{rule, everyRule};
-ghost use Rattle.meaning.specs.Paper.{fails};
+ghost use Rattle.meaning.specs.Paper.{fails, paperBytes};
 ghost use Rattle.meaning.specs.Written.{of};
 ghost use Rattle.book.specs.Format.{bookIn, ReadAs};
 ghost use Rattle.book.specs.Tables.{atomsIn, Below};
@@ -65,7 +65,7 @@ fn check_unblocked(
     shape: Shape,
     list: &[u8],
     from: usize,
-    headed: &[bool; 255],
+    headed: &[bool; Colouring::ATOMS],
 ) -> Verdict
     requires { ⌜ ReadAs (now book) shape × Below (shape .rules) (now list)
         × (from + length (now list) < 65536) ⌝ }
@@ -84,7 +84,7 @@ fn check_unblocked(
 }
 
 // The rule has a positive atom outside the table or a negative atom in it.
-fn fails_in(book: &[u8], shape: Shape, r: RuleNo, headed: &[bool; 255]) -> bool
+fn fails_in(book: &[u8], shape: Shape, r: RuleNo, headed: &[bool; Colouring::ATOMS]) -> bool
     requires { ⌜ ReadAs (now book) shape × (r .0 < shape .rules) ⌝ }
     ensures { λ b. ⌜ b ≡
         fails (atomsIn (now (headed .entry))) (rule (bookIn (now (book .entry))) r) ⌝ }
@@ -99,8 +99,8 @@ fn fails_in(book: &[u8], shape: Shape, r: RuleNo, headed: &[bool; 255]) -> bool
 fn rest_fails<'a>(
     book: &[u8],
     shape: Shape,
-    listed: &'a [bool; 255],
-    headed: &'a [bool; 255],
+    listed: &'a [bool; Colouring::RULES],
+    headed: &'a [bool; Colouring::ATOMS],
 ) -> bool
     requires { ⌜ ReadAs (now book) shape ⌝ }
     ensures { λ b. ⌜ b ≡ everyRule (bookIn (now (book .entry)))
@@ -123,7 +123,7 @@ fn rest_fails<'a>(
 pub fn check_witness(book: &[u8], shape: Shape, paper: &[u8], trailer: Trailer) -> Verdict
     requires { ⌜ ReadAs (now book) shape
         × (trailer .from + trailer .count + 6 ≡ length (now paper))
-        × (length (now paper) ≤ 60000) ⌝ }
+        × (length (now paper) ≤ paperBytes) ⌝ }
     ensures { λ v. ⌜ verdict v ≡ witnessVerdict (bookIn (now (book .entry))) (now (paper .entry))
         (trailer .from) (trailer .count) ⌝ }
 {

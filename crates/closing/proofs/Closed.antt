@@ -15,7 +15,7 @@ use Rattle.meaning.specs.Colours.{Pair, heads, allIn, mayOn, blocked, starved, 
 use Rattle.meaning.specs.Written.{of, lent, pair}
 use Rattle.meaning.specs.Lowest.{Pick, lowestFrom, lowest, inBoth, clashed}
 use Rattle.meaning.specs.Computed.{support, close}
-use Rattle.meaning.proofs.Tests.{both, left, right, either, first, other, absent}
+use Rattle.meaning.proofs.Tests.{both, and-left, and-right, either, or-left, or-right, absent}
 use Rattle.meaning.proofs.Sets.{every-mono}
 use Rattle.meaning.proofs.Rules.{within-on, within-off, within-both, allIn-mono, blocked-mono}
 use Rattle.meaning.proofs.Written.{Sized}
@@ -29,7 +29,7 @@ use Rattle.closing.proofs.Good.{Asks}
 use Rattle.closing.proofs.Searches.{lowest-in}
 
 -- the sets, the marks and the tables of a closing that started from two sets
-pub record Closes (b : Book) (on₀ off₀ on off marks headed lost : List Bool) : Type 0 where
+pub record UnderWay (b : Book) (on₀ off₀ on off marks headed lost : List Bool) : Type 0 where
   pub reached : Reached b (lent on₀ off₀) (lent on off)
   pub on-long : length on ≡ 255
   pub off-long : length off ≡ 255
@@ -41,7 +41,7 @@ pub record Closes (b : Book) (on₀ off₀ on off marks headed lost : List Bool)
 
 module _ (b : Book) (asks : Asks b) {on₀ off₀ : List Bool} where
   pub closes-start : length on₀ ≡ 255 → length off₀ ≡ 255 → {marks headed lost : List Bool} → headed ≡ atomTable (heads b (of on₀))
-      → lost ≡ atomTable (allIn b (of off₀)) → marks ≡ support b (of off₀) → Closes b on₀ off₀ on₀ off₀ marks headed lost
+      → lost ≡ atomTable (allIn b (of off₀)) → marks ≡ support b (of off₀) → UnderWay b on₀ off₀ on₀ off₀ marks headed lost
   closes-start u v e f g = record {
     reached = reached-start b (lent on₀ off₀);
     on-long = u;
@@ -53,7 +53,7 @@ module _ (b : Book) (asks : Asks b) {on₀ off₀ : List Bool} where
     supported = g;
   }
 
-  module _ {on off marks headed lost : List Bool} (s : Closes b on₀ off₀ on off marks headed lost) where
+  module _ {on off marks headed lost : List Bool} (s : UnderWay b on₀ off₀ on off marks headed lost) where
     -- ---- what the tables and the marks say of the pair
 
     by-lost : (r : RuleNo) → InBook b r → every (atomsIn lost) (rule b r .neg) ≡ every (allIn b (of off)) (rule b r .neg)
@@ -74,11 +74,11 @@ module _ (b : Book) (asks : Asks b) {on₀ off₀ : List Bool} where
 
     on-goes : (d : Pair) → Within b (lent on off) d → Closed b d → Under b (goingOn b lost .goes (d .on)) (d .on)
     unfolding goingOn onWith mayOn
-    on-goes d w k r h a = k .goes-on r h (both (left (every (heads b (d .on)) _) _ a)
-        (every-mono (allIn-mono b (within-off b w)) _ (sym (by-lost r h) ∙ right (every (heads b (d .on)) (rule b r .pos)) _ a)))
+    on-goes d w k r h a = k .goes-on r h (both (and-left (every (heads b (d .on)) _) _ a)
+        (every-mono (allIn-mono b (within-off b w)) _ (sym (by-lost r h) ∙ and-right (every (heads b (d .on)) (rule b r .pos)) _ a)))
 
     pub closes-on : {m headed' : List Bool} {more : Bool} → Pass b (goingOn b lost) (count b) on m more
-        → headed' ≡ atomTable (heads b (of m)) → Closes b on₀ off₀ m off marks headed' lost
+        → headed' ≡ atomTable (heads b (of m)) → UnderWay b on₀ off₀ m off marks headed' lost
     closes-on p e = record {
       reached = reached-more b (s .reached) (within-both b (λ r h. p .grown .above r) (λ r h k. k)) (λ d w k. within-both b
           (p .grown .forced (d .on) (on-goes d w k) (within-on b w)) (within-off b w));
@@ -99,7 +99,7 @@ module _ (b : Book) (asks : Asks b) {on₀ off₀ : List Bool} where
         (k .goes-off-starved r h) (either (offByTables b headed marks r) _ a)
 
     pub closes-off : {m lost' marks' : List Bool} {more : Bool} → Pass b (goingOff b headed marks) (count b) off m more
-        → lost' ≡ atomTable (allIn b (of m)) → marks' ≡ support b (of m) → Closes b on₀ off₀ on m marks' headed lost'
+        → lost' ≡ atomTable (allIn b (of m)) → marks' ≡ support b (of m) → UnderWay b on₀ off₀ on m marks' headed lost'
     closes-off p e g = record {
       reached = reached-more b (s .reached) (within-both b (λ r h k. k) (λ r h. p .grown .above r)) (λ d w k. within-both b
           (within-on b w) (p .grown .forced (d .off) (off-goes d w k) (within-off b w)));
@@ -116,22 +116,22 @@ module _ (b : Book) (asks : Asks b) {on₀ off₀ : List Bool} where
 
     rests-on : {m : List Bool} → Pass b (goingOn b lost) (count b) on m false → Under b (mayOn b (lent on off)) (of on)
     unfolding goingOn onWith mayOn
-    rests-on p r h m = p .none-rests refl r h (both (left (every (heads b (of on)) _) _ m)
-        (by-lost r h ∙ right (every (heads b (of on)) (rule b r .pos)) _ m))
+    rests-on p r h m = p .none-rests refl r h (both (and-left (every (heads b (of on)) _) _ m)
+        (by-lost r h ∙ and-right (every (heads b (of on)) (rule b r .pos)) _ m))
 
     rests-blocked : {m : List Bool} → Pass b (goingOff b headed marks) (count b) off m false → Under b (blocked b (lent on off)) (of off)
     unfolding goingOff offByTables
-    rests-blocked p r h m = p .none-rests refl r h (other (not (of marks r)) (by-blocked r h ∙ m))
+    rests-blocked p r h m = p .none-rests refl r h (or-right (not (of marks r)) (by-blocked r h ∙ m))
 
     rests-unmarked : {m : List Bool} → Pass b (goingOff b headed marks) (count b) off m false
         → (r : RuleNo) → InBook b r → r ∉ of (support b (of off)) → r ∈ of off
     unfolding goingOff offByTables
-    rests-unmarked p r h n = let z : of marks r ≡ false = rw (s .supported) n in p .none-rests refl r h (first _ (ap not z))
+    rests-unmarked p r h n = let z : of marks r ≡ false = rw (s .supported) n in p .none-rests refl r h (or-left _ (ap not z))
 
 -- ---- the end of the closing
 
 pub closes-end : (b : Book) → Asks b → (c : Colouring) → Sized c → {on off marks headed lost : List Bool}
-    → Closes b (c .on) (c .off) on off marks headed lost
+    → UnderWay b (c .on) (c .off) on off marks headed lost
     → {on' headed' : List Bool} → Pass b (goingOn b lost) (count b) on on' false → headed' ≡ atomTable (heads b (of on'))
     → {off' lost' marks' : List Bool} → Pass b (goingOff b headed' marks) (count b) off off' false
     → lost' ≡ atomTable (allIn b (of off')) → marks' ≡ support b (of off')

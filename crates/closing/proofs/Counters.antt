@@ -18,7 +18,7 @@ use Rattle.meaning.specs.Books.{Atoms, Rules, atomNo, ruleNo, Book, count, rule
 use Rattle.meaning.specs.Written.{of}
 use Rattle.meaning.specs.Colours.{heads, Under}
 use Rattle.meaning.proofs.Choice.{b-yes, b-no}
-use Rattle.meaning.proofs.Tests.{first, decided}
+use Rattle.meaning.proofs.Tests.{or-left, decided}
 use Rattle.meaning.proofs.Written.{of-set}
 use Rattle.meaning.proofs.Sets.{every-mono, every-here, every-all-next, every-all-end}
 use Rattle.meaning.proofs.Rules.{heads-mono}
@@ -211,4 +211,4 @@ module _ (b : Book) where
   }
     where
       grown : Under b (of marks) (of (set marks (r .0) true))
-      grown q k m = rw (of-set marks r room) (first _ m)
+      grown q k m = rw (of-set marks r room) (or-left _ m)

@@ -14,7 +14,7 @@ use Rattle.meaning.specs.Sets.{_∈_}
 use Rattle.meaning.specs.Books.{Rules, ruleNo, among, Book, count, InBook}
 use Rattle.meaning.specs.Colours.{Under, plus}
 use Rattle.meaning.specs.Written.{of}
-use Rattle.meaning.proofs.Tests.{either, first, other, clash, refuted, proved}
+use Rattle.meaning.proofs.Tests.{either, or-left, or-right, true-and-false, refuted, proved}
 use Rattle.meaning.proofs.Rules.{among-one, one-among, one-under}
 use Rattle.meaning.proofs.Written.{of-set, size, size-le, grows}
 use Rattle.closing.specs.Growing.{Condition, Turn, stays, added, Grown, Pass}
@@ -29,7 +29,7 @@ room b l = count b - size (count b) l
 
 -- the rule that is added is in the set
 set-in : (r : RuleNo) (m : List Bool) → r .0 < length m → r ∈ of (set m (r .0) true)
-set-in r m room = rw (of-set m r room) (other (of m r) (one-among r))
+set-in r m room = rw (of-set m r room) (or-right (of m r) (one-among r))
 
 module _ {b : Book} {k : Condition} where
   pub grown-start : (l : List Bool) → Grown b k l l
@@ -56,15 +56,15 @@ module _ {b : Book} {k : Condition} where
       → Grown b k m (set m (r .0) true)
   grown-set mono r m h room g = record {
     long = length-set m (r .0) true;
-    outside = λ q out. rw (of-set m r room) (apart q out);
-    above = λ q e. rw (of-set m r room) (first _ e);
+    outside = λ q out. rw (of-set m r room) (beyond q out);
+    above = λ q e. rw (of-set m r room) (or-left _ e);
     forced = λ w goes under q in-book e. ⊎-elim (under q in-book)
         (one-under b w r (goes r h (mono (of m) w under r h g)) q in-book)
         (either (of m q) _ (rw (of-set m r room) at e));
   }
     where
-      apart : (q : RuleNo) → count b ≤ q .0 → plus (of m) (r ∷ []) q ≡ of m q
-      apart q out =
+      beyond : (q : RuleNo) → count b ≤ q .0 → plus (of m) (r ∷ []) q ≡ of m q
+      beyond q out =
           let n : among (r ∷ []) q ≡ false = refuted (λ e. let z = among-one {r = r} e in omega (arith, ap (λ (p : RuleNo). p .0) z)) in
           rw n (or-false (of m q))
 
@@ -81,10 +81,10 @@ module _ {b : Book} {k : Condition} where
     where
       here : (r : RuleNo) → r ≡ ruleNo n → l ≡ m → r ∈ k .must (of l) → r ∈ of l
       here r q s a = proved (λ u.
-          let v : of m (ruleNo n) ≡ false = cc in let w = f v in clash a (cc))
+          let v : of m (ruleNo n) ≡ false = cc in let w = f v in true-and-false a (cc))
   pass-turn mono n {l} {m} h room p (added u g) = record {
     grown = grown-more (p .grown) (grown-set mono (ruleNo n) m h room g);
-    more-differs = λ e s. clash (p .grown .above (ruleNo n) (rw s (set-in (ruleNo n) m room))) u;
+    more-differs = λ e s. true-and-false (p .grown .above (ruleNo n) (rw s (set-in (ruleNo n) m room))) u;
     none-same = λ e. absurd (true≢false e);
     none-rests = λ e. absurd (true≢false e);
   }

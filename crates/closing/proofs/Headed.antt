@@ -11,7 +11,7 @@ use Rattle.meaning.specs.declared.RuleNo.{RuleNo}
 use Rattle.meaning.specs.Books.{Rules, ruleNo, Book, count, rule, InBook}
 use Rattle.meaning.specs.Colours.{heads, plus}
 use Rattle.meaning.specs.Written.{of}
-use Rattle.meaning.proofs.Tests.{either, first, other, same}
+use Rattle.meaning.proofs.Tests.{either, or-left, or-right, same}
 use Rattle.meaning.proofs.Rules.{among-one, one-among, heads-of, heads-by, heads-mono}
 use Rattle.meaning.proofs.Written.{of-none, of-set}
 use Rattle.book.specs.Tables.{atomTable}
@@ -31,7 +31,7 @@ module _ (b : Book) where
 
   -- the heads of one rule more are the same but for its own head
   heads-plus : (s : Rules) (r : RuleNo) (a : AtomNo) → (a .0 ≡ rule b r .head .0 → ⊥) → heads b s a ≡ heads b (plus s (r ∷ [])) a
-  heads-plus s r a n = same _ _ (heads-mono b (λ q k m. first _ m) a) (λ e.
+  heads-plus s r a n = same _ _ (heads-mono b (λ q k m. or-left _ m) a) (λ e.
       let (q, k, m, z) = heads-by b _ a e in
       ⊎-elim (λ p. rw z at (heads-of b s q k p))
       (λ p. let y : q ≡ r = among-one p in absurd (n (sym (ap (λ (c : AtomNo). c .0) (rw y at z))))) (either (s q) _ m))
@@ -39,4 +39,4 @@ module _ (b : Book) where
   pub headed-set : (l : List Bool) {headed : List Bool} → headed ≡ atomTable (heads b (of l)) → (r : RuleNo) → InBook b r → r .0 < length l
       → (a : AtomNo) → a ≡ rule b r .head → a .0 < 255 → set headed (a .0) true ≡ atomTable (heads b (of (set l (r .0) true)))
   headed-set l e r h room a q low = rw (e, of-set l r room, q) (table-set _ _ (rule b r .head) true (rw q at low)
-      (heads-of b _ r h (other (of l r) (one-among r))) (λ c n. heads-plus (of l) r c n))
+      (heads-of b _ r h (or-right (of l r) (one-among r))) (λ c n. heads-plus (of l) r c n))

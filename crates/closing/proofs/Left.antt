@@ -13,7 +13,7 @@ use Rattle.meaning.specs.Books.{Book, count, InBook}
 use Rattle.meaning.specs.Colours.{Pair, Side, onSide, offSide, side, put, Under, Within, uncoloured}
 use Rattle.meaning.specs.Written.{pair}
 use Rattle.meaning.specs.Computed.{close}
-use Rattle.meaning.proofs.Tests.{first, other, clash, proved}
+use Rattle.meaning.proofs.Tests.{or-left, or-right, true-and-false, proved}
 use Rattle.meaning.proofs.Rules.{one-among, one-under, put-above, put-within, uncoloured-no}
 use Rattle.meaning.proofs.RulesIn.{rules-length, rules-more, rules-fewer}
 use Rattle.meaning.proofs.Written.{Sized, pair-on, pair-off, sized-on, sized-off}
@@ -27,13 +27,13 @@ sized-chosen offSide r s = sized-off r s
 -- the rule that is put in is there, and so has a colour
 put-in : (x : Side) (r : RuleNo) (c : Pair) → r ∈ side x (put x (r ∷ []) c)
 unfolding side put
-put-in onSide r c = other (c .on r) (one-among r)
-put-in offSide r c = other (c .off r) (one-among r)
+put-in onSide r c = or-right (c .on r) (one-among r)
+put-in offSide r c = or-right (c .off r) (one-among r)
 
 coloured : (x : Side) (c : Pair) (r : RuleNo) → r ∈ side x c → r ∉ uncoloured c
 unfolding side uncoloured
-coloured onSide c r m = ap not (first _ m)
-coloured offSide c r m = ap not (other (c .on r) m)
+coloured onSide c r m = ap not (or-left _ m)
+coloured offSide c r m = ap not (or-right (c .on r) m)
 
 module _ (b : Book) where
   -- ---- a rule chosen
@@ -57,7 +57,7 @@ module _ (b : Book) where
   uncoloured-mono : {c d : Pair} → Within b c d → Under b (uncoloured d) (uncoloured c)
   unfolding side
   uncoloured-mono {c} {d} w r h m = proved (λ n. ⊎-elim
-      (λ p. clash m (coloured onSide d r (w .each onSide r h p))) (λ p. clash m (coloured offSide d r (w .each offSide r h p)))
+      (λ p. true-and-false m (coloured onSide d r (w .each onSide r h p))) (λ p. true-and-false m (coloured offSide d r (w .each offSide r h p)))
       (uncoloured-no b c r n))
 
   pub left-count : (c : Colouring) → left b c ≤ count b

@@ -12,7 +12,7 @@ use Rattle.meaning.specs.Sets.{_∉_, someBelow}
 use Rattle.meaning.specs.Books.{Rules, ruleNo, Book, count}
 use Rattle.meaning.specs.Written.{of, lent}
 use Rattle.meaning.specs.Lowest.{Pick, none, one, lowestFrom, lowest, inBoth}
-use Rattle.meaning.proofs.Tests.{both, not-first, not-second, clash, refuted}
+use Rattle.meaning.proofs.Tests.{both, not-first, not-second, true-and-false, refuted}
 use Rattle.meaning.proofs.Sets.{below-one, none-next}
 use Rattle.meaning.proofs.Lowest.{none-from, one-from}
 
@@ -32,7 +32,7 @@ module _ (n : ℕ) (s : Rules) where
     none-turn h m k = (omega arith, none-next i _ m (k .1))
 
     earlier : NoneYet n s i → (q : RuleNo) → q .0 < i → q ∉ s
-    earlier k q h = refuted (λ m. clash (below-one i (λ j. s (ruleNo j)) (q .0) h m) (k .1))
+    earlier k q h = refuted (λ m. true-and-false (below-one i (λ j. s (ruleNo j)) (q .0) h m) (k .1))
 
     pub pick-found : i < n → s (ruleNo i) ≡ true → NoneYet n s i → one (ruleNo i) ≡ lowestFrom 0 n s
     pick-found h m k = sym (one-from n s (ruleNo i) h m (earlier k))

@@ -10,7 +10,7 @@ use Rattle.meaning.specs.Books.{Rules, Book, count}
 use Rattle.meaning.specs.Colours.{Under, Upheld}
 use Rattle.meaning.specs.Written.{of}
 use Rattle.meaning.specs.Computed.{upheld, support}
-use Rattle.meaning.proofs.Tests.{both, left, right, clash}
+use Rattle.meaning.proofs.Tests.{both, and-left, and-right, true-and-false}
 use Rattle.meaning.proofs.Written.{of-none}
 use Rattle.meaning.proofs.Support.{support-computed}
 use Rattle.closing.specs.Growing.{Grown, Pass}
@@ -19,7 +19,7 @@ use Rattle.closing.specs.Conditions.{marking}
 module _ (b : Book) (off : Rules) where
   upheld-goes : (w : Rules) → Upheld b off w → Under b (marking b off .goes w) w
   unfolding marking upheld
-  upheld-goes w u r h m = u r h (not-true _ (left (not (off r)) _ m)) (right (not (off r)) _ m)
+  upheld-goes w u r h m = u r h (not-true _ (and-left (not (off r)) _ m)) (and-right (not (off r)) _ m)
 
   must-upheld : (w : Rules) → Under b (marking b off .must w) w → Upheld b off w
   unfolding marking upheld
@@ -31,5 +31,5 @@ module _ (b : Book) (off : Rules) where
       sym (p .none-same refl) ∙ support-computed b off l fits (g .long ∙ length-replicate 255 false) (λ r h. g .outside r h ∙ of-none 255 r)
       (record {
         good = must-upheld (of l) (p .none-rests refl);
-        least = λ w u. g .forced w (upheld-goes w u) (λ r h m. clash m (of-none 255 r));
+        least = λ w u. g .forced w (upheld-goes w u) (λ r h m. true-and-false m (of-none 255 r));
       })

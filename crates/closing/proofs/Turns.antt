@@ -11,7 +11,7 @@ use Rattle.meaning.specs.Books.{Rules, Book, rule, InBook}
 use Rattle.meaning.specs.Colours.{heads, allIn}
 use Rattle.meaning.specs.Written.{of}
 use Rattle.meaning.specs.Computed.{upheld}
-use Rattle.meaning.proofs.Tests.{both, left, right, not-first, not-second, either, first, other, neither, clash}
+use Rattle.meaning.proofs.Tests.{both, and-left, and-right, not-first, not-second, either, or-left, or-right, neither, true-and-false}
 use Rattle.meaning.proofs.Sets.{every-mono, some-mono}
 use Rattle.meaning.proofs.Rules.{heads-mono, allIn-mono}
 use Rattle.book.specs.Tables.{atomTable, atomsIn}
@@ -24,7 +24,7 @@ module _ (r : RuleNo) (l : List Bool) (more : Bool) where
   -- the rule is in the set already
   pub turn-in : (k : Condition) → getD l (r .0) false ≡ true → Turn k r l more l more
   unfolding of
-  turn-in k e = stays (λ n. clash e n)
+  turn-in k e = stays (λ n. true-and-false e n)
 
   module _ (b : Book) where
     -- ---- marking
@@ -70,17 +70,17 @@ module _ (r : RuleNo) (l : List Bool) (more : Bool) where
       pub off-unmarked : getD l (r .0) false ≡ false → getD marks (r .0) false ≡ false
           → Turn (goingOff b headed marks) r l more (set l (r .0) true) true
       unfolding goingOff offByTables of
-      off-unmarked n e = off-added n (first _ (first _ (ap not e)))
+      off-unmarked n e = off-added n (or-left _ (or-left _ (ap not e)))
 
       pub off-blocked : getD l (r .0) false ≡ false → some (atomsIn headed) (rule b r .neg) ≡ true
           → Turn (goingOff b headed marks) r l more (set l (r .0) true) true
       unfolding goingOff offByTables
-      off-blocked n e = off-added n (first _ (other (not (of marks r)) e))
+      off-blocked n e = off-added n (or-left _ (or-right (not (of marks r)) e))
 
       pub off-starved : getD l (r .0) false ≡ false → some (allIn b (of l)) (rule b r .pos) ≡ true
           → Turn (goingOff b headed marks) r l more (set l (r .0) true) true
       unfolding goingOff
-      off-starved n e = off-added n (other (offByTables b headed marks r) e)
+      off-starved n e = off-added n (or-right (offByTables b headed marks r) e)
 
 -- what goes_on answers by the table of the heads of the set
 pub on-asked : (b : Book) → Asks b → (l : List Bool) (r : RuleNo) → InBook b r → (headed : List Bool) → headed ≡ atomTable (heads b (of l))
@@ -94,15 +94,15 @@ on-asked b asks l r h headed e lost f = f ∙ rw (e, asks .pos r h (heads b (of 
 module _ (b : Book) where
   pub marking-mono : (off : Rules) → Monotone b (marking b off)
   unfolding marking upheld
-  marking-mono off s t f r h m = both (left (not (off r)) _ m) (every-mono (heads-mono b f) _ (right (not (off r)) _ m))
+  marking-mono off s t f r h m = both (and-left (not (off r)) _ m) (every-mono (heads-mono b f) _ (and-right (not (off r)) _ m))
 
   pub going-on-mono : (lost : List Bool) → Monotone b (goingOn b lost)
   unfolding goingOn onWith
   going-on-mono lost s t f r h m = both
-      (every-mono (heads-mono b f) _ (left (every (heads b s) _) _ m)) (right (every (heads b s) (rule b r .pos)) _ m)
+      (every-mono (heads-mono b f) _ (and-left (every (heads b s) _) _ m)) (and-right (every (heads b s) (rule b r .pos)) _ m)
 
   pub going-off-mono : (headed marks : List Bool) → Monotone b (goingOff b headed marks)
   unfolding goingOff
   going-off-mono headed marks s t f r h m =
-      ⊎-elim (λ p. first _ p) (λ p. other (offByTables b headed marks r) (some-mono (allIn-mono b f) _ p))
+      ⊎-elim (λ p. or-left _ p) (λ p. or-right (offByTables b headed marks r) (some-mono (allIn-mono b f) _ p))
       (either (offByTables b headed marks r) _ m)

@@ -3,6 +3,7 @@ ghost use mathlib.Core.Path.{_≡_};
 ghost use Rattle.meaning.specs.Written.{lent};
 ghost use Rattle.meaning.specs.Lowest.{lowestFrom, inBoth};
 ghost use Rattle.closing.specs.Picked.{picked};
+use meaning::Colouring;
 use meaning::RuleNo;
 
 // No rule, or one.
@@ -12,7 +13,11 @@ pub enum Picked {
 }
 
 // The lowest of the first `rules` rules that is in both sets.
-pub fn lowest_clash<'a>(rules: u8, on: &'a [bool; 255], off: &'a [bool; 255]) -> Picked
+pub fn lowest_clash<'a>(
+    rules: u8,
+    on: &'a [bool; Colouring::RULES],
+    off: &'a [bool; Colouring::RULES],
+) -> Picked
     ensures { λ r. ⌜ picked r ≡
         lowestFrom 0 rules (inBoth (lent (now (on .entry)) (now (off .entry)))) ⌝ }
 {

@@ -19,7 +19,7 @@ use meaning::Colouring;
 use meaning::RuleNo;
 
 // How many atoms are still missing, where the last `left` of them were.
-fn still_missing(atoms: &[u8], mut left: u8, supported: &[bool; 255]) -> u8
+fn still_missing(atoms: &[u8], mut left: u8, supported: &[bool; Colouring::ATOMS]) -> u8
     requires { ⌜ (left ≤ length (now atoms)) × Below 255 (now atoms) ⌝ }
     ensures { λ r. ⌜ r ≡
         stillMissing (atomsIn (now (supported .entry))) (now (atoms .entry)) left ⌝ }
@@ -35,7 +35,7 @@ fn still_missing(atoms: &[u8], mut left: u8, supported: &[bool; 255]) -> u8
 }
 
 // At first every positive atom is missing.
-fn all_missing(book: &[u8], shape: Shape, missing: &mut [u8; 255])
+fn all_missing(book: &[u8], shape: Shape, missing: &mut [u8; Colouring::RULES])
     requires { ⌜ ReadAs (now book) shape × (length (now missing) ≡ 255) ⌝ }
     ensures { λ _. ⌜ Counted (bookIn (now (book .entry))) (of (replicate 255 false))
         (now (missing .exit)) (replicate 255 false) ⌝ }
@@ -53,10 +53,10 @@ fn try_rule(
     book: &[u8],
     shape: Shape,
     r: RuleNo,
-    off: &[bool; 255],
-    marks: &mut [bool; 255],
-    missing: &mut [u8; 255],
-    supported: &mut [bool; 255],
+    off: &[bool; Colouring::RULES],
+    marks: &mut [bool; Colouring::RULES],
+    missing: &mut [u8; Colouring::RULES],
+    supported: &mut [bool; Colouring::ATOMS],
     more: bool,
 ) -> bool
     requires { ⌜ ReadAs (now book) shape × (r .0 < shape .rules) × (length (now marks) ≡ 255)
@@ -89,10 +89,10 @@ fn try_rule(
 fn sweep(
     book: &[u8],
     shape: Shape,
-    off: &[bool; 255],
-    marks: &mut [bool; 255],
-    missing: &mut [u8; 255],
-    supported: &mut [bool; 255],
+    off: &[bool; Colouring::RULES],
+    marks: &mut [bool; Colouring::RULES],
+    missing: &mut [u8; Colouring::RULES],
+    supported: &mut [bool; Colouring::ATOMS],
 ) -> bool
     requires { ⌜ ReadAs (now book) shape × (length (now marks) ≡ 255)
         × Counted (bookIn (now book)) (of (now marks)) (now missing) (now supported) ⌝ }
@@ -115,7 +115,12 @@ fn sweep(
 
 // Writes the smallest set of rules in which is every rule that is not off and whose positive atoms
 // are all heads of its rules, over whatever the marks held.
-pub fn support(book: &[u8], shape: Shape, off: &[bool; 255], marks: &mut [bool; 255])
+pub fn support(
+    book: &[u8],
+    shape: Shape,
+    off: &[bool; Colouring::RULES],
+    marks: &mut [bool; Colouring::RULES],
+)
     requires { ⌜ ReadAs (now book) shape ⌝ }
     ensures { λ _. ⌜ now (marks .exit) ≡
         support (bookIn (now (book .entry))) (of (now (off .entry))) ⌝ }

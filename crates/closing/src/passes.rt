@@ -27,9 +27,9 @@ fn try_on(
     book: &[u8],
     shape: Shape,
     r: RuleNo,
-    lost: &[bool; 255],
-    on: &mut [bool; 255],
-    headed: &mut [bool; 255],
+    lost: &[bool; Colouring::ATOMS],
+    on: &mut [bool; Colouring::RULES],
+    headed: &mut [bool; Colouring::ATOMS],
     more: bool,
 ) -> bool
     requires { ⌜ ReadAs (now book) shape × (r .0 < shape .rules) × (length (now on) ≡ 255)
@@ -57,9 +57,9 @@ fn try_on(
 pub fn pass_on(
     book: &[u8],
     shape: Shape,
-    lost: &[bool; 255],
-    on: &mut [bool; 255],
-    headed: &mut [bool; 255],
+    lost: &[bool; Colouring::ATOMS],
+    on: &mut [bool; Colouring::RULES],
+    headed: &mut [bool; Colouring::ATOMS],
 ) -> bool
     requires { ⌜ ReadAs (now book) shape × (length (now on) ≡ 255)
         × (now headed ≡ atomTable (heads (bookIn (now book)) (of (now on)))) ⌝ }
@@ -85,10 +85,10 @@ fn try_off(
     book: &[u8],
     shape: Shape,
     r: RuleNo,
-    headed: &[bool; 255],
-    marks: &[bool; 255],
-    off: &mut [bool; 255],
-    dropped: &mut [bool; 255],
+    headed: &[bool; Colouring::ATOMS],
+    marks: &[bool; Colouring::RULES],
+    off: &mut [bool; Colouring::RULES],
+    dropped: &mut [bool; Colouring::RULES],
     more: bool,
 ) -> bool
     requires { ⌜ ReadAs (now book) shape × (r .0 < shape .rules) ⌝ }
@@ -123,9 +123,9 @@ fn try_off(
 fn pass_off(
     book: &[u8],
     shape: Shape,
-    headed: &[bool; 255],
-    marks: &[bool; 255],
-    off: &mut [bool; 255],
+    headed: &[bool; Colouring::ATOMS],
+    marks: &[bool; Colouring::RULES],
+    off: &mut [bool; Colouring::RULES],
 ) -> bool
     requires { ⌜ ReadAs (now book) shape × (length (now off) ≡ 255) ⌝ }
     ensures { λ more. ⌜ Pass (bookIn (now (book .entry)))
@@ -155,10 +155,10 @@ fn pass_off(
 pub fn grow_off(
     book: &[u8],
     shape: Shape,
-    headed: &[bool; 255],
-    off: &mut [bool; 255],
-    lost: &mut [bool; 255],
-    marks: &mut [bool; 255],
+    headed: &[bool; Colouring::ATOMS],
+    off: &mut [bool; Colouring::RULES],
+    lost: &mut [bool; Colouring::ATOMS],
+    marks: &mut [bool; Colouring::RULES],
 ) -> bool
     requires { ⌜ ReadAs (now book) shape × (length (now off) ≡ 255)
         × (now lost ≡ atomTable (allIn (bookIn (now book)) (of (now off))))

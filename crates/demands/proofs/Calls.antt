@@ -21,9 +21,9 @@ use Rattle.walk.proofs.Readings.{readings-all}
 use Rattle.walk.proofs.Order.{readings-only}
 use Rattle.walk.proofs.Needs.{needs-some, needs-one}
 use Rattle.walk.proofs.Demand.{find-good-book}
-use Rattle.writer.specs.Needs.{Needs as PaperNeeds}
+use Rattle.writer.specs.PaperNeeds.{PaperNeeds}
 use Rattle.writer.specs.Write.{writeIn, writeOf}
-use Rattle.writer.proofs.Needs.{needs-some as paper-needs-some, needs-one as paper-needs-one}
+use Rattle.writer.proofs.PaperNeeds.{paper-needs-some, paper-needs-one}
 use Rattle.writer.proofs.Stages.{write-good-book}
 use Rattle.writer.proofs.Ways.{Nameable, fits-nameable}
 use Rattle.demands.specs.Damaged.{GoodBook}

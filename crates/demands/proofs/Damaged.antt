@@ -8,7 +8,7 @@ use native.Mathlib.Omega.{arith}
 use lib.ListN.{length}
 use Rattle.meaning.specs.Books.{Book}
 use Rattle.meaning.specs.declared.kind.Claim.{Claim}
-use Rattle.meaning.specs.Paper.{Keeps}
+use Rattle.meaning.specs.Paper.{Keeps, paperBytes}
 use Rattle.meaning.specs.Told.{Told, success, refusedWith, refusedAt, refused}
 use Rattle.book.specs.Format.{BookRead, good, bad, readOf, bookIn}
 use Rattle.book.specs.Rows.{Bytes}
@@ -117,11 +117,11 @@ module _ (book paper : List ℕ) where
 
   -- every paper for a good book keeps the printed rules, at no more than 60,000 bytes, or is damaged
   pub every-paper : Bytes paper → {b : Book} → GoodBook book b
-      → ((k : Claim) × Keeps b k paper × (length paper ≤ 60000)) ⊎ ((i : ℕ) × (at : ℕ) × DamagedPaper b paper i at)
+      → ((k : Claim) × Keeps b k paper × (length paper ≤ paperBytes)) ⊎ ((i : ℕ) × (at : ℕ) × DamagedPaper b paper i at)
   every-paper bytes {b} g = go (checkOf book paper) refl
     where
       go : (t : Told Claim) → checkOf book paper ≡ t
-          → ((k : Claim) × Keeps b k paper × (length paper ≤ 60000)) ⊎ ((i : ℕ) × (at : ℕ) × DamagedPaper b paper i at)
+          → ((k : Claim) × Keeps b k paper × (length paper ≤ paperBytes)) ⊎ ((i : ℕ) × (at : ℕ) × DamagedPaper b paper i at)
       go (success k) e = let (h, p, l) = check-exact book paper bytes k .0 e in inl (k, rw (good-is book g) at p, l)
       go (refusedAt i at) e = ⊎-elim (not-both book g)
           (λ (c, h, d). inr (i, at, rw (sym (good-is book h) ∙ good-is book g) at d)) (check-refused i at .0 e)

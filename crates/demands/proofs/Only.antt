@@ -13,17 +13,17 @@ use Rattle.meaning.specs.AnswerSet.{AnswerSet}
 use Rattle.meaning.specs.declared.kind.Kind.{Kind}
 use Rattle.meaning.specs.Claim.{claim, Holding}
 use Rattle.meaning.specs.Told.{Told, refusedAt, refused, fewer, stopped, Answered}
-use Rattle.meaning.proofs.Tests.{lt-or-le}
+use Rattle.meaning.proofs.Tests.{lt-or-le, apart}
+use Rattle.meaning.specs.Paper.{paperBytes}
 use Rattle.book.specs.Rows.{Bytes}
 use Rattle.walk.specs.Readings.{AllReadings}
 use Rattle.walk.specs.Tries.{Needs, to-reading, to-end, lastClash}
 use Rattle.walk.specs.Run.{rowOf}
 use Rattle.walk.specs.Find.{set, findOf}
-use Rattle.walk.proofs.Run.{apart}
 use Rattle.walk.proofs.Needs.{needs-some}
-use Rattle.writer.specs.Needs.{paperFor}
+use Rattle.writer.specs.PaperNeeds.{paperFor}
 use Rattle.writer.specs.Write.{Handed, paper, lacking, writeOf}
-use Rattle.writer.proofs.Needs.{needs-some as paper-needs-some}
+use Rattle.writer.proofs.PaperNeeds.{paper-needs-some}
 use Rattle.writer.proofs.First.{kth-answer, fewer-none}
 use Rattle.checker.specs.Check.{checkOf}
 use Rattle.demands.specs.Engine.{Engine, ours}
@@ -113,21 +113,21 @@ module _ (q : Kind) (book : List ℕ) (bytes : Bytes book) (a : AtomNo) (limit :
 
     -- within the limit: 12, or 14, or the paper
     module _ (x : Atoms) (m : ℕ) (w : InLimit b (claim q a) limit x m) where
-      writes : Holding q b a → length (own x) ≤ length buffer → length (own x) ≤ 60000
+      writes : Holding q b a → length (own x) ≤ length buffer → length (own x) ≤ paperBytes
           → Writes (record { told = paper m (length (own x)); buffer = own x ++ drop (length (own x)) buffer })
       unfolding Writes
       writes t room most e p s r =
           let (k, told, stands) = r .writes book b a limit buffer c t x m w room most in
           λ i. record { told = told i; buffer = stands i }
 
-      long : Holding q b a → (length buffer < length (own x)) ⊎ (60000 < length (own x))
+      long : Holding q b a → (length buffer < length (own x)) ⊎ (paperBytes < length (own x))
           → Writes (record { told = refused 14; buffer = buffer })
       long t l = leaves (refused 14) (λ u n z. apart (cc)) (λ e p s r. r .tells-length book b a limit buffer c t x m w .1 l)
 
       within-written : (r : Answered Handed) × Writes r
       within-written = ⊎-elim
           (λ t. ⊎-elim (λ l. (_, long t (inl l))) (λ l. ⊎-elim (λ h. (_, long t (inr h))) (λ h. (_, writes t l h))
-          (lt-or-le 60000 (length (own x)))) (lt-or-le (length buffer) (length (own x))))
+          (lt-or-le paperBytes (length (own x)))) (lt-or-le (length buffer) (length (own x))))
           (λ u. (_, leaves (refused (lacking q)) (λ t n z. apart (cc)) (λ e p s r. r .tells-lacking book b a limit buffer c x m w .1 u)))
           (holds-or-not q c (w .first))
 

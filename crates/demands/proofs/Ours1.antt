@@ -12,11 +12,11 @@ use Rattle.meaning.specs.declared.kind.Kind.{Kind}
 use Rattle.meaning.specs.Claim.{claim, claimed}
 use Rattle.meaning.specs.Told.{Told, refusedAt, refused, fewer, stopped, Answered}
 use Rattle.meaning.proofs.Choice.{lt-yes, lt-no, lt-either, eq-yes, eq-no, eq-either}
+use Rattle.meaning.proofs.Tests.{apart}
 use Rattle.walk.specs.Run.{State}
 use Rattle.walk.specs.Find.{set, toldBy, findIn, findOf}
 use Rattle.walk.specs.declared.tally.Halt.{Halt}
 use Rattle.walk.specs.declared.tally.Halt.the-variants.{Going, Full, Limit}
-use Rattle.walk.proofs.Run.{apart}
 use Rattle.walk.proofs.Demand.{find-bad-book}
 use Rattle.walk.proofs.Kept.{find-keeps}
 use Rattle.writer.specs.Scan.{Course, writing, limited, refuted, Progress}

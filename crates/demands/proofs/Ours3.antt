@@ -17,17 +17,17 @@ use Rattle.meaning.specs.declared.kind.Kind.{Kind}
 use Rattle.meaning.specs.declared.kind.Kind.the-variants.{Naming, Clearing}
 use Rattle.meaning.specs.declared.kind.Claim.{Claim}
 use Rattle.meaning.specs.Claim.{claim, meant, Holding}
-use Rattle.meaning.specs.Paper.{Keeps}
+use Rattle.meaning.specs.Paper.{Keeps, paperBytes}
 use Rattle.meaning.specs.Told.{Told, refusedAt, refused, fewer, Answered}
-use Rattle.meaning.proofs.Tests.{decided, clash, lt-or-le}
+use Rattle.meaning.proofs.Tests.{decided, true-and-false, lt-or-le}
 use Rattle.meaning.proofs.Claim.{claim-holds, not-both}
 use Rattle.book.specs.Format.{bookIn}
 use Rattle.book.specs.Rows.{Bytes}
 use Rattle.walk.specs.Tries.{Kth, to-reading}
 use Rattle.writer.specs.Branches.{branches}
-use Rattle.writer.specs.Needs.{settled, Stuck, to-stuck, to-end, paperFor}
+use Rattle.writer.specs.PaperNeeds.{settled, Stuck, to-stuck, to-last, paperFor}
 use Rattle.writer.specs.Write.{Handed, paper, lacking, writeIn, writeOf, nameOf, clearOf}
-use Rattle.writer.proofs.Needs.{stuck-some, needs-one}
+use Rattle.writer.proofs.PaperNeeds.{stuck-some, paper-needs-one}
 use Rattle.writer.proofs.Papers.{settled-each, unsettled-one, certain-settled}
 use Rattle.writer.proofs.First.{kth-answer}
 use Rattle.writer.proofs.Ways.{Nameable}
@@ -71,7 +71,7 @@ module _ {book : List ℕ} {b : Book} {a : AtomNo} (q : Kind) (c : Asking book b
   holds-or-not = ⊎-elim (λ s. inl (settled-holds s))
       (λ s. inr (λ t.
       let (y, answer, n) = unsettled-one b (claim q a) (nameable q c .few-rules) s in
-      clash (claim-holds b q a .1 t .each y answer) n))
+      true-and-false (claim-holds b q a .1 t .each y answer) n))
       (decided (every settled (branches b (claim q a) start)))
 
 module _ (q : Kind) (book : List ℕ) (b : Book) (a : AtomNo) (limit : ℕ) (buffer : List ℕ) (c : Asking book b a) where
@@ -92,9 +92,9 @@ module _ (q : Kind) (book : List ℕ) (b : Book) (a : AtomNo) (limit : ℕ) (buf
     first-answer = kth-answer b (good .few-rules) (w .first)
 
     branches-needed : every settled (branches b k start) ≡ true → length (branches b k start) ≡ m
-    branches-needed s = needs-one b k (to-end s) (w .needs)
+    branches-needed s = paper-needs-one b k (to-last s) (w .needs)
 
-    writes : Holding q b a → length (paperFor b k x) ≤ length buffer → length (paperFor b k x) ≤ 60000
+    writes : Holding q b a → length (paperFor b k x) ≤ length buffer → length (paperFor b k x) ≤ paperBytes
         → Keeps b k (paperFor b k x)
         × (writeOf book k limit buffer .told ≡ paper m (length (paperFor b k x)))
         × (writeOf book k limit buffer .buffer ≡ paperFor b k x ++ drop (length (paperFor b k x)) buffer)
@@ -108,7 +108,7 @@ module _ (q : Kind) (book : List ℕ) (b : Book) (a : AtomNo) (limit : ℕ) (buf
         )
 
     tells-length : Holding q b a → (writeOf book k limit buffer .told ≡ refused 14)
-        ↔ ((length buffer < length (paperFor b k x)) ⊎ (60000 < length (paperFor b k x)))
+        ↔ ((length buffer < length (paperFor b k x)) ⊎ (paperBytes < length (paperFor b k x)))
     tells-length t = along (refused 14) (ap (λ (r : Answered Handed). r .told) as-written)
         (write-too-long b k limit buffer good (to-reading (w .first)) (w .first-within) (x, first-answer) (w .needs)
         (w .paper-within) (certain-settled b k (good .few-rules) (throughout t)) (w .first))
@@ -116,12 +116,12 @@ module _ (q : Kind) (book : List ℕ) (b : Book) (a : AtomNo) (limit : ℕ) (buf
     -- the claim does not hold: some branch is left unsettled
     stuck-lacking : (Holding q b a → ⊥) → Stuck b k m
     stuck-lacking u = ⊎-elim (λ s. absurd (u (settled-holds q c (w .first) s)))
-        (λ s. let (n, p) = stuck-some b k s in rw (needs-one b k (to-stuck p) (w .needs)) at p)
+        (λ s. let (n, p) = stuck-some b k s in rw (paper-needs-one b k (to-stuck p) (w .needs)) at p)
         (decided (every settled (branches b k start)))
 
     tells-lacking : (writeOf book k limit buffer .told ≡ refused (lacking q)) ↔ (Holding q b a → ⊥)
     tells-lacking = along (refused (lacking q)) (ap (λ (r : Answered Handed). r .told) as-written) (
-      λ e t. let (y, answer, n) = write-lacks b k limit buffer good e in clash (throughout t .each y answer) n,
+      λ e t. let (y, answer, n) = write-lacks b k limit buffer good e in true-and-false (throughout t .each y answer) n,
       λ u. write-lacking b k limit buffer good (to-reading (w .first)) (w .first-within) (x, first-answer) (w .needs)
           (w .paper-within) .1 (stuck-lacking u),
     )

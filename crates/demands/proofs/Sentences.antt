@@ -18,17 +18,17 @@ use Rattle.meaning.specs.declared.kind.Claim.{Claim}
 use Rattle.meaning.specs.Claim.{claim}
 use Rattle.meaning.specs.Written.{nothing}
 use Rattle.meaning.specs.Told.{Told, refusedAt, refused, fewer, stopped, Answered}
-use Rattle.meaning.proofs.Tests.{left, right, lt-or-le}
+use Rattle.meaning.proofs.Tests.{and-left, and-right, lt-or-le, apart}
+use Rattle.meaning.specs.Paper.{paperBytes}
 use Rattle.book.specs.Format.{bookIn}
 use Rattle.book.specs.Rows.{Bytes}
 use Rattle.walk.specs.Events.{events}
 use Rattle.walk.specs.Readings.{readings}
-use Rattle.walk.specs.Tries.{to-reading, to-end as to-last}
+use Rattle.walk.specs.Tries.{to-reading, to-end}
 use Rattle.walk.specs.Find.{set, findOf}
-use Rattle.walk.proofs.Run.{apart}
 use Rattle.walk.proofs.Needs.{kth-count}
 use Rattle.walk.proofs.Demand.{find-set}
-use Rattle.writer.specs.Needs.{to-end, paperFor}
+use Rattle.writer.specs.PaperNeeds.{to-last, paperFor}
 use Rattle.writer.specs.Write.{Handed, paper, writeOf}
 use Rattle.writer.proofs.First.{fewer-none}
 use Rattle.writer.proofs.Ways.{Found, Settled, Outcome, first-stopped, no-reading, paper-stopped, got-stuck, too-long, handed-over}
@@ -48,8 +48,8 @@ use Rattle.demands.proofs.Ours3.{settled-holds, told-paper, told-none, 
 pub bytes-of : (l : List ℕ) → every (λ n. ltb n 256) l ≡ true → Bytes l
 unfolding every
 bytes-of [] e i = omega arith
-bytes-of (x ∷ l) e zero = ltb-true x 256 (left (ltb x 256) _ e)
-bytes-of (x ∷ l) e (suc i) = bytes-of l (right (ltb x 256) _ e) i
+bytes-of (x ∷ l) e zero = ltb-true x 256 (and-left (ltb x 256) _ e)
+bytes-of (x ∷ l) e (suc i) = bytes-of l (and-right (ltb x 256) _ e) i
 
 -- ---- finding
 
@@ -136,7 +136,7 @@ module _ (book s : List ℕ) (bytes : Bytes s) where
 handed : {b : Book} {k : Claim} {limit : ℕ} {buffer : List ℕ} {r : Answered Handed} → Outcome b k limit buffer r
     → {t n : ℕ} → r .told ≡ paper t n
     → (x : Atoms) × Found b limit x × Settled b k limit × (length (paperFor b k x) ≤ length buffer)
-    × (length (paperFor b k x) ≤ 60000)
+    × (length (paperFor b k x) ≤ paperBytes)
 handed (first-stopped p h) e = apart (cc)
 handed (no-reading h l) e = apart (cc)
 handed (paper-stopped f p h) e = apart (cc)
@@ -162,8 +162,8 @@ module _ (q : Kind) (book : List ℕ) (bytes : Bytes book) (a : AtomNo) (limit :
       let in-book = ap (λ (r : Answered Handed). r .told) (sym (written-as (c .good-book) (claim q a) limit buffer)) ∙ told in
       let (few, within) = none (write-outcome b (claim q a) limit buffer (nameable q c)) in-book in
       let lacks = fewer-none b (nameable q c .few-rules) few in
-      tells q book b a limit buffer c _ (to-last few) within .1 lacks
-      ∙ sym (ours-2 .asking-fewer q book b a limit buffer c _ (to-last few) within .1 lacks) ∙ told
+      tells q book b a limit buffer c _ (to-end few) within .1 lacks
+      ∙ sym (ours-2 .asking-fewer q book b a limit buffer c _ (to-end few) within .1 lacks) ∙ told
 
   pub written-as-ours : (e : Engine) → Writes q e → {t n : ℕ} → writeOf book (claim q a) limit buffer .told ≡ paper t n
       → e .write q book a limit buffer ≡ writeOf book (claim q a) limit buffer
@@ -172,7 +172,7 @@ module _ (q : Kind) (book : List ℕ) (bytes : Bytes book) (a : AtomNo) (limit :
       let in-book = ap (λ (r : Answered Handed). r .told) (sym (written-as (c .good-book) (claim q a) limit buffer)) ∙ told in
       let (x, (i, first, h), (all, m), room, most) = handed (write-outcome b (claim q a) limit buffer (nameable q c)) in-book in
       let w : InLimit b (claim q a) limit x _ =
-      record { tries = i; first = first; first-within = h; needs = to-end all; paper-within = m } in
+      record { tries = i; first = first; first-within = h; needs = to-last all; paper-within = m } in
       let holds = settled-holds q c first all in
       let (k, p, r) = writes book b a limit buffer c holds x _ w room most in
       let (l, u, v) = our-papers q .writes book b a limit buffer c holds x _ w room most in

@@ -15,7 +15,7 @@ use Rattle.meaning.specs.Claim.{claim, claimed, markedBy, shownBy, shown, ended
 use Rattle.meaning.specs.Paper.{unfounded, fails}
 use Rattle.meaning.specs.Choice.{ifb, ifLt, ifEq}
 use Rattle.meaning.specs.Told.{refusedAt, refused}
-use Rattle.meaning.proofs.Tests.{clash}
+use Rattle.meaning.proofs.Tests.{true-and-false}
 use Rattle.meaning.proofs.Readings.{atomsOf}
 use Rattle.meaning.proofs.Cases.{circular-readings, choice-readings}
 use Rattle.meaning.proofs.Cases.{circular as circularBook, choice as choiceBook}
@@ -56,7 +56,7 @@ mutual-support g x answer =
     (rw e at (same (atomNo 0)), rw e at (same (atomNo 1)))
 
 pub circular-uncertain : {b : Book} → GoodBook circular b → Certain b (atomNo 0) → ⊥
-circular-uncertain g c = let (x, answer) = c .one in clash (c .each x answer) (mutual-support g x answer .0)
+circular-uncertain g c = let (x, answer) = c .one in true-and-false (c .each x answer) (mutual-support g x answer .0)
 
 -- ---- "An atom called certain because no answer set lacks it, in a book that has none."
 

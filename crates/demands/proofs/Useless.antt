@@ -14,12 +14,11 @@ use Rattle.meaning.specs.Claim.{claim}
 use Rattle.meaning.specs.Sets.{every}
 use Rattle.meaning.specs.Books.{atomNo, Book}
 use Rattle.meaning.specs.Told.{Told, fewer, stopped, Answered}
-use Rattle.meaning.proofs.Tests.{lt-or-le}
+use Rattle.meaning.proofs.Tests.{lt-or-le, apart}
 use Rattle.meaning.proofs.Told.{success-one}
 use Rattle.book.specs.Rows.{Bytes}
 use Rattle.walk.specs.Find.{set, findOf}
 use Rattle.walk.specs.Tries.{Needs}
-use Rattle.walk.proofs.Run.{apart}
 use Rattle.walk.proofs.Needs.{needs-one}
 use Rattle.writer.specs.Write.{Handed, paper, writeOf, nameOf}
 use Rattle.checker.specs.Numbers.{certain}

@@ -23,7 +23,7 @@ use Rattle.walk.specs.Page.{setIn}
 use Rattle.writer.specs.Branches.{behind, branchBy, branchIn, branch, below, branchesIn, branches}
 use Rattle.writer.specs.Scan.{courseAt, scan}
 use Rattle.writer.specs.Scan.{met as branchMet}
-use Rattle.writer.specs.Needs.{wholePaper}
+use Rattle.writer.specs.PaperNeeds.{wholePaper}
 use Rattle.writer.specs.Write.{lacking, firstWalk, paperWalk, handOver, afterPaperWalk, afterFirstWalk, writeIn, writeRead, writeOf}
 use Rattle.checker.specs.Steps.{withRule, properList, withList, stepBy, stepOf}
 use Rattle.checker.specs.Branches.{afterStep, branchOf}

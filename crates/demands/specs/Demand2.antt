@@ -27,7 +27,7 @@ use Rattle.walk.specs.Readings.{AllReadings}
 use Rattle.walk.specs.Tries.{Needs, lastClash}
 use Rattle.walk.specs.Run.{rowOf}
 use Rattle.walk.specs.Find.{set}
-use Rattle.writer.specs.Needs.{Needs as PaperNeeds}
+use Rattle.writer.specs.PaperNeeds.{PaperNeeds}
 use Rattle.demands.specs.Engine.{Engine}
 use Rattle.demands.specs.Damaged.{GoodBook}
 

@@ -22,11 +22,11 @@ use Rattle.meaning.specs.declared.kind.Kind.{Kind}
 use Rattle.meaning.specs.declared.kind.Kind.the-variants.{Naming, Clearing}
 use Rattle.meaning.specs.declared.kind.Claim.{Claim}
 use Rattle.meaning.specs.Claim.{claim, Holding}
-use Rattle.meaning.specs.Paper.{Keeps}
+use Rattle.meaning.specs.Paper.{Keeps, paperBytes}
 use Rattle.meaning.specs.Told.{refused}
 use Rattle.book.specs.Rows.{Bytes}
 use Rattle.walk.specs.Tries.{Kth}
-use Rattle.writer.specs.Needs.{Needs, paperFor}
+use Rattle.writer.specs.PaperNeeds.{PaperNeeds, paperFor}
 use Rattle.writer.specs.Write.{paper, lacking}
 use Rattle.checker.specs.Numbers.{accepted}
 use Rattle.checker.specs.Rows.{atomOf, kindOf}
@@ -42,14 +42,14 @@ Sound q e = (book s : List ℕ) (a : AtomNo) → e .check book s ≡ accepted q 
 
 -- "Every paper that keeps the printed rules and is at most 60,000 bytes is accepted."
 abbrev pub Complete : Kind → Engine → Type 0
-Complete q e = (book s : List ℕ) (b : Book) (a : AtomNo) → GoodBook book b → Keeps b (claim q a) s → length s ≤ 60000
+Complete q e = (book s : List ℕ) (b : Book) (a : AtomNo) → GoodBook book b → Keeps b (claim q a) s → length s ≤ paperBytes
     → e .check book s ≡ accepted q a
 
 pub record InLimit (b : Book) (k : Claim) (limit : ℕ) (x : Atoms) (m : ℕ) : Type 0 where
   pub tries : ℕ
   pub first : Kth b 1 tries x
   pub first-within : tries ≤ limit
-  pub needs : Needs b k m
+  pub needs : PaperNeeds b k m
   pub paper-within : m ≤ limit
 
 -- "the engine writes such a paper unless ...": its own paper keeps the printed rules and stands in the buffer, the later bytes are kept,
@@ -57,7 +57,7 @@ pub record InLimit (b : Book) (k : Claim) (limit : ℕ) (x : Atoms) (m : ℕ) : 
 abbrev pub Writes : Kind → Engine → Type 0
 Writes q e = (book : List ℕ) (b : Book) (a : AtomNo) (limit : ℕ) (buffer : List ℕ) → Asking book b a → Holding q b a
     → (x : Atoms) (m : ℕ) → InLimit b (claim q a) limit x m
-    → length (paperFor b (claim q a) x) ≤ length buffer → length (paperFor b (claim q a) x) ≤ 60000
+    → length (paperFor b (claim q a) x) ≤ length buffer → length (paperFor b (claim q a) x) ≤ paperBytes
     → Keeps b (claim q a) (paperFor b (claim q a) x)
     × (e .write q book a limit buffer .told ≡ paper m (length (paperFor b (claim q a) x)))
     × (e .write q book a limit buffer .buffer ≡ paperFor b (claim q a) x ++ drop (length (paperFor b (claim q a) x)) buffer)
@@ -67,7 +67,7 @@ abbrev pub TellsLength : Kind → Engine → Type 0
 TellsLength q e = (book : List ℕ) (b : Book) (a : AtomNo) (limit : ℕ) (buffer : List ℕ) → Asking book b a → Holding q b a
     → (x : Atoms) (m : ℕ) → InLimit b (claim q a) limit x m
     → (e .write q book a limit buffer .told ≡ refused 14)
-    ↔ ((length buffer < length (paperFor b (claim q a) x)) ⊎ (60000 < length (paperFor b (claim q a) x)))
+    ↔ ((length buffer < length (paperFor b (claim q a) x)) ⊎ (paperBytes < length (paperFor b (claim q a) x)))
 
 -- "When the atom is in all answer sets": where it is not, 12, and only there; 18, "when an answer set holds the atom"
 abbrev pub TellsLacking : Kind → Engine → Type 0
@@ -79,7 +79,7 @@ TellsLacking q e = (book : List ℕ) (b : Book) (a : AtomNo) (limit : ℕ) (buff
 abbrev pub WritesOnly : Kind → Engine → Type 0
 WritesOnly q e = (book : List ℕ) → Bytes book → (a : AtomNo) (limit : ℕ) (buffer : List ℕ)
     → (t n : ℕ) → e .write q book a limit buffer .told ≡ paper t n
-    → (b : Book) × GoodBook book b × (n ≤ 60000) × (n ≤ length buffer) × Keeps b (claim q a) (take n (e .write q book a limit buffer .buffer))
+    → (b : Book) × GoodBook book b × (n ≤ paperBytes) × (n ≤ length buffer) × Keeps b (claim q a) (take n (e .write q book a limit buffer .buffer))
     × (drop n (e .write q book a limit buffer .buffer) ≡ drop n buffer)
 
 pub record Papers (q : Kind) (e : Engine) : Type 0 where

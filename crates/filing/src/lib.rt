@@ -16,6 +16,7 @@ use arguments::read_limit;
 use meaning::AtomNo;
 use meaning::Claim;
 use meaning::Kind;
+use meaning::PAPER_BYTES;
 use talk::BOOK_ROOM;
 use talk::Number;
 use talk::Taken;
@@ -36,7 +37,7 @@ fn file_atom(book: &[u8], kind: Kind) {
         print(b"bad limit: LIMIT is a number up to 4294967295\n");
         return;
     };
-    let mut paper = [0u8; 60000];
+    let mut paper = [0u8; PAPER_BYTES];
     let atom = AtomNo(atom as u8);
     tell_named(book, Claim { kind, atom }, limit, &mut paper);
 }

@@ -81,7 +81,7 @@ fn room_for(bytes: usize, atoms: usize) -> usize {
 
 // Copies the row that ends at `end`, which the next page goes on behind. The bytes past the row's
 // atoms stay 0.
-fn keep_row(rows: &[u8], end: usize, atoms: usize, last: &mut [u8; 255])
+fn keep_row(rows: &[u8], end: usize, atoms: usize, last: &mut [u8; Colouring::ATOMS])
     requires { ⌜ atoms ≤ 255 ⌝ }
 {
     if end < atoms {
@@ -111,7 +111,7 @@ fn list_page(
     line_end: u8,
     so_far: Progress,
     rows: &mut [u8],
-    last: &mut [u8; 255],
+    last: &mut [u8; Colouring::ATOMS],
 ) -> Progress
     requires { ⌜ atoms ≤ 255 ⌝ }
 {

@@ -8,7 +8,7 @@ use Rattle.meaning.specs.Sets.{_∈_, _∉_, Smallest}
 use Rattle.meaning.specs.Books.{Rules, among, Book, count, InBook}
 use Rattle.meaning.specs.Colours.{Pair, Side, onSide, offSide, side, put, heads, allIn, mayOn, blocked, starved, Under}
 use Rattle.meaning.specs.Colours.{Support, Closed, Within, ClosedAbove, Closing}
-use Rattle.meaning.proofs.Tests.{clash, absent, refuted}
+use Rattle.meaning.proofs.Tests.{true-and-false, absent, refuted}
 use Rattle.meaning.proofs.Sets.{not-every-of-some}
 use Rattle.meaning.proofs.Least.{smallest-same, reached-smallest}
 use Rattle.meaning.proofs.Rules.{heads-by, allIn-at, within-off, within-refl, within-trans, mayOn-mono, blocked-mono, starved-mono}
@@ -92,11 +92,11 @@ module _ (b : Book) where
   -- a starved rule is outside V: no rule of V is off, so an atom all of whose rules are off is no head of V
   pub starved-outside : (c : Pair) {v : Rules} → Support b (c .off) v → (r : RuleNo) → InBook b r → r ∈ starved b c → r ∉ v
   unfolding starved
-  starved-outside c {v} s r h m = refuted (λ n. clash (supported b s r h n .1) (not-every-of-some headless _ m))
+  starved-outside c {v} s r h m = refuted (λ n. true-and-false (supported b s r h n .1) (not-every-of-some headless _ m))
     where
       headless : (a : AtomNo) → a ∈ allIn b (c .off) → a ∉ heads b v
       headless a e = refuted (λ p.
-          let (q, k, n, z) = heads-by b v a p in clash (allIn-at b (c .off) a e q k z) (supported b s q k n .0))
+          let (q, k, n, z) = heads-by b v a p in true-and-false (allIn-at b (c .off) a e q k z) (supported b s q k n .0))
 
   pub closed-without-starved : {c : Pair} → ClosedBut b c → Closed b c
   closed-without-starved {c} k = record {

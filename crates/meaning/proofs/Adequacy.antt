@@ -13,7 +13,7 @@ use Rattle.meaning.specs.Books.{Atoms, Rule, Book, count, rule, InBook}
 use Rattle.meaning.specs.AnswerSet.{reduct, AnswerSet}
 use Rattle.meaning.specs.Written.{of}
 use Rattle.meaning.specs.Computed.{supportMore}
-use Rattle.meaning.proofs.Tests.{either, clash}
+use Rattle.meaning.proofs.Tests.{either, true-and-false}
 use Rattle.meaning.proofs.Sets.{every-at}
 use Rattle.meaning.proofs.Least.{iterate-keeps}
 use Rattle.meaning.proofs.Rules.{rule-member, heads-by}
@@ -44,5 +44,5 @@ module _ (b : Book) (x : Atoms) (P : AtomNo → Type 0)
       let s = support-found b (barred b x) (count b) (omega arith) in
       let (r, h, k, e) = heads-by b _ a (answer .least _ (supported-smallest b x _ s .good) a m) in
       let f = iterate-keeps (supportMore b (barred b x)) Founded more-founded (count b) (replicate (count b) false)
-      (length-replicate (count b) false, λ q g u. clash u (of-none (count b) q)) in
+      (length-replicate (count b) false, λ q g u. true-and-false u (of-none (count b) q)) in
       subst P e (f .1 r h k)

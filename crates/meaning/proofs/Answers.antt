@@ -14,7 +14,7 @@ use Rattle.meaning.specs.AnswerSet.{AnswerSet, Throughout, generates, ge
 use Rattle.meaning.specs.Colours.{Pair, plus, heads, allIn, mayOn, blocked, starved, Under, Upheld, Closed, Within, Closing}
 use Rattle.meaning.specs.Colours.{clashing, Total, Consistent, colouringOf}
 use Rattle.meaning.specs.Paper.{unfounded}
-use Rattle.meaning.proofs.Tests.{both, left, right, either, clash, absent, refuted, proved, decided, same, not-first, not-second}
+use Rattle.meaning.proofs.Tests.{both, and-left, and-right, either, true-and-false, absent, refuted, proved, decided, same, not-first, not-second}
 use Rattle.meaning.proofs.Sets.{every-at, every-mono, some-mono, every-of-none, none-of-every, some-of-not-every, not-every-of-some}
 use Rattle.meaning.proofs.Rules.{among-member, heads-of, heads-by, heads-mono, allIn-at, allIn-all}
 use Rattle.meaning.proofs.Rules.{clashing-mono, consistent-clashing}
@@ -31,7 +31,7 @@ module _ (b : Book) where
 
     pub generating-by : r ∈ generating b x → (every x (rule b r .pos) ≡ true) × (some x (rule b r .neg) ≡ false)
     unfolding generating generates
-    generating-by m = (left (every x (rule b r .pos)) _ m, not-true _ (right (every x (rule b r .pos)) _ m))
+    generating-by m = (and-left (every x (rule b r .pos)) _ m, not-true _ (and-right (every x (rule b r .pos)) _ m))
 
     pub generating-no-pos : every x (rule b r .pos) ≡ false → r ∉ generating b x
     unfolding generating generates
@@ -46,7 +46,7 @@ module _ (b : Book) where
   module _ (c : Pair) (closed : Closed b c) (total : Total b c) (consistent : Consistent b c) where
     not-head-lost : (a : AtomNo) → a ∉ heads b (c .on) → a ∈ allIn b (c .off)
     not-head-lost a n =
-        allIn-all b _ a (λ r h q. ⊎-elim (λ (m : r ∈ c .on). clash (rw q at (heads-of b (c .on) r h m)) n) (λ m. m) (total r h))
+        allIn-all b _ a (λ r h q. ⊎-elim (λ (m : r ∈ c .on). true-and-false (rw q at (heads-of b (c .on) r h m)) n) (λ m. m) (total r h))
 
     goes-on : (r : RuleNo) → InBook b r → every (heads b (c .on)) (rule b r .pos) ≡ true → some (heads b (c .on)) (rule b r .neg) ≡ false
         → r ∈ c .on
@@ -59,14 +59,14 @@ module _ (b : Book) where
 
     not-starved : (r : RuleNo) → InBook b r → r ∉ c .off → every (heads b (c .on)) (rule b r .pos) ≡ true
     unfolding starved
-    not-starved r h n = proved (λ k. clash (closed .goes-off-starved r h (some-of-not-every not-head-lost _ k)) n)
+    not-starved r h n = proved (λ k. true-and-false (closed .goes-off-starved r h (some-of-not-every not-head-lost _ k)) n)
 
     module _ (y : Atoms) (f : ClosedBy b (heads b (c .on)) y) where
       abbrev founded : Rules
       founded r = not (c .off r) && y (rule b r .head)
 
       founded-heads : heads b founded ⊆ y
-      founded-heads a e = let (r, h, m, q) = heads-by b founded a e in rw q at (right (not (c .off r)) _ m)
+      founded-heads a e = let (r, h, m, q) = heads-by b founded a e in rw q at (and-right (not (c .off r)) _ m)
 
       founded-upheld : Upheld b (c .off) founded
       founded-upheld r h n p = both (ap not n) (f r h (not-blocked r h n) (every-mono founded-heads _ p))
@@ -74,7 +74,7 @@ module _ (b : Book) where
       heads-least : heads b (c .on) ⊆ y
       heads-least a e =
           let (r, h, m, q) = heads-by b (c .on) a e in
-          ⊎-elim (λ (p : r ∈ founded). rw q at (right (not (c .off r)) _ p))
+          ⊎-elim (λ (p : r ∈ founded). rw q at (and-right (not (c .off r)) _ p))
           (λ n. absurd (consistent r h m (outside b closed founded founded-upheld r h n)))
           (decided (founded r))
 
@@ -92,7 +92,7 @@ module _ (b : Book) where
     total-off : (r : RuleNo) → InBook b r → c .off r ≡ not (generating b (heads b (c .on)) r)
     total-off r h = same _ _
         (λ m. ap not (refuted (λ g. let (p, n) = generating-by _ r g in consistent r h (goes-on r h p n) m)))
-        (λ n. ⊎-elim (λ m. clash (sym (total-on r h) ∙ m) (not-true _ n)) (λ m. m) (total r h))
+        (λ n. ⊎-elim (λ m. true-and-false (sym (total-on r h) ∙ m) (not-true _ n)) (λ m. m) (total r h))
 
     -- and the pair stands for that answer set
     pub total-stands : (r : RuleNo) → InBook b r
@@ -105,7 +105,7 @@ module _ (b : Book) where
   answer-total x r h = ⊎-map (λ p. p) (ap not) (decided (generating b x r))
 
   pub answer-consistent : (x : Atoms) → Consistent b (colouringOf b x)
-  answer-consistent x r h p q = clash p (not-true _ q)
+  answer-consistent x r h p q = true-and-false p (not-true _ q)
 
   module _ (x : Atoms) (answer : AnswerSet b x) where
     closed-by : ClosedBy b x x
@@ -127,10 +127,10 @@ module _ (b : Book) where
       upholding-closed r h n p = heads-of b upholding r h (both (u r h (ap not g) (every-mono in-v _ p)) g)
         where
           in-v : heads b upholding ⊆ heads b v
-          in-v = heads-mono b (λ q k m. left (v q) _ m)
+          in-v = heads-mono b (λ q k m. and-left (v q) _ m)
 
           in-x : heads b upholding ⊆ x
-          in-x a e = heads-in a (heads-mono b (λ q k m. right (v q) _ m) a e)
+          in-x a e = heads-in a (heads-mono b (λ q k m. and-right (v q) _ m) a e)
 
           g : r ∈ generating b x
           g = generating-of x r (every-mono in-x _ p) n
@@ -139,28 +139,28 @@ module _ (b : Book) where
       generating-upheld r h g = u r h (ap not g) (every-mono in-heads _ (generating-by x r g .0))
         where
           in-heads : x ⊆ heads b v
-          in-heads a e = heads-mono b (λ q k m. left (v q) _ m) a (least-by _ upholding-closed a e)
+          in-heads a e = heads-mono b (λ q k m. and-left (v q) _ m) a (least-by _ upholding-closed a e)
 
     in-heads : x ⊆ heads b (generating b x)
-    in-heads a e = heads-mono b (λ r h m. right true _ m) a (least-by _ (upholding-closed (λ r. true) (λ r h n p. refl)) a e)
+    in-heads a e = heads-mono b (λ r h m. and-right true _ m) a (least-by _ (upholding-closed (λ r. true) (λ r h n p. refl)) a e)
 
     pub answer-heads : (a : AtomNo) → heads b (generating b x) a ≡ x a
     answer-heads a = same _ _ (heads-in a) (in-heads a)
 
     lost-out : (a : AtomNo) → a ∈ allIn b (colouringOf b x .off) → a ∉ x
     lost-out a e = refuted (λ p.
-        let (r, h, m, q) = heads-by b (generating b x) a (in-heads a p) in clash m (not-true _ (allIn-at b _ a e r h q)))
+        let (r, h, m, q) = heads-by b (generating b x) a (in-heads a p) in true-and-false m (not-true _ (allIn-at b _ a e r h q)))
 
     -- the pair that stands for an answer set has all rules of an atom off just where the set lacks it
     pub answer-lost : (a : AtomNo) → allIn b (colouringOf b x .off) a ≡ not (x a)
     answer-lost a = same _ _ (λ e. ap not (lost-out a e)) (λ n. allIn-all b _ a (λ r h q.
-        ap not (refuted (λ m. clash (rw q at (heads-in _ (heads-of b _ r h m))) (not-true _ n)))))
+        ap not (refuted (λ m. true-and-false (rw q at (heads-in _ (heads-of b _ r h m))) (not-true _ n)))))
 
     pub answer-closed : Closed b (colouringOf b x)
     unfolding mayOn blocked starved
     answer-closed = record {
       goes-on = λ r h p. generating-of x r
-          (every-mono heads-in _ (left (every (heads b _) _) _ p)) (none-of-every lost-out _ (right (every (heads b _) _) _ p));
+          (every-mono heads-in _ (and-left (every (heads b _) _) _ p)) (none-of-every lost-out _ (and-right (every (heads b _) _) _ p));
       goes-off-blocked = λ r h p. ap not (generating-no-neg x r (some-mono heads-in _ p));
       goes-off-starved = λ r h p. ap not (generating-no-pos x r (not-every-of-some lost-out _ p));
       goes-off-unsupported = λ v s r h n. ap not (absent (generating-upheld v (s .good) r h) n);
@@ -174,7 +174,7 @@ module _ (b : Book) where
 
   pub clash-no-answer : {c d : Pair} → Closing b c d → clashing b d ≡ true → (x : Atoms) → AnswerSet b x → Within b c (colouringOf b x) → ⊥
   clash-no-answer g e x answer w =
-      clash (clashing-mono b (closing-keeps-answers g x answer w) e) (consistent-clashing b _ (answer-consistent x))
+      true-and-false (clashing-mono b (closing-keeps-answers g x answer w) e) (consistent-clashing b _ (answer-consistent x))
 
   -- ---- an unfounded list is off in every closed pair, so in the one that stands for an answer set
 
@@ -186,13 +186,13 @@ module _ (b : Book) where
     lost-unlisted : (a : AtomNo) → a ∈ allIn b (plus off l) → a ∉ heads b unlisted
     lost-unlisted a k = refuted (λ p.
         let (r, h, m, q) = heads-by b unlisted a p in
-        ⊎-elim (λ z. clash (under r h z) (not-true _ (right (not (among l r)) _ m))) (λ z. clash z (not-true _ (left _ _ m)))
+        ⊎-elim (λ z. true-and-false (under r h z) (not-true _ (and-right (not (among l r)) _ m))) (λ z. true-and-false z (not-true _ (and-left _ _ m)))
         (either (off r) _ (allIn-at b _ a k r h q)))
 
     unlisted-upheld : Upheld b (d .off) unlisted
     unfolding unfounded
     unlisted-upheld r h n p = both
-        (ap not (refuted (λ m. clash p (not-every-of-some lost-unlisted _ (every-at _ l e r (among-member l r m))))))
+        (ap not (refuted (λ m. true-and-false p (not-every-of-some lost-unlisted _ (every-at _ l e r (among-member l r m))))))
         (ap not n)
 
     pub unfounded-off : Under b (among l) (d .off)

@@ -14,7 +14,7 @@ use Rattle.meaning.specs.Books.{Atoms, Book}
 use Rattle.meaning.specs.AnswerSet.{AnswerSet, Throughout, Certain, Clear}
 use Rattle.meaning.specs.Colours.{Pair, Within, Closed, Total, Consistent, clashing, colouringOf, heads}
 use Rattle.meaning.specs.Claim.{claim, meantBy, meant, shownBy, shown, ended, Holding}
-use Rattle.meaning.proofs.Tests.{either, clash, refuted}
+use Rattle.meaning.proofs.Tests.{either, true-and-false, refuted}
 use Rattle.meaning.proofs.Rules.{heads-mono, allIn-mono, within-on, within-off, within-both, clashing-mono, consistent-clashing}
 use Rattle.meaning.proofs.Answers.{answer-heads, answer-lost, answer-consistent, total-answer, total-stands}
 
@@ -46,13 +46,13 @@ module _ (b : Book) where
     pub claim-sound : (k : Claim) (c : Pair) → Within b c (colouringOf b x) → ended b k c ≡ true → x ∈ meant k
     unfolding ended
     claim-sound k c w e =
-        ⊎-elim (λ z. clash (clashing-mono b w z) (consistent-clashing b _ (answer-consistent b x)))
+        ⊎-elim (λ z. true-and-false (clashing-mono b w z) (consistent-clashing b _ (answer-consistent b x)))
         (λ z. sym (shown-meant k) ∙ shown-mono k w z) (either (clashing b c) _ e)
 
   -- what a pair that stands for an answer set does not show fails of it
   module _ (c : Pair) (closed : Closed b c) (total : Total b c) (consistent : Consistent b c) where
     pub unshown-fails : (k : Claim) → shown b k c ≡ false → heads b (c .on) ∉ meant k
-    unshown-fails k e = refuted (λ m. clash (shown-mono k above (claim-shown _ (total-answer b c closed total consistent) k m)) e)
+    unshown-fails k e = refuted (λ m. true-and-false (shown-mono k above (claim-shown _ (total-answer b c closed total consistent) k m)) e)
       where
         above : Within b (colouringOf b (heads b (c .on))) c
         above = let s = total-stands b c closed total consistent in within-both b (λ r h m. s r h .0 ∙ m) (λ r h m. s r h .1 ∙ m)
@@ -65,4 +65,4 @@ module _ (b : Book) where
 
   -- nobody is both certain and clear: the answer set that there is would hold the atom and lack it
   pub not-both : (a : AtomNo) → Certain b a → Clear b a → ⊥
-  not-both a c n = let (x, answer) = c .one in clash (c .each x answer) (not-true _ (n .each x answer))
+  not-both a c n = let (x, answer) = c .one in true-and-false (c .each x answer) (not-true _ (n .each x answer))

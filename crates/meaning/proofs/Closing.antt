@@ -14,7 +14,7 @@ use Rattle.meaning.specs.Books.{Book, count, InBook}
 use Rattle.meaning.specs.Colours.{Pair, Side, onSide, offSide, side, blocked, starved, Closed, Within, ClosedAbove, Closing}
 use Rattle.meaning.specs.Written.{of, pair}
 use Rattle.meaning.specs.Computed.{iterate, support, goesOff, closeMore, marked, close}
-use Rattle.meaning.proofs.Tests.{either, first, other, absent, same}
+use Rattle.meaning.proofs.Tests.{either, or-left, or-right, absent, same}
 use Rattle.meaning.proofs.Least.{Adding, smallest-mono, smallest-unique, iterate-fine, iterate-smallest}
 use Rattle.meaning.proofs.Rules.{in-book-or-not, within-on, within-off, within-both, within-refl, within-trans}
 use Rattle.meaning.proofs.Rules.{mayOn-mono, blocked-mono, starved-mono}
@@ -59,10 +59,10 @@ module _ (b : Book) where
     unfolding closeMore goesOff
     rests-closed d s e = record {
       goes-on = λ r h p. added-rests b _ (d .on) (rw (s .on) fits) (λ i. e i .on) r h p;
-      goes-off-blocked = λ r h p. gone r h (first _ p);
-      goes-off-starved = λ r h p. gone r h (other (blocked b (pair d) r) (first _ p));
+      goes-off-blocked = λ r h p. gone r h (or-left _ p);
+      goes-off-starved = λ r h p. gone r h (or-right (blocked b (pair d) r) (or-left _ p));
       goes-off-unsupported = unsupported-any b (support-is b (of (d .off)) fits)
-          (λ r h n. gone r h (other (blocked b (pair d) r) (other (starved b (pair d) r) (ap not n))));
+          (λ r h n. gone r h (or-right (blocked b (pair d) r) (or-right (starved b (pair d) r) (ap not n))));
     }
       where
         gone : (r : RuleNo) → InBook b r → r ∈ goesOff b (pair d) (of (support b (of (d .off)))) → r ∈ of (d .off)

@@ -23,7 +23,7 @@ use Rattle.meaning.specs.Written.{of}
 use Rattle.meaning.specs.Computed.{support}
 use Rattle.meaning.specs.Lowest.{Pick, none, one, lowest, rulesIn}
 use Rattle.meaning.specs.Engine.{Next, ends, puts-on, puts-off, drops, splits, stuck, less, firstOf, unsupported, next}
-use Rattle.meaning.proofs.Tests.{both, left, right, first, other, neither-left, neither-right, clash, absent, refuted, proved}
+use Rattle.meaning.proofs.Tests.{both, and-left, and-right, or-left, or-right, neither-left, neither-right, true-and-false, absent, refuted, proved}
 use Rattle.meaning.proofs.Tests.{decided}
 use Rattle.meaning.proofs.Sets.{every-all, some-of-not-every}
 use Rattle.meaning.proofs.Rules.{member-among, heads-of, allIn-all, clashing-no}
@@ -62,11 +62,11 @@ module _ (b : Book) where
   LowestNew s t r = InBook b r × (r ∈ s) × (r ∉ t) × ((q : RuleNo) → q .0 < r .0 → q ∈ s → q ∈ t)
 
   less-no : (s t : Rules) (r : RuleNo) → r ∉ less s t → r ∈ s → r ∈ t
-  less-no s t r n m = not-false _ (refuted (λ k. clash (both m k) n))
+  less-no s t r n m = not-false _ (refuted (λ k. true-and-false (both m k) n))
 
   lowest-new : (s t : Rules) (r : RuleNo) → lowest b (less s t) ≡ one r → LowestNew s t r
   lowest-new s t r e =
-      let (h, m, f) = lowest-one b _ r e in (h, left (s r) _ m, not-true _ (right (s r) _ m), λ q l. less-no s t q (f q l))
+      let (h, m, f) = lowest-one b _ r e in (h, and-left (s r) _ m, not-true _ (and-right (s r) _ m), λ q l. less-no s t q (f q l))
 
   none-new : (s t : Rules) → lowest b (less s t) ≡ none → Under b s t
   none-new s t e r h = less-no s t r (lowest-none b _ e r h)
@@ -80,16 +80,16 @@ module _ (b : Book) where
     unfolding unfounded
     outside-unfounded l f g = every-all _ l (λ r m.
         let (h, n, o) = f r (member-among l r m) in
-        some-of-not-every headless _ (refuted (λ p. clash (s .good r h o p) n)))
+        some-of-not-every headless _ (refuted (λ p. true-and-false (s .good r h o p) n)))
       where
         headless : (a : AtomNo) → a ∉ heads b v → a ∈ allIn b (plus off l)
         headless a n = allIn-all b _ a (λ q h e.
             let out = absent (λ m. rw e at (heads-of b v q h m)) n in
-            ⊎-elim (λ p. first _ p) (λ p. other (off q) (g q h out p)) (decided (off q)))
+            ⊎-elim (λ p. or-left _ p) (λ p. or-right (off q) (g q h out p)) (decided (off q)))
 
   unsupported-by : (c : Pair) (r : RuleNo) → r ∈ unsupported b c → (r ∉ of (support b (c .off))) × (r ∉ c .off)
   unfolding unsupported
-  unsupported-by c r m = (not-true _ (left (not (of (support b (c .off)) r)) _ m), not-true _ (right (not (of (support b (c .off)) r)) _ m))
+  unsupported-by c r m = (not-true _ (and-left (not (of (support b (c .off)) r)) _ m), not-true _ (and-right (not (of (support b (c .off)) r)) _ m))
 
   unsupported-of : (c : Pair) (r : RuleNo) → r ∉ of (support b (c .off)) → r ∉ c .off → r ∈ unsupported b c
   unfolding unsupported
@@ -165,9 +165,9 @@ module _ (b : Book) where
           goes-off-blocked = none-new _ _ q;
           goes-off-unsupported = λ v s r h o.
               let out = absent (support-is b (c .off) fits .least v (s .good) r h) o in
-              proved (λ n. clash (unsupported-of c r out n) (rules-none b _ l r h));
+              proved (λ n. true-and-false (unsupported-of c r out n) (rules-none b _ l r h));
         }
 
     -- where the claim holds throughout, the engine is never stuck
     pub next-certain : count b ≤ 255 → Throughout b (meant k) → next b k c ≡ stuck → ⊥
-    next-certain fits t e = let (closed, total, consistent, answer, n) = next-stuck fits e in clash (t .each _ answer) n
+    next-certain fits t e = let (closed, total, consistent, answer, n) = next-stuck fits e in true-and-false (t .each _ answer) n

@@ -16,7 +16,7 @@ use Rattle.meaning.specs.Written.{of}
 use Rattle.meaning.specs.Computed.{support}
 use Rattle.meaning.specs.Choice.{agree}
 use Rattle.meaning.proofs.Choice.{agree-yes, agree-same}
-use Rattle.meaning.proofs.Tests.{decided, clash, refuted, same, lt-or-le}
+use Rattle.meaning.proofs.Tests.{decided, true-and-false, refuted, same, lt-or-le}
 use Rattle.meaning.proofs.Sets.{every-mono, below-at, below-all}
 use Rattle.meaning.proofs.Least.{smallest-unique, smallest-through}
 use Rattle.meaning.proofs.Rules.{heads-of, heads-by}
@@ -99,7 +99,7 @@ module _ (b : Book) (fits : count b ≤ 255) (x : Atoms) where
           none y f a h = refuted (λ m. let g = f a m in omega arith)
 
       pub answer-decided : AnswerSet b x ⊎ (AnswerSet b x → ⊥)
-      answer-decided = ⊎-map test→answer (λ n answer. clash (answer→test answer) n) (decided (isAnswerSet b x))
+      answer-decided = ⊎-map test→answer (λ n answer. true-and-false (answer→test answer) n) (decided (isAnswerSet b x))
 
 -- ---- what finding gives: a closed pair, every rule coloured, no contradiction
 

@@ -18,7 +18,7 @@ use Rattle.meaning.specs.Colours.{heads, Under}
 use Rattle.meaning.specs.Paper.{grounded, once, Witness}
 use Rattle.meaning.specs.Lowest.{Pick, none, one, onPick, lowest, rulesIn}
 use Rattle.meaning.specs.Engine.{less, listable, listing, witnessOf}
-use Rattle.meaning.proofs.Tests.{both, left, right, either, first, other, clash, refuted, proved, absent, same, not-second}
+use Rattle.meaning.proofs.Tests.{both, and-left, and-right, either, or-left, or-right, true-and-false, refuted, proved, absent, same, not-second}
 use Rattle.meaning.proofs.Sets.{every-mono, some-append}
 use Rattle.meaning.proofs.Rules.{among-here, among-there, among-front, among-one, one-among, heads-mono}
 use Rattle.meaning.proofs.Lowest.{lowest-one, lowest-none}
@@ -36,11 +36,11 @@ module _ (r : RuleNo) where
   unfolding once
   once-end before [] e n o = both (ap not n) refl
   once-end before (q ∷ w) e n o =
-      both (left (not (among before q)) _ e)
-      (once-end (q ∷ before) w (right (not (among before q)) _ e) (refuted new) (absent (among-there q w r) o))
+      both (and-left (not (among before q)) _ e)
+      (once-end (q ∷ before) w (and-right (not (among before q)) _ e) (refuted new) (absent (among-there q w r) o))
     where
       new : r ∈ among (q ∷ before) → ⊥
-      new m = ⊎-elim (λ (z : r ≡ q). clash (rw z (among-here q w)) o) (λ z. clash z n) (among-front q before r m)
+      new m = ⊎-elim (λ (z : r ≡ q). true-and-false (rw z (among-here q w)) o) (λ z. true-and-false z n) (among-front q before r m)
 
   grounded-end : (b : Book) (s : Rules) → every (heads b s) (rule b r .pos) ≡ true → (before w : List RuleNo)
       → ((q : RuleNo) → q ∈ s → (q ∈ among before) ⊎ (q ∈ among w)) → grounded b before w ≡ true → grounded b before (w ++ (r ∷ [])) ≡ true
@@ -48,8 +48,8 @@ module _ (r : RuleNo) where
   grounded-end b s p before [] f e =
       both (every-mono (heads-mono b (λ q h m. ⊎-elim (λ z. z) (λ z. absurd (false≢true z)) (f q m))) _ p) refl
   grounded-end b s p before (q ∷ w) f e =
-      both (left (every (heads b (among before)) _) _ e)
-      (grounded-end b s p (q ∷ before) w moved (right (every (heads b (among before)) _) _ e))
+      both (and-left (every (heads b (among before)) _) _ e)
+      (grounded-end b s p (q ∷ before) w moved (and-right (every (heads b (among before)) _) _ e))
     where
       moved : (u : RuleNo) → u ∈ s → (u ∈ among (q ∷ before)) ⊎ (u ∈ among w)
       moved u m =
@@ -87,7 +87,7 @@ module _ (b : Book) (s : Rules) where
     listable-by : r ∈ listable b s w → (r ∈ s) × (r ∉ among w) × (every (heads b (among w)) (rule b r .pos) ≡ true)
     unfolding listable
     listable-by e =
-        let k = left (less s (among w) r) _ e in (left (s r) _ k, not-true _ (right (s r) _ k), right (less s (among w) r) _ e)
+        let k = and-left (less s (among w) r) _ e in (and-left (s r) _ k, not-true _ (and-right (s r) _ k), and-right (less s (among w) r) _ e)
 
     end-by : (q : RuleNo) → q ∈ among (w ++ (r ∷ [])) → (q ∈ among w) ⊎ (q ≡ r)
     end-by q m = ⊎-map (λ z. z) among-one (either (among w q) _ (sym (among-end r w q) ∙ m))
@@ -107,10 +107,10 @@ module _ (b : Book) (s : Rules) where
       where
         under : Under b (less s (among (w ++ (r ∷ [])))) (less s (among w))
         under q g k =
-            both (left (s q) _ k) (ap not (absent {a = among w q} (λ z. among-end r w q ∙ first _ z) (not-true _ (right (s q) _ k))))
+            both (and-left (s q) _ k) (ap not (absent {a = among w q} (λ z. among-end r w q ∙ or-left _ z) (not-true _ (and-right (s q) _ k))))
 
         listed : r ∉ less s (among (w ++ (r ∷ [])))
-        listed = not-second (s r) (ap not (among-end r w r ∙ other (among w r) (one-among r)))
+        listed = not-second (s r) (ap not (among-end r w r ∙ or-right (among w r) (one-among r)))
 
   -- nothing can be listed any more
   abbrev Ended : List RuleNo → Type 0
@@ -144,7 +144,7 @@ module _ (b : Book) (x : Atoms) where
     -- the listed rules are upheld, since nothing more can be listed: so every generating rule is listed
     all-listed : Under b (generating b x) (among list)
     all-listed = generating-upheld b x answer (among list) (λ r h n p.
-        proved (λ o. clash (listable-of b _ list r (not-false _ n) o p) (list-ended .1 r h)))
+        proved (λ o. true-and-false (listable-of b _ list r (not-false _ n) o p) (list-ended .1 r h)))
 
     pub witness-heads : (a : AtomNo) → heads b (among (witnessOf b x)) a ≡ x a
     witness-heads a =

@@ -11,7 +11,7 @@ use Rattle.meaning.specs.Sets.{_∈_, _∉_}
 use Rattle.meaning.specs.Books.{Rules, ruleNo, Book, count, InBook}
 use Rattle.meaning.specs.Colours.{Pair, clashing, uncoloured, Total}
 use Rattle.meaning.specs.Lowest.{Pick, none, one, oneOr, lowestFrom, lowest, inBoth, clashed}
-use Rattle.meaning.proofs.Tests.{both, left, right, clash, refuted, lt-or-le}
+use Rattle.meaning.proofs.Tests.{both, and-left, and-right, true-and-false, refuted, lt-or-le}
 use Rattle.meaning.proofs.Rules.{clashing-by, clashing-one, uncoloured-no}
 
 -- what is said of a set by the pick among i, i + 1, .. , n of them
@@ -46,16 +46,16 @@ module _ (n : ℕ) (s : Rules) where
     where
       go : (p : Pick) → lowestFrom 0 n s ≡ p → lowestFrom 0 n s ≡ none
       go none e = e
-      go (one r) e = let (h, m, k) = from-one r e in clash m (f r h)
+      go (one r) e = let (h, m, k) = from-one r e in true-and-false m (f r h)
 
   pub one-from : (r : RuleNo) → r .0 < n → r ∈ s → ((q : RuleNo) → q .0 < r .0 → q ∉ s) → lowestFrom 0 n s ≡ one r
   one-from r h m f = go (lowestFrom 0 n s) refl
     where
       below : (q p : RuleNo) → q ∈ s → ((u : RuleNo) → u .0 < p .0 → u ∉ s) → p .0 ≤ q .0
-      below q p n k = ⊎-elim (λ g. clash n (k q g)) (λ g. g) (lt-or-le (q .0) (p .0))
+      below q p n k = ⊎-elim (λ g. true-and-false n (k q g)) (λ g. g) (lt-or-le (q .0) (p .0))
 
       go : (p : Pick) → lowestFrom 0 n s ≡ p → lowestFrom 0 n s ≡ one r
-      go none e = clash m (from-none e r h)
+      go none e = true-and-false m (from-none e r h)
       go (one q) e =
           let (g, n, k) = from-one q e in
           let z : q .0 ≡ r .0 = le-antisymm (below r q m k) (below q r n f) in
@@ -88,7 +88,7 @@ module _ (b : Book) (c : Pair) where
   pub clashed-one : (r : RuleNo) → clashed b c ≡ one r
       → InBook b r × (r ∈ c .on) × (r ∈ c .off) × ((q : RuleNo) → q .0 < r .0 → q ∉ inBoth c)
   unfolding clashed
-  clashed-one r e = let (h, m, f) = lowest-one b (inBoth c) r e in (h, left (c .on r) _ m, right (c .on r) _ m, f)
+  clashed-one r e = let (h, m, f) = lowest-one b (inBoth c) r e in (h, and-left (c .on r) _ m, and-right (c .on r) _ m, f)
 
   pub clashed-clashing : (r : RuleNo) → clashed b c ≡ one r → clashing b c ≡ true
   clashed-clashing r e = let (h, m, n, f) = clashed-one r e in clashing-one b c r h m n
@@ -96,6 +96,6 @@ module _ (b : Book) (c : Pair) where
   pub clashed-none : (clashed b c ≡ none) ↔ (clashing b c ≡ false)
   unfolding clashed
   clashed-none = (
-    λ e. refuted (λ t. let (r, h, m, n) = clashing-by b c t in clash (both m n) (lowest-none b (inBoth c) e r h)),
-    λ e. none-lowest b (inBoth c) (λ r h. refuted (λ m. clash (clashing-one b c r h (left (c .on r) _ m) (right (c .on r) _ m)) e)),
+    λ e. refuted (λ t. let (r, h, m, n) = clashing-by b c t in true-and-false (both m n) (lowest-none b (inBoth c) e r h)),
+    λ e. none-lowest b (inBoth c) (λ r h. refuted (λ m. true-and-false (clashing-one b c r h (and-left (c .on r) _ m) (and-right (c .on r) _ m)) e)),
   )

@@ -19,7 +19,7 @@ use Rattle.meaning.specs.Written.{of, addFrom, added}
 use Rattle.meaning.specs.Computed.{iterate, upheld, supportMore, support}
 use Rattle.meaning.specs.Lowest.{onPick, oneOr, lowestFrom, lowest, listedIf, rulesFrom, rulesIn}
 use Rattle.meaning.specs.Engine.{puts-on, ends, drops, splits, firstOf, unsupported, next, listable, listing, witnessOf}
-use Rattle.meaning.proofs.Tests.{either, clash}
+use Rattle.meaning.proofs.Tests.{either, true-and-false}
 use Rattle.meaning.proofs.Sets.{every-at}
 use Rattle.meaning.proofs.Rules.{among-member, every-rule-at}
 
@@ -80,7 +80,7 @@ module _ (b : Book) (w : List RuleNo) where
     in-order = g;
     no-rule-twice = o;
     listed = λ r m. not-true _ (every-at _ w l r (among-member w r m));
-    unlisted = λ r k n. ⊎-elim (λ m. clash m n) (λ e. e) (either (among w r) _ (every-rule-at b _ u r k));
+    unlisted = λ r k n. ⊎-elim (λ m. true-and-false m n) (λ e. e) (either (among w r) _ (every-rule-at b _ u r k));
   }
 
 -- "41 00 45 | 00 | 00 01 03 00 50 46"

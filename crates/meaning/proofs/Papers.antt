@@ -13,7 +13,7 @@ use Rattle.meaning.specs.declared.kind.Kind.the-variants.{Naming, Cleari
 use Rattle.meaning.specs.declared.kind.Claim.{Claim}
 use Rattle.meaning.specs.Claim.{claim, named, cleared, meant, Holding}
 use Rattle.meaning.specs.Paper.{Branch, Keeps}
-use Rattle.meaning.proofs.Tests.{clash}
+use Rattle.meaning.proofs.Tests.{true-and-false}
 use Rattle.meaning.proofs.Rules.{within-both}
 use Rattle.meaning.proofs.Claim.{claim-holds, not-both}
 use Rattle.meaning.proofs.Branches.{branch-sound}
@@ -30,7 +30,7 @@ module _ (b : Book) where
 
     -- where it fails of one, no bytes are such a branch
     pub no-branch : ((x : Atoms) × AnswerSet b x × (x ∉ meant k)) → {l : List ℕ} → Branch b k start l → ⊥
-    no-branch (x, answer, n) p = clash (branch-each p x answer) n
+    no-branch (x, answer, n) p = true-and-false (branch-each p x answer) n
 
     pub keeps-throughout : {paper : List ℕ} → Keeps b k paper → Throughout b (meant k)
     keeps-throughout p = record {

@@ -15,7 +15,7 @@ use Rattle.meaning.specs.Sets.{_∈_, _∉_, _⊆_, every, some}
 use Rattle.meaning.specs.Books.{Rules, sameAtom, sameRule, ruleNo, among, Rule, Book, count, rule, InBook, everyRule, someRule}
 use Rattle.meaning.specs.Colours.{Pair, Side, onSide, offSide, side, put, heads, allIn, mayOn, blocked, starved, Under, Within}
 use Rattle.meaning.specs.Colours.{clashing, Consistent, uncoloured}
-use Rattle.meaning.proofs.Tests.{both, left, right, either, first, other, implied, implies, clash, refuted, proved, same, lt-or-le}
+use Rattle.meaning.proofs.Tests.{both, and-left, and-right, either, or-left, or-right, implied, implies, true-and-false, refuted, proved, same, lt-or-le}
 use Rattle.meaning.proofs.Sets.{every-mono, some-mono, below-at, below-all, below-some, below-one}
 
 -- ---- numbers of one kind
@@ -46,18 +46,18 @@ among-member (q ∷ l) r m =
 
 pub member-among : (l : List RuleNo) (r : RuleNo) → List·Memᴰ r l → r ∈ among l
 unfolding some
-member-among (q ∷ l) r (List·Memᴰ·head p) = first _ (rule-same p)
-member-among (q ∷ l) r (List·Memᴰ·tail m) = other (sameRule r q) (member-among l r m)
+member-among (q ∷ l) r (List·Memᴰ·head p) = or-left _ (rule-same p)
+member-among (q ∷ l) r (List·Memᴰ·tail m) = or-right (sameRule r q) (member-among l r m)
 
 -- one rule more in front
 module _ (r : RuleNo) (l : List RuleNo) where
   pub among-here : r ∈ among (r ∷ l)
   unfolding some
-  among-here = first _ (rule-same {q = r} refl)
+  among-here = or-left _ (rule-same {q = r} refl)
 
   pub among-there : (q : RuleNo) → q ∈ among l → q ∈ among (r ∷ l)
   unfolding some
-  among-there q m = other (sameRule q r) m
+  among-there q m = or-right (sameRule q r) m
 
   pub among-front : (q : RuleNo) → q ∈ among (r ∷ l) → (q ≡ r) ⊎ (q ∈ among l)
   unfolding some
@@ -120,7 +120,7 @@ module _ (b : Book) where
 
   pub heads-by : (s : Rules) (a : AtomNo) → a ∈ heads b s → (r : RuleNo) × InBook b r × (r ∈ s) × (rule b r .head ≡ a)
   unfolding heads
-  heads-by s a e = let (r, h, m) = some-rule-by _ e in (r, h, left (s r) _ m, same-atom (right (s r) _ m))
+  heads-by s a e = let (r, h, m) = some-rule-by _ e in (r, h, and-left (s r) _ m, same-atom (and-right (s r) _ m))
 
   pub allIn-at : (s : Rules) (a : AtomNo) → a ∈ allIn b s → (r : RuleNo) → InBook b r → rule b r .head ≡ a → r ∈ s
   unfolding allIn
@@ -136,8 +136,8 @@ module _ (b : Book) where
   -- all rules of an atom are in a set just where none of them is outside it
   pub all-in-not-heads : (s : Rules) (a : AtomNo) → allIn b s a ≡ not (heads b (λ r. not (s r)) a)
   all-in-not-heads s a = same _ _
-      (λ e. ap not (refuted (λ z. let (r, h, m, q) = heads-by (λ r. not (s r)) a z in clash (allIn-at s a e r h q) (not-true _ m))))
-      (λ n. allIn-all s a (λ r h q. proved (λ m. clash (rw q at (heads-of (λ r. not (s r)) r h (ap not m))) (not-true _ n))))
+      (λ e. ap not (refuted (λ z. let (r, h, m, q) = heads-by (λ r. not (s r)) a z in true-and-false (allIn-at s a e r h q) (not-true _ m))))
+      (λ n. allIn-all s a (λ r h q. proved (λ m. true-and-false (rw q at (heads-of (λ r. not (s r)) r h (ap not m))) (not-true _ n))))
 
   pub allIn-mono : {s t : Rules} → Under b s t → allIn b s ⊆ allIn b t
   allIn-mono {s} {t} f a e = allIn-all t a (λ r h q. f r h (allIn-at s a e r h q))
@@ -169,8 +169,8 @@ module _ (b : Book) where
   pub mayOn-mono : {c d : Pair} → Within b c d → mayOn b c ⊆ mayOn b d
   unfolding mayOn
   mayOn-mono {c} w r m = both
-      (every-mono (heads-mono (within-on w)) _ (left (every (heads b (c .on)) _) _ m))
-      (every-mono (allIn-mono (within-off w)) _ (right (every (heads b (c .on)) _) _ m))
+      (every-mono (heads-mono (within-on w)) _ (and-left (every (heads b (c .on)) _) _ m))
+      (every-mono (allIn-mono (within-off w)) _ (and-right (every (heads b (c .on)) _) _ m))
 
   pub blocked-mono : {c d : Pair} → Within b c d → blocked b c ⊆ blocked b d
   unfolding blocked
@@ -187,8 +187,8 @@ module _ (b : Book) where
 
   pub put-above : (x : Side) (l : List RuleNo) (c : Pair) → Within b c (put x l c)
   unfolding put
-  put-above onSide l c = within-both (λ r h m. first _ m) (λ r h m. m)
-  put-above offSide l c = within-both (λ r h m. m) (λ r h m. first _ m)
+  put-above onSide l c = within-both (λ r h m. or-left _ m) (λ r h m. m)
+  put-above offSide l c = within-both (λ r h m. m) (λ r h m. or-left _ m)
 
   pub put-within : (x : Side) (l : List RuleNo) {c d : Pair} → Within b c d → Under b (among l) (side x d) → Within b (put x l c) d
   unfolding put side
@@ -199,7 +199,7 @@ module _ (b : Book) where
 
   pub clashing-by : (c : Pair) → clashing b c ≡ true → (r : RuleNo) × InBook b r × (r ∈ c .on) × (r ∈ c .off)
   unfolding clashing
-  clashing-by c e = let (r, h, m) = some-rule-by _ e in (r, h, left (c .on r) _ m, right (c .on r) _ m)
+  clashing-by c e = let (r, h, m) = some-rule-by _ e in (r, h, and-left (c .on r) _ m, and-right (c .on r) _ m)
 
   pub clashing-one : (c : Pair) (r : RuleNo) → InBook b r → r ∈ c .on → r ∈ c .off → clashing b c ≡ true
   unfolding clashing
@@ -210,7 +210,7 @@ module _ (b : Book) where
       let (r, h, m, n) = clashing-by c e in clashing-one d r h (within-on w r h m) (within-off w r h n)
 
   pub clashing-no : (c : Pair) → clashing b c ≡ false → Consistent b c
-  clashing-no c e r h m n = clash (clashing-one c r h m n) e
+  clashing-no c e r h m n = true-and-false (clashing-one c r h m n) e
 
   pub consistent-clashing : (c : Pair) → Consistent b c → clashing b c ≡ false
   consistent-clashing c f = refuted (λ e. let (r, h, m, n) = clashing-by c e in f r h m n)

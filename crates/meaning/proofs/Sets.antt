@@ -11,16 +11,16 @@ use native.Mathlib.Omega.{arith}
 use lib.ListN.{length, getD, take}
 use lib.Seq.{take-suc, take-all}
 use Rattle.meaning.specs.Sets.{Set, _∈_, _∉_, _⊆_, every, some, everyBelow, someBelow}
-use Rattle.meaning.proofs.Tests.{both, left, right, not-first, not-second}
-use Rattle.meaning.proofs.Tests.{either, first, other, neither, neither-left, neither-right, decided}
+use Rattle.meaning.proofs.Tests.{both, and-left, and-right, not-first, not-second}
+use Rattle.meaning.proofs.Tests.{either, or-left, or-right, neither, neither-left, neither-right, decided}
 
 -- ---- the members of a list
 
 module _ {A : Type 0} (s : Set A) where
   pub every-at : (l : List A) → every s l ≡ true → (a : A) → List·Memᴰ a l → a ∈ s
   unfolding every
-  every-at (x ∷ l) e a (List·Memᴰ·head p) = rw p (left (s x) _ e)
-  every-at (x ∷ l) e a (List·Memᴰ·tail m) = every-at l (right (s x) _ e) a m
+  every-at (x ∷ l) e a (List·Memᴰ·head p) = rw p (and-left (s x) _ e)
+  every-at (x ∷ l) e a (List·Memᴰ·tail m) = every-at l (and-right (s x) _ e) a m
 
   pub every-all : (l : List A) → ((a : A) → List·Memᴰ a l → a ∈ s) → every s l ≡ true
   unfolding every
@@ -29,8 +29,8 @@ module _ {A : Type 0} (s : Set A) where
 
   pub some-one : (l : List A) (a : A) → List·Memᴰ a l → a ∈ s → some s l ≡ true
   unfolding some
-  some-one (x ∷ l) a (List·Memᴰ·head p) e = first _ (rw p at e)
-  some-one (x ∷ l) a (List·Memᴰ·tail m) e = other (s x) (some-one l a m e)
+  some-one (x ∷ l) a (List·Memᴰ·head p) e = or-left _ (rw p at e)
+  some-one (x ∷ l) a (List·Memᴰ·tail m) e = or-right (s x) (some-one l a m e)
 
   pub some-by : (l : List A) → some s l ≡ true → (a : A) × List·Memᴰ a l × (a ∈ s)
   unfolding some
@@ -44,12 +44,12 @@ module _ {A : Type 0} {s t : Set A} where
   pub every-mono : s ⊆ t → (l : List A) → every s l ≡ true → every t l ≡ true
   unfolding every
   every-mono h [] e = refl
-  every-mono h (x ∷ l) e = both (h x (left (s x) _ e)) (every-mono h l (right (s x) _ e))
+  every-mono h (x ∷ l) e = both (h x (and-left (s x) _ e)) (every-mono h l (and-right (s x) _ e))
 
   pub some-mono : s ⊆ t → (l : List A) → some s l ≡ true → some t l ≡ true
   unfolding some
   some-mono h [] e = e
-  some-mono h (x ∷ l) e = ⊎-elim (λ p. first _ (h x p)) (λ p. other (t x) (some-mono h l p)) (either (s x) _ e)
+  some-mono h (x ∷ l) e = ⊎-elim (λ p. or-left _ (h x p)) (λ p. or-right (t x) (some-mono h l p)) (either (s x) _ e)
 
   -- t holds what s does not
   pub every-of-none : ((i : A) → i ∉ s → i ∈ t) → (l : List A) → some s l ≡ false → every t l ≡ true
@@ -61,13 +61,13 @@ module _ {A : Type 0} {s t : Set A} where
   unfolding every some
   some-of-not-every h [] e = sym e
   some-of-not-every h (x ∷ l) e =
-      ⊎-elim (λ p. other (t x) (some-of-not-every h l (rw p at e))) (λ p. first _ (h x p)) (decided (s x))
+      ⊎-elim (λ p. or-right (t x) (some-of-not-every h l (rw p at e))) (λ p. or-left _ (h x p)) (decided (s x))
 
   -- t holds nothing that s holds
   pub none-of-every : ((i : A) → i ∈ s → i ∉ t) → (l : List A) → every s l ≡ true → some t l ≡ false
   unfolding every some
   none-of-every h [] e = refl
-  none-of-every h (x ∷ l) e = neither (h x (left (s x) _ e)) (none-of-every h l (right (s x) _ e))
+  none-of-every h (x ∷ l) e = neither (h x (and-left (s x) _ e)) (none-of-every h l (and-right (s x) _ e))
 
   pub not-every-of-some : ((i : A) → i ∈ s → i ∉ t) → (l : List A) → some s l ≡ true → every t l ≡ false
   unfolding every some
@@ -83,7 +83,7 @@ last i n h = eq-or-lt-of-le (le-of-suc-le-suc h)
 pub below-at : (n : ℕ) (s : Set ℕ) → everyBelow n s ≡ true → (i : ℕ) → i < n → i ∈ s
 unfolding everyBelow
 below-at zero s e i h = absurd (not-suc-le-zero h)
-below-at (suc n) s e i h = ⊎-elim (λ p. rw p (left (s n) _ e)) (below-at n s (right (s n) _ e) i) (last i n h)
+below-at (suc n) s e i h = ⊎-elim (λ p. rw p (and-left (s n) _ e)) (below-at n s (and-right (s n) _ e) i) (last i n h)
 
 pub below-all : (n : ℕ) (s : Set ℕ) → ((i : ℕ) → i < n → i ∈ s) → everyBelow n s ≡ true
 unfolding everyBelow
@@ -100,7 +100,7 @@ pub below-one : (n : ℕ) (s : Set ℕ) (i : ℕ) → i < n → i ∈ s → some
 unfolding someBelow
 below-one zero s i h e = absurd (not-suc-le-zero h)
 below-one (suc n) s i h e =
-    ⊎-elim (λ (p : i ≡ n). first _ (rw p at e)) (λ p. other (s n) (below-one n s i p e)) (last i n h)
+    ⊎-elim (λ (p : i ≡ n). or-left _ (rw p at e)) (λ p. or-right (s n) (below-one n s i p e)) (last i n h)
 
 -- ---- a search that goes up by one
 
@@ -134,8 +134,8 @@ module _ {A : Type 0} (s : Set A) where
   pub some-here : (l : List A) (i : ℕ) (d : A) → i < length l → getD l i d ∈ s → some s l ≡ true
   unfolding some
   some-here [] i d h m = absurd (not-suc-le-zero h)
-  some-here (x ∷ l) zero d h m = first _ m
-  some-here (x ∷ l) (suc i) d h m = other (s x) (some-here l i d (le-of-suc-le-suc h) m)
+  some-here (x ∷ l) zero d h m = or-left _ m
+  some-here (x ∷ l) (suc i) d h m = or-right (s x) (some-here l i d (le-of-suc-le-suc h) m)
 
   pub every-here : (l : List A) (i : ℕ) (d : A) → i < length l → getD l i d ∉ s → every s l ≡ false
   unfolding every

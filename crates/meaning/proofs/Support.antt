@@ -14,7 +14,7 @@ use Rattle.meaning.specs.Books.{Rules, Book, count, rule, InBook}
 use Rattle.meaning.specs.Colours.{Pair, heads, Under, Upheld, Support, Closed}
 use Rattle.meaning.specs.Written.{of}
 use Rattle.meaning.specs.Computed.{iterate, upheld, supportMore, support}
-use Rattle.meaning.proofs.Tests.{both, left, right, either, clash, absent, same}
+use Rattle.meaning.proofs.Tests.{both, and-left, and-right, either, true-and-false, absent, same}
 use Rattle.meaning.proofs.Sets.{every-mono}
 use Rattle.meaning.proofs.Least.{Adding, smallest-mono, smallest-unique, iterate-fine, iterate-smallest}
 use Rattle.meaning.proofs.Rules.{heads-mono, in-book-or-not}
@@ -28,7 +28,7 @@ module _ (b : Book) (off : Rules) where
 
   pub upheld-by : (v : Rules) (r : RuleNo) → r ∈ upheld b off v → (r ∉ off) × (every (heads b v) (rule b r .pos) ≡ true)
   unfolding upheld
-  upheld-by v r m = (not-true _ (left (not (off r)) _ m), right (not (off r)) _ m)
+  upheld-by v r m = (not-true _ (and-left (not (off r)) _ m), and-right (not (off r)) _ m)
 
   -- ---- the computed set, in any number of places that has room for the book
 
@@ -56,7 +56,7 @@ module _ (b : Book) (off : Rules) where
     }
 
     pub support-found : Support b off (of (iterate (supportMore b off) (count b) (replicate places false)))
-    support-found = iterate-smallest support-adding _ (fine-start places) (λ t g r h m. clash m (of-none places r))
+    support-found = iterate-smallest support-adding _ (fine-start places) (λ t g r h m. true-and-false m (of-none places r))
 
   pub support-is : count b ≤ 255 → Support b off (of (support b off))
   unfolding support
@@ -95,11 +95,11 @@ module _ (b : Book) where
 
     -- a supported rule is not off, and its positive atoms are heads of supported rules
     pub supported : (r : RuleNo) → InBook b r → r ∈ v → (r ∉ off) × (every (heads b v) (rule b r .pos) ≡ true)
-    supported r h m = upheld-by b off v r (right (v r) _ (s .least inner inner-upheld r h m))
+    supported r h m = upheld-by b off v r (and-right (v r) _ (s .least inner inner-upheld r h m))
       where
         inner-upheld : Upheld b off inner
         inner-upheld q k n p =
-            let e = every-mono (heads-mono b (λ i g z. left (v i) _ z)) _ p in both (s .good q k n e) (upheld-of b off v q n e)
+            let e = every-mono (heads-mono b (λ i g z. and-left (v i) _ z)) _ p in both (s .good q k n e) (upheld-of b off v q n e)
 
   -- what goes off for being outside one support set goes off for being outside any
   pub unsupported-any : {off v : Rules} → Support b off v → ((r : RuleNo) → InBook b r → r ∉ v → r ∈ off)

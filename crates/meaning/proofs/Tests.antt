@@ -2,6 +2,7 @@
 use mathlib.Core.Path.{_≡_, refl, sym, _∙_}
 use mathlib.Core.Logic.{_⊎_, inl, inr, ⊎-map}
 use mathlib.Core.Bool.{Bool, true, false, not, _&&_, _||_, true≢false, false≢true}
+use native.Mathlib.Omega.{arith}
 use Prim.Native.Nat.{ℕ, _≤_, _<_}
 use lib.Dec.{ltb}
 use borrow.Author.Tests.{ltb-true, ltb-false}
@@ -11,13 +12,13 @@ use borrow.Author.Tests.{ltb-true, ltb-false}
 pub both : {a b : Bool} → a ≡ true → b ≡ true → (a && b) ≡ true
 both p q = rw (p, q)
 
-pub left : (a b : Bool) → (a && b) ≡ true → a ≡ true
-left true b e = refl
-left false b e = e
+pub and-left : (a b : Bool) → (a && b) ≡ true → a ≡ true
+and-left true b e = refl
+and-left false b e = e
 
-pub right : (a b : Bool) → (a && b) ≡ true → b ≡ true
-right true b e = e
-right false b e = absurd (false≢true e)
+pub and-right : (a b : Bool) → (a && b) ≡ true → b ≡ true
+and-right true b e = e
+and-right false b e = absurd (false≢true e)
 
 pub not-first : {a : Bool} (b : Bool) → a ≡ false → (a && b) ≡ false
 not-first b p = rw p
@@ -32,12 +33,12 @@ pub either : (a b : Bool) → (a || b) ≡ true → (a ≡ true) ⊎ (b ≡ true
 either true b e = inl refl
 either false b e = inr e
 
-pub first : {a : Bool} (b : Bool) → a ≡ true → (a || b) ≡ true
-first b p = rw p
+pub or-left : {a : Bool} (b : Bool) → a ≡ true → (a || b) ≡ true
+or-left b p = rw p
 
-pub other : (a : Bool) {b : Bool} → b ≡ true → (a || b) ≡ true
-other true p = refl
-other false p = p
+pub or-right : (a : Bool) {b : Bool} → b ≡ true → (a || b) ≡ true
+or-right true p = refl
+or-right false p = p
 
 pub neither : {a b : Bool} → a ≡ false → b ≡ false → (a || b) ≡ false
 neither p q = rw (p, q)
@@ -66,8 +67,8 @@ pub decided : (a : Bool) → (a ≡ true) ⊎ (a ≡ false)
 decided true = inl refl
 decided false = inr refl
 
-pub clash : {A : Type 0} {a : Bool} → a ≡ true → a ≡ false → A
-clash p q = absurd (true≢false (sym p ∙ q))
+pub true-and-false : {A : Type 0} {a : Bool} → a ≡ true → a ≡ false → A
+true-and-false p q = absurd (true≢false (sym p ∙ q))
 
 -- what implies a false test is false
 pub absent : {a b : Bool} → (a ≡ true → b ≡ true) → b ≡ false → a ≡ false
@@ -91,3 +92,7 @@ same false false f g = refl
 
 pub lt-or-le : (m n : ℕ) → (m < n) ⊎ (n ≤ m)
 lt-or-le m n = ⊎-map (ltb-true m n) (ltb-false m n) (decided (ltb m n))
+
+-- two cases of one answer are never equal: cc proves 0 ≡ 1 of them
+pub apart : {A : Type 0} → _≡_ {A = ℕ} 0 1 → A
+apart e = absurd (omega arith)

@@ -11,7 +11,7 @@ use Rattle.meaning.specs.Books.{Atoms, among, Book, rule}
 use Rattle.meaning.specs.AnswerSet.{AnswerSet, generating}
 use Rattle.meaning.specs.Colours.{heads}
 use Rattle.meaning.specs.Paper.{grounded, fails, Witness}
-use Rattle.meaning.proofs.Tests.{left, right, either, first, other, clash, refuted, decided}
+use Rattle.meaning.proofs.Tests.{and-left, and-right, either, or-left, or-right, true-and-false, refuted, decided}
 use Rattle.meaning.proofs.Sets.{every-mono, some-of-not-every, not-every-of-some}
 use Rattle.meaning.proofs.Rules.{among-here, among-there, among-front, heads-by, heads-of}
 use Rattle.meaning.proofs.Answers.{generating-of, generating-no-pos, generating-no-neg}
@@ -21,8 +21,8 @@ use Rattle.meaning.proofs.Reduct.{ClosedBy, closed→by, by→closed}
 module _ (b : Book) (x : Atoms) (r : RuleNo) where
   pub fails-of : r ∉ generating b x → fails x (rule b r) ≡ true
   unfolding fails
-  fails-of n = ⊎-elim (λ z. other (some (λ a. not (x a)) _) z)
-      (λ z. first _ (some-of-not-every (λ a k. ap not k) _ (refuted (λ p. clash (generating-of b x r p z) n))))
+  fails-of n = ⊎-elim (λ z. or-right (some (λ a. not (x a)) _) z)
+      (λ z. or-left _ (some-of-not-every (λ a k. ap not k) _ (refuted (λ p. true-and-false (generating-of b x r p z) n))))
       (decided (some x (rule b r .neg)))
 
   pub fails-by : fails x (rule b r) ≡ true → r ∉ generating b x
@@ -48,11 +48,11 @@ module _ (b : Book) (w : List RuleNo) (witness : Witness b w) where
     rest-in before [] f u e q m = absurd (false≢true m)
     rest-in before (r ∷ l) f u e q m =
         ⊎-elim (λ (z : q ≡ r). rw z here)
-        (rest-in (r ∷ before) l more (λ i k. u i (among-there r l i k)) (right (every (heads b (among before)) _) _ e) q)
+        (rest-in (r ∷ before) l more (λ i k. u i (among-there r l i k)) (and-right (every (heads b (among before)) _) _ e) q)
         (among-front r l q m)
       where
         here : rule b r .head ∈ y
-        here = listed-in before f r (u r (among-here r l)) (left (every (heads b (among before)) _) _ e)
+        here = listed-in before f r (u r (among-here r l)) (and-left (every (heads b (among before)) _) _ e)
 
         more : (q : RuleNo) → q ∈ among (r ∷ before) → rule b q .head ∈ y
         more q k = ⊎-elim (λ (z : q ≡ r). rw z here) (f q) (among-front r before q k)
@@ -66,7 +66,7 @@ module _ (b : Book) (w : List RuleNo) (witness : Witness b w) where
   -- a rule of which no part fails is listed
   witness-closed : ClosedBy b shownSet shownSet
   witness-closed r h n p =
-      ⊎-elim (heads-of b (among w) r h) (λ z. clash (generating-of b _ r p n) (fails-by b _ r (witness .unlisted r h z)))
+      ⊎-elim (heads-of b (among w) r h) (λ z. true-and-false (generating-of b _ r p n) (fails-by b _ r (witness .unlisted r h z)))
       (decided (among w r))
 
   pub witness-answer : AnswerSet b (heads b (among w))

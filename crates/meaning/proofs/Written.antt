@@ -15,7 +15,7 @@ use Rattle.meaning.specs.Sets.{Set, _∈_, _∉_, _⊆_}
 use Rattle.meaning.specs.Books.{Rules, ruleNo, among, Book, count, InBook}
 use Rattle.meaning.specs.Colours.{onSide, offSide, put, plus, start}
 use Rattle.meaning.specs.Written.{of, addFrom, added, nothing, colourOn, colourOff, pair}
-use Rattle.meaning.proofs.Tests.{first, other, decided, clash}
+use Rattle.meaning.proofs.Tests.{or-left, or-right, decided, true-and-false}
 use Rattle.meaning.proofs.Rules.{among-one, one-among, in-book-or-not}
 
 -- ---- reading
@@ -79,7 +79,7 @@ module _ (b : Book) (s : Rules) (l : List Bool) where
   of-added-outside r h = from-out 0 (count b) (λ n. s (ruleNo n)) l (r .0) h
 
   pub added-above : count b ≤ length l → of l ⊆ of (added b s l)
-  added-above g r m = ⊎-elim (λ h. of-added g r h ∙ first _ m) (λ h. of-added-outside r h ∙ m) (in-book-or-not b r)
+  added-above g r m = ⊎-elim (λ h. of-added g r h ∙ or-left _ m) (λ h. of-added-outside r h ∙ m) (in-book-or-not b r)
 
 -- ---- one rule put in
 
@@ -95,10 +95,10 @@ pub of-set : (l : List Bool) (r : RuleNo) → r .0 < length l → of (set l (r .
 of-set l r h = fun-ext (λ q. ⊎-elim (here q) (there q) (decided (among (r ∷ []) q)))
   where
     here : (q : RuleNo) → q ∈ among (r ∷ []) → of (set l (r .0) true) q ≡ (of l q || among (r ∷ []) q)
-    here q m = of-set-same l q r h (among-one m) ∙ sym (other (of l q) m)
+    here q m = of-set-same l q r h (among-one m) ∙ sym (or-right (of l q) m)
 
     there : (q : RuleNo) → q ∉ among (r ∷ []) → of (set l (r .0) true) q ≡ (of l q || among (r ∷ []) q)
-    there q n = of-set-other l q r (λ e. clash (rw e (one-among r)) n) ∙ rw n (sym (or-false _))
+    there q n = of-set-other l q r (λ e. true-and-false (rw e (one-among r)) n) ∙ rw n (sym (or-false _))
 
 module _ (c : Colouring) (r : RuleNo) where
   pub pair-on : r .0 < length (c .on) → pair (colourOn r c) ≡ put onSide (r ∷ []) (pair c)
@@ -176,4 +176,4 @@ added-grows b s l g =
 -- a list to which nothing is added holds every rule of the book that was to be added
 pub added-rests : (b : Book) (s : Rules) (l : List Bool) → count b ≤ length l → l ≡ added b s l
     → (r : RuleNo) → InBook b r → r ∈ s → r ∈ of l
-added-rests b s l g e r h m = subst (λ (k : List Bool). r ∈ of k) (sym e) (of-added b s l g r h ∙ other (of l r) m)
+added-rests b s l g e r h m = subst (λ (k : List Bool). r ∈ of k) (sym e) (of-added b s l g r h ∙ or-right (of l r) m)

@@ -1,5 +1,5 @@
--- Papers that keep the printed rules. Document 01, "The paper". Its limit, "At most 60,000 bytes", is no part of Keeps: what is said
--- of a paper that is to be accepted, or that was written, names the limit beside it.
+-- Papers that keep the printed rules. Document 01, "The paper". Its limit, paperBytes, is no part of Keeps: what is said of a paper that
+-- is to be accepted, or that was written, names the limit beside it.
 --
 --   unfounded b off l    "each listed rule has a positive atom all of whose rules are off or listed"
 --   Branch b k c l       the bytes l are a branch that starts with the pair c: steps up to its 45, or up to its split and two branches
@@ -26,6 +26,10 @@ numbers l = map (λ r. r .0) l
 
 unfoldable pub unfounded : Book → Rules → List RuleNo → Bool
 unfounded b off l = every (λ r. some (allIn b (plus off l)) (rule b r .pos)) l
+
+-- "At most 60,000 bytes."
+abbrev pub paperBytes : ℕ
+paperBytes = 60000
 
 -- the five codes
 abbrev pub codeOn : ℕ

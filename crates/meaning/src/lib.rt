@@ -30,3 +30,6 @@ pub const STEP_UNFOUNDED: u8 = 0x55;
 pub const STEP_SPLIT: u8 = 0x53;
 
 pub const STEP_END: u8 = 0x45;
+
+// A paper has at most so many bytes.
+pub const PAPER_BYTES: usize = 60000;

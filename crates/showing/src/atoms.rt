@@ -23,7 +23,7 @@ fn put_bare(a: u8, is_bare: bool, line: &mut [u8], held: usize) -> usize
 }
 
 // The atoms below `atoms` that the table has.
-fn put_all(atoms: u8, bare: &[bool; 255], line: &mut [u8], held: usize) -> usize
+fn put_all(atoms: u8, bare: &[bool; Colouring::ATOMS], line: &mut [u8], held: usize) -> usize
     requires { ⌜ Counts held (now line) ⌝ }
     ensures { λ r. ⌜ Counts r (now (line .exit)) ⌝ }
 {
@@ -37,7 +37,7 @@ fn put_all(atoms: u8, bare: &[bool; 255], line: &mut [u8], held: usize) -> usize
 }
 
 // The atoms below `atoms` that the table has, or `none`.
-fn put_list(atoms: u8, bare: &[bool; 255], line: &mut [u8], held: usize) -> usize
+fn put_list(atoms: u8, bare: &[bool; Colouring::ATOMS], line: &mut [u8], held: usize) -> usize
     requires { ⌜ Counts held (now line) ⌝ }
     ensures { λ r. ⌜ Counts r (now (line .exit)) ⌝ }
 {

@@ -3,13 +3,15 @@ ghost use Rattle.io.specs.Counts.{Counts};
 use crate::line::put_name;
 use crate::line::put_text;
 use crate::output::print;
+use book::BOOK_BYTES;
+use meaning::PAPER_BYTES;
 
 // Room for a book: one byte more than the longest has, so that a longer file is refused and not
 // cut.
-pub const BOOK_ROOM: usize = 9442;
+pub const BOOK_ROOM: usize = BOOK_BYTES + 1;
 
 // Room for a paper, likewise.
-pub const PAPER_ROOM: usize = 60001;
+pub const PAPER_ROOM: usize = PAPER_BYTES + 1;
 
 // Whether a file was read, and how many of its bytes stand at the start of the buffer.
 pub struct Taken {

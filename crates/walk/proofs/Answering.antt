@@ -12,6 +12,7 @@ use Rattle.meaning.specs.Choice.{ifEq}
 use Rattle.meaning.specs.Told.{Told, success, refusedAt, refused, Answered}
 use Rattle.meaning.specs.Written.{nothing}
 use Rattle.meaning.proofs.Choice.{lt-yes, lt-no, eq-yes, eq-no}
+use Rattle.meaning.proofs.Tests.{apart}
 use Rattle.book.specs.declared.refusal.Refusal.{Refusal}
 use Rattle.book.specs.declared.reader.Shape.{Shape}
 use Rattle.book.specs.declared.reader.Read.{Read}
@@ -28,7 +29,6 @@ use Rattle.walk.specs.Page.{PageEnd, endedBy, setIn, eventsFrom, roomIn,
 use Rattle.walk.specs.declared.tally.Halt.{Halt}
 use Rattle.walk.specs.declared.tally.Halt.the-variants.{Going, Full, Limit}
 use Rattle.walk.specs.declared.tally.Tally.{Tally}
-use Rattle.walk.proofs.Run.{apart}
 use Rattle.walk.proofs.Demand.{find-bad-book, find-good-book}
 use Rattle.walk.proofs.Paging.{room-some, rooms-fit}
 use Rattle.walk.proofs.Listing.{later-events}

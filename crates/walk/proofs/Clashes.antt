@@ -15,10 +15,10 @@ use Rattle.meaning.specs.Computed.{close}
 use Rattle.meaning.specs.Lowest.{one, clashed}
 use Rattle.meaning.proofs.Lowest.{clashed-one}
 use Rattle.meaning.proofs.Written.{sized-nothing}
+use Rattle.meaning.proofs.Tests.{apart}
 use Rattle.walk.specs.Events.{Event, clash, fork, reading, events}
 use Rattle.walk.specs.Readings.{readingsIn, readings}
 use Rattle.walk.specs.Tries.{clashIn, lastClash}
-use Rattle.walk.proofs.Run.{apart}
 use Rattle.walk.proofs.Readings.{readings-append}
 use Rattle.walk.proofs.Events.{Walk, at-clash, at-reading, at-fork, walks}
 

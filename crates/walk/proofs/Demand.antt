@@ -11,6 +11,7 @@ use Rattle.meaning.specs.Told.{refusedAt, fewer, stopped, Answered}
 use Rattle.meaning.specs.Written.{nothing}
 use Rattle.meaning.proofs.Rules.{rule-member}
 use Rattle.meaning.proofs.LeastModel.{Proper}
+use Rattle.meaning.proofs.Tests.{apart}
 use Rattle.book.specs.Format.{good, bad, readOf, bookOf, bookIn}
 use Rattle.book.specs.Rows.{Bytes}
 use Rattle.book.proofs.Shape.{good-fits}
@@ -19,7 +20,6 @@ use Rattle.walk.specs.Readings.{readings}
 use Rattle.walk.specs.Tries.{Kth, Needs, to-reading, to-end, lastClash}
 use Rattle.walk.specs.Run.{rowOf}
 use Rattle.walk.specs.Find.{set, findIn, findRead, findOf}
-use Rattle.walk.proofs.Run.{apart}
 use Rattle.walk.proofs.Needs.{kth-count, kth-one, needs-one}
 use Rattle.walk.proofs.Finding.{Outcome, found, too-few, too-long, no-number, no-room, find-outcome}
 

@@ -15,7 +15,7 @@ use Rattle.meaning.specs.Colours.{Pair, Side, onSide, offSide, side, Under, Wit
 use Rattle.meaning.specs.Colours.{uncoloured, Total, colouringOf}
 use Rattle.meaning.specs.Written.{of, nothing, pair}
 use Rattle.meaning.specs.Lowest.{none, one, lowest, clashed}
-use Rattle.meaning.proofs.Tests.{clash, same}
+use Rattle.meaning.proofs.Tests.{true-and-false, same}
 use Rattle.meaning.proofs.Rules.{within-on, within-off, within-both, within-trans, clashing-no, uncoloured-no, heads-mono}
 use Rattle.meaning.proofs.Written.{Sized, pair-nothing}
 use Rattle.meaning.proofs.Closing.{close-is, close-sized}
@@ -80,7 +80,7 @@ module _ {b : Book} {c d : Colouring} where
           w = stands-after x s .holds
 
           on-if : Under b (generating b x) (of (d .on))
-          on-if r h m = ⊎-elim (λ e. e) (λ e. clash m (not-true _ (within-off b w r h e))) (total r h)
+          on-if r h m = ⊎-elim (λ e. e) (λ e. true-and-false m (not-true _ (within-off b w r h e))) (total r h)
 
   -- ---- at a fork, each is on one side
 

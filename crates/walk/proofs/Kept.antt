@@ -9,11 +9,12 @@ use Rattle.meaning.specs.Books.{Book}
 use Rattle.meaning.specs.Told.{Answered}
 use Rattle.meaning.specs.Written.{nothing}
 use Rattle.meaning.proofs.Choice.{lt-either, eq-yes, eq-either}
+use Rattle.meaning.proofs.Tests.{apart}
 use Rattle.walk.specs.Events.{Event, clash, fork, reading, events}
 use Rattle.walk.specs.Run.{Wanted, State, readingMet, tried, met, run}
 use Rattle.walk.specs.Find.{set, startOf, toldBy, findIn}
 use Rattle.walk.specs.declared.tally.Halt.the-variants.{Going, Full}
-use Rattle.walk.proofs.Run.{apart, run-keeps}
+use Rattle.walk.proofs.Run.{run-keeps}
 
 module _ (b : Book) (k limit : ℕ) (answer : List ℕ) where
   -- the buffer is as it was as long as readings are passed over; the one that is written ends the way

@@ -11,6 +11,7 @@ use Rattle.meaning.specs.Books.{Atoms, Book, count}
 use Rattle.meaning.specs.Told.{success, Answered}
 use Rattle.meaning.specs.Written.{nothing}
 use Rattle.meaning.proofs.LeastModel.{Proper}
+use Rattle.meaning.proofs.Tests.{apart}
 use Rattle.walk.specs.Events.{Event, reading, events, rest}
 use Rattle.walk.specs.Readings.{readingOf, readingsIn, readings}
 use Rattle.walk.specs.Run.{rowOf}
@@ -18,7 +19,6 @@ use Rattle.walk.specs.Page.{PageEnd, whole, last, cut, setIn, eventsFrom
 use Rattle.walk.specs.Listing.{lastRow}
 use Rattle.walk.proofs.Rows.{last-row}
 use Rattle.walk.proofs.Readings.{readings-append}
-use Rattle.walk.proofs.Run.{apart}
 use Rattle.walk.proofs.Needs.{amount, amount-last}
 use Rattle.walk.proofs.Rest.{rest-row}
 use Rattle.walk.proofs.Paging.{filled, Outcome, all-rows, full-page, limit-met, no-room, page-outcome}

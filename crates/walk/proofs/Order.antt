@@ -16,7 +16,7 @@ use Rattle.meaning.specs.Books.{Atoms, Rules, Book, InBook}
 use Rattle.meaning.specs.AnswerSet.{AnswerSet, generating}
 use Rattle.meaning.specs.Choice.{agree}
 use Rattle.meaning.specs.Lowest.{Pick, none, one, lowest}
-use Rattle.meaning.proofs.Tests.{clash, same, lt-or-le}
+use Rattle.meaning.proofs.Tests.{true-and-false, same, lt-or-le}
 use Rattle.meaning.proofs.Rules.{heads-mono}
 use Rattle.meaning.proofs.Lowest.{lowest-one, lowest-none}
 use Rattle.meaning.proofs.Answers.{answer-heads}
@@ -31,7 +31,7 @@ differ false q e = inr (refl, not-false q e)
 
 module _ (b : Book) where
   pub before-irreflexive : (x : Atoms) → Before b x x → ⊥
-  before-irreflexive x p = clash (p .in-first) (p .not-in-second)
+  before-irreflexive x p = true-and-false (p .in-first) (p .not-in-second)
 
   pub before-transitive : {x y z : Atoms} → Before b x y → Before b y z → Before b x z
   before-transitive {x} {y} {z} p q = ⊎-elim
@@ -53,7 +53,7 @@ module _ (b : Book) where
     where
       -- y has the rule of the second, and not that of the first
       earlier : q .at .0 ≤ p .at .0 → q .at .0 < p .at .0
-      earlier h = ⊎-elim (λ e. let z : q .at ≡ p .at = (λ i. record { 0 = e i }) in clash (rw z at (q .in-first)) (p .not-in-second))
+      earlier h = ⊎-elim (λ e. let z : q .at ≡ p .at = (λ i. record { 0 = e i }) in true-and-false (rw z at (q .in-first)) (p .not-in-second))
           (λ l. l) (eq-or-lt-of-le h)
 
   -- the lowest rule that is generating for just one

@@ -12,7 +12,7 @@ use Rattle.meaning.specs.Books.{Atoms, Book, count}
 use Rattle.meaning.specs.AnswerSet.{generating}
 use Rattle.meaning.specs.Colours.{onSide, offSide}
 use Rattle.meaning.specs.Written.{nothing, colourOn, colourOff}
-use Rattle.meaning.proofs.Tests.{decided}
+use Rattle.meaning.proofs.Tests.{decided, apart}
 use Rattle.meaning.proofs.Written.{sized-nothing}
 use Rattle.meaning.proofs.LeastModel.{Proper, answer-inside}
 use Rattle.walk.specs.Events.{Event, reading, events, rest}
@@ -22,7 +22,6 @@ use Rattle.walk.specs.Page.{setIn}
 use Rattle.walk.proofs.Events.{Walk, at-clash, at-reading, at-fork, walks}
 use Rattle.walk.proofs.Events.{rest-clash, rest-reading, rest-fork-on, rest-fork-off}
 use Rattle.walk.proofs.Rows.{set-in-row}
-use Rattle.walk.proofs.Run.{apart}
 use Rattle.walk.proofs.Forks.{Stands, side-stands, side-on, side-off}
 use Rattle.walk.proofs.Readings.{readings-append, walk-sound}
 

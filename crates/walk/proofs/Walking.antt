@@ -17,6 +17,7 @@ use Rattle.meaning.specs.Colours.{Side, heads, uncoloured}
 use Rattle.meaning.specs.Written.{of, colourOn, colourOff, lent, pair}
 use Rattle.meaning.specs.Computed.{close}
 use Rattle.meaning.specs.Lowest.{Pick, none, one, lowestFrom, lowest, clashed}
+use Rattle.meaning.proofs.Tests.{apart}
 use Rattle.book.specs.declared.reader.Shape.{Shape}
 use Rattle.book.specs.Format.{bookIn, ReadAs}
 use Rattle.book.proofs.Places.{shape-count}
@@ -34,7 +35,7 @@ use Rattle.walk.proofs.tally.Halt.{the-type}
 use Rattle.walk.proofs.Events.{Closes, events-clash, events-reading, rest-clash, rest-reading}
 use Rattle.walk.proofs.Events.{Forks, fork-falls, events-fork, rest-fork-on, rest-fork-off}
 use Rattle.closing.proofs.Searches.{lowest-in}
-use Rattle.walk.proofs.Run.{apart, run-append, run-ended, run-try, run-stops, run-fine}
+use Rattle.walk.proofs.Run.{run-append, run-ended, run-try, run-stops, run-fine}
 use Rattle.walk.proofs.Meeting.{wanted, room-fine, fine-room}
 
 -- ---- what is kept to

@@ -11,7 +11,7 @@ use lib.ListN.{length, length-append}
 use Rattle.meaning.specs.declared.colouring.Colouring.{Colouring}
 use Rattle.meaning.specs.Books.{Book}
 use Rattle.meaning.specs.Choice.{ifLt, ifEq}
-use Rattle.meaning.proofs.Tests.{lt-or-le}
+use Rattle.meaning.proofs.Tests.{lt-or-le, apart}
 use Rattle.meaning.proofs.Choice.{lt-yes, lt-no, eq-yes, eq-no}
 use Rattle.walk.specs.Events.{Event, clash, fork, reading}
 use Rattle.walk.specs.Readings.{readingOf, readingsIn}
@@ -20,7 +20,7 @@ use Rattle.walk.specs.Run.{rowOf, writeAt, Wanted, State, counted, clash
 use Rattle.walk.specs.declared.tally.Halt.{Halt}
 use Rattle.walk.specs.declared.tally.Halt.the-variants.{Going, Full, Limit}
 use Rattle.walk.proofs.Rows.{row-length, rowsOf, write-length, write-none, write-next}
-use Rattle.walk.proofs.Run.{apart, run-ended, run-try, run-stops}
+use Rattle.walk.proofs.Run.{run-ended, run-try, run-stops}
 
 module _ (b : Book) (w : Wanted) where
   -- the state after one more event, and after some, where neither the limit nor the end of the room stops the way

@@ -7,6 +7,7 @@ ghost use Rattle.book.specs.Tables.{atomsIn};
 ghost use Rattle.walk.specs.Run.{rowFrom, writeAt};
 ghost use Rattle.walk.specs.Page.{setIn};
 use meaning::AtomNo;
+use meaning::Colouring;
 
 // The byte of one atom.
 fn byte(inside: bool) -> u8
@@ -19,7 +20,7 @@ fn byte(inside: bool) -> u8
 }
 
 // Writes the set's row from byte `at` on; the other bytes stay.
-pub fn write_row(atoms: u8, set: &[bool; 255], at: usize, out: &mut [u8])
+pub fn write_row(atoms: u8, set: &[bool; Colouring::ATOMS], at: usize, out: &mut [u8])
     requires { ⌜ at + atoms ≤ length (now out) ⌝ }
     ensures { λ _. ⌜ now (out .exit) ≡
         writeAt at (rowFrom 0 atoms (atomsIn (now (set .entry)))) (now (out .entry)) ⌝ }

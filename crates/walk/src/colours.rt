@@ -5,10 +5,15 @@ ghost use Rattle.meaning.specs.Written.{lent};
 ghost use Rattle.meaning.specs.Lowest.{lowestFrom};
 ghost use Rattle.closing.specs.Picked.{picked};
 use closing::Picked;
+use meaning::Colouring;
 use meaning::RuleNo;
 
 // The lowest of the first `rules` rules, which are those of the book, that is in neither set.
-pub fn lowest_uncoloured<'a>(rules: u8, on: &'a [bool; 255], off: &'a [bool; 255]) -> Picked
+pub fn lowest_uncoloured<'a>(
+    rules: u8,
+    on: &'a [bool; Colouring::RULES],
+    off: &'a [bool; Colouring::RULES],
+) -> Picked
     ensures { λ r. ⌜ picked r ≡
         lowestFrom 0 rules (uncoloured (lent (now (on .entry)) (now (off .entry)))) ⌝ }
 {

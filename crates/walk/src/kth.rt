@@ -62,7 +62,7 @@ fn kth(book: &[u8], shape: Shape, k: u32, limit: u32, answer: &mut [u8]) -> Tall
 
 // The first reading of a good book, for whoever has read the book already: naming takes its
 // witness from it.
-pub fn first(book: &[u8], shape: Shape, limit: u32, row: &mut [u8; 255]) -> Tally
+pub fn first(book: &[u8], shape: Shape, limit: u32, row: &mut [u8; Colouring::ATOMS]) -> Tally
     requires { ⌜ ReadAs (now book) shape ⌝ }
     ensures { λ t. ⌜ _≡_ {A = State} (record { tally = t; out = now (row .exit) })
         (run (bookIn (now (book .entry))) (record { pass = 0; room = 1; limit = limit })

@@ -18,7 +18,7 @@ use meaning::Colouring;
 pub fn meet(
     book: &[u8],
     shape: Shape,
-    on: &[bool; 255],
+    on: &[bool; Colouring::RULES],
     pass: u32,
     room: usize,
     limit: u32,

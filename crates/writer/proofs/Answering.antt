@@ -13,6 +13,8 @@ use Rattle.meaning.specs.Told.{Told, refusedAt, refused, fewer, stopped, Answer
 use Rattle.meaning.specs.Written.{nothing, pair}
 use Rattle.meaning.proofs.Choice.{lt-yes, lt-no}
 use Rattle.meaning.proofs.Written.{pair-nothing}
+use Rattle.meaning.specs.Paper.{paperBytes}
+use Rattle.meaning.proofs.Tests.{apart}
 use Rattle.book.specs.declared.refusal.Refusal.{Refusal}
 use Rattle.book.specs.declared.reader.Shape.{Shape}
 use Rattle.book.specs.declared.reader.Read.{Read}
@@ -26,7 +28,7 @@ use Rattle.walk.specs.declared.tally.Tally.{Tally}
 use Rattle.walk.specs.declared.tally.Halt.the-variants.{Going, Full, Limit}
 use Rattle.writer.specs.Branches.{branches}
 use Rattle.writer.specs.Scan.{Progress, writing, scan}
-use Rattle.writer.specs.Needs.{wholePaper}
+use Rattle.writer.specs.PaperNeeds.{wholePaper}
 use Rattle.writer.specs.Write.{Handed, lacking, firstWalk, paperWalk, handOver, afterPaperWalk}
 use Rattle.writer.specs.Write.{afterFirstWalk, writeIn, writeRead, writeOf}
 use Rattle.writer.specs.Draft.{whole, courseOf, Stage}
@@ -40,8 +42,8 @@ use Rattle.writer.proofs.Stages.{only}
 abbrev pub blank : Progress
 blank = record { tries = 0; bytes = []; course = writing }
 
-pub stage-blank : Stage (record { tries = 0; length = 0; course = Writing }) (replicate 60000 0) blank
-stage-blank = record { tries = refl; bytes = whole (length-replicate {A = ℕ} 60000 0) refl (omega arith) refl; course = refl }
+pub stage-blank : Stage (record { tries = 0; length = 0; course = Writing }) (replicate paperBytes 0) blank
+stage-blank = record { tries = refl; bytes = whole (length-replicate {A = ℕ} paperBytes 0) refl (omega arith) refl; course = refl }
 
 pub stage-paper : (b : Book) (k : Claim) (limit : ℕ) {c : Colouring} {q : Drafted} {draft : List ℕ} → c ≡ nothing
     → Stage q draft (scan limit blank (branches b k (pair c))) → Stage q draft (paperWalk b k limit)
@@ -83,9 +85,6 @@ module _ (b : Book) (k : Claim) (limit : ℕ) (buffer : List ℕ) (below : claim
     write-handed f g = g ∙ rw (d .tries) (sym (write-paper ∙ rw f))
 
 -- ---- the book
-
-apart : {A : Type 0} → _≡_ {A = ℕ} 0 1 → A
-apart e = absurd (omega arith)
 
 -- what is told of a reading decides how the call goes on
 module _ (k : Claim) (limit : ℕ) (buffer : List ℕ) where

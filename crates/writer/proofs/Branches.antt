@@ -16,7 +16,7 @@ use Rattle.meaning.specs.declared.kind.Claim.{Claim}
 use Rattle.meaning.specs.Paper.{numbers, codeOn, codeOff, codeUnfounded, codeSplit, codeEnd}
 use Rattle.meaning.specs.Lowest.{rulesIn}
 use Rattle.meaning.specs.Engine.{Next, ends, puts-on, puts-off, drops, splits, stuck, next}
-use Rattle.meaning.proofs.Tests.{first, other, absent, neither, neither-left, neither-right}
+use Rattle.meaning.proofs.Tests.{or-left, or-right, absent, neither, neither-left, neither-right}
 use Rattle.meaning.proofs.Rules.{among-here, one-among, put-above, within-refl, within-trans, within-on, within-off}
 use Rattle.meaning.proofs.RulesIn.{rules-fewer, rules-length}
 use Rattle.meaning.proofs.Engine.{next-puts-on, next-puts-off, next-drops, next-splits}
@@ -74,7 +74,7 @@ module _ (b : Book) where
       → length (rulesIn b (lacking (plus s l))) < length (rulesIn b (lacking s))
   plus-fewer s l r h m n =
       rules-fewer b (lacking s) (lacking (plus s l)) (λ q g k. ap not (neither-left (s q) _ (not-true _ k))) r h (ap not n)
-      (ap not (other (s r) m))
+      (ap not (or-right (s r) m))
 
   pub put-missing : (x : Side) (l : List RuleNo) (c : Pair) (r : RuleNo) → InBook b r → r ∈ among l → r ∉ side x c
       → missing (put x l c) < missing c
@@ -90,8 +90,8 @@ module _ (b : Book) where
 
   put-coloured : (x : Side) (r : RuleNo) (c : Pair) → r ∉ uncoloured (put x (r ∷ []) c)
   unfolding uncoloured put
-  put-coloured onSide r c = ap not (first _ (other (c .on r) (one-among r)))
-  put-coloured offSide r c = ap not (other (c .on r) (other (c .off r) (one-among r)))
+  put-coloured onSide r c = ap not (or-left _ (or-right (c .on r) (one-among r)))
+  put-coloured offSide r c = ap not (or-right (c .on r) (or-right (c .off r) (one-among r)))
 
   -- the rules without a colour
   pub left : Pair → ℕ

@@ -23,7 +23,7 @@ use Rattle.walk.specs.Run.{rowFrom, rowOf, writeAt, readingMet, tried, met as e
 use Rattle.walk.specs.Page.{setIn}
 use Rattle.writer.specs.Branches.{behind, branchBy, branchIn, branch, below, branchesIn, branches}
 use Rattle.writer.specs.Scan.{courseAt, met, scan}
-use Rattle.writer.specs.Needs.{wholePaper}
+use Rattle.writer.specs.PaperNeeds.{wholePaper}
 use Rattle.writer.specs.Write.{paper, firstWalk, paperWalk, handOver, afterPaperWalk}
 use Rattle.writer.specs.Write.{lacking, afterFirstWalk, writeIn, writeRead, writeOf, nameOf, clearOf}
 

@@ -17,7 +17,7 @@ use Rattle.meaning.specs.Claim.{claimed, shownBy, shown, ended}
 use Rattle.meaning.specs.Written.{of, lent}
 use Rattle.meaning.specs.Lowest.{Pick, none, one, lowestFrom, lowest, inBoth, clashed, rulesIn}
 use Rattle.meaning.specs.Engine.{Next, ends, puts-on, puts-off, drops, splits, stuck, less, firstOf, unsupported, next}
-use Rattle.meaning.proofs.Tests.{first, other, neither}
+use Rattle.meaning.proofs.Tests.{or-left, or-right, neither}
 use Rattle.meaning.proofs.Lowest.{lowest-one, lowest-none, one-lowest, none-lowest, clashed-clashing, clashed-none}
 use Rattle.book.specs.declared.reader.Shape.{Shape}
 use Rattle.book.specs.Format.{bookIn, ReadAs}
@@ -91,7 +91,7 @@ module _ (k : Claim) (headed lost : List Bool) (i : ℕ) (e : i ≡ k .atom .0) 
 module _ (b : Book) (k : Claim) (on off : List Bool) where
   pub ended-clash : clashing b (lent on off) ≡ true → ended b k (lent on off) ≡ true
   unfolding ended
-  ended-clash e = first _ e
+  ended-clash e = or-left _ e
 
   -- what the tables say of the claim
   module _ (headed lost : List Bool) (f : headed ≡ atomTable (heads b (of on))) (g : lost ≡ atomTable (allIn b (of off)))
@@ -106,7 +106,7 @@ module _ (b : Book) (k : Claim) (on off : List Bool) where
 
     pub ended-shown : v ≡ true → ended b k (lent on off) ≡ true
     unfolding ended
-    ended-shown t = other (clashing b (lent on off)) (sym tabled-shown ∙ t)
+    ended-shown t = or-right (clashing b (lent on off)) (sym tabled-shown ∙ t)
 
     pub not-ended : clashing b (lent on off) ≡ false → v ≡ false → ended b k (lent on off) ≡ false
     unfolding ended

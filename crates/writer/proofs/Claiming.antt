@@ -17,19 +17,18 @@ use Rattle.meaning.specs.declared.kind.Kind.{Kind}
 use Rattle.meaning.specs.declared.kind.Kind.the-variants.{Naming, Clearing}
 use Rattle.meaning.specs.declared.kind.Claim.{Claim}
 use Rattle.meaning.specs.Claim.{meant}
-use Rattle.meaning.specs.Paper.{Keeps}
+use Rattle.meaning.specs.Paper.{Keeps, paperBytes}
 use Rattle.meaning.specs.Told.{Told, success, refusedWith, refusedAt, refused, fewer, stopped, Answered}
-use Rattle.meaning.proofs.Tests.{clash}
+use Rattle.meaning.proofs.Tests.{true-and-false}
 use Rattle.walk.specs.Readings.{readings}
 use Rattle.walk.specs.Tries.{Kth, to-reading, to-end, lastClash}
-use Rattle.walk.specs.Tries.{Needs as NeedsTries}
+use Rattle.walk.specs.Tries.{Needs}
 use Rattle.walk.proofs.Needs.{kth-one}
-use Rattle.walk.proofs.Needs.{needs-one as tries-one}
+use Rattle.walk.proofs.Needs.{needs-one}
 use Rattle.writer.specs.Branches.{branches}
-use Rattle.writer.specs.Needs.{settled, Stuck, Needs, to-stuck, paperFor}
-use Rattle.writer.specs.Needs.{to-end as to-last}
+use Rattle.writer.specs.PaperNeeds.{settled, Stuck, PaperNeeds, to-stuck, paperFor, to-last}
 use Rattle.writer.specs.Write.{Handed, paper, lacking, writeIn}
-use Rattle.writer.proofs.Needs.{stuck-unsettled, needs-one}
+use Rattle.writer.proofs.PaperNeeds.{stuck-unsettled, paper-needs-one}
 use Rattle.writer.proofs.Papers.{settled-each, unsettled-one, certain-settled, paper-keeps}
 use Rattle.writer.proofs.First.{kth-answer, fewer-none}
 use Rattle.writer.proofs.Ways.{Nameable, written, Found, Settled, TooLong, Outcome, first-stopped, no-reading, paper-stopped}
@@ -48,11 +47,11 @@ module _ (b : Book) (k : Claim) (limit : ℕ) (buffer : List ℕ) where
   -- what is told, and the buffer afterwards, say which way the call went
   Says : Told Handed → List ℕ → Type 0
   Says (success s) after = (x : Atoms) × Found b limit x × Settled b k limit × (s .tries ≡ length (branches b k start))
-      × (s .size ≡ length (paperFor b k x)) × (s .size ≤ length buffer) × (s .size ≤ 60000)
+      × (s .size ≡ length (paperFor b k x)) × (s .size ≤ length buffer) × (s .size ≤ paperBytes)
       × (after ≡ paperFor b k x ++ drop (s .size) buffer)
   Says (refusedWith i []) after = ⊥
   Says (refusedWith i (l ∷ [])) after =
-      ((n : ℕ) × NeedsTries b 1 n × (limit < n)) ⊎ ((n : ℕ) × Needs b k n × (limit < n) × (x : Atoms) × Found b limit x)
+      ((n : ℕ) × Needs b 1 n × (limit < n)) ⊎ ((n : ℕ) × PaperNeeds b k n × (limit < n) × (x : Atoms) × Found b limit x)
   Says (refusedWith i (t ∷ (n ∷ l))) after = length (readings b) < 1
   Says (refusedAt i at) after = ⊥
   Says (refused i) after = ((n : ℕ) × Stuck b k n × (i ≡ lacking (k .kind))) ⊎ ((x : Atoms) × Found b limit x × TooLong b k buffer x × (i ≡ 14))
@@ -76,26 +75,26 @@ module _ (b : Book) (k : Claim) (limit : ℕ) (buffer : List ℕ) where
     -- ---- in document 01's order
 
     -- "9 exactly if the first walk needs more than L tries to come to answer set 1 or to its end"; for the converse see write-stopped
-    pub write-first-stopped : {n : ℕ} → NeedsTries b 1 n → limit < n
+    pub write-first-stopped : {n : ℕ} → Needs b 1 n → limit < n
         → writeIn b k limit buffer ≡ record { told = stopped limit; buffer = buffer }
     write-first-stopped p h = way-first-stopped b k limit buffer good p h
 
-    module _ {n : ℕ} (tries : NeedsTries b 1 n) (within : n ≤ limit) where
+    module _ {n : ℕ} (tries : Needs b 1 n) (within : n ≤ limit) where
       -- "otherwise 11 exactly if there is no answer set", with all tries of that walk and the rule that clashed last in it
       pub write-none : (writeIn b k limit buffer .told ≡ fewer n 0 (lastClash b)) ↔ ((x : Atoms) → AnswerSet b x → ⊥)
       unfolding Says
       write-none = (λ e. fewer-none b (good .few-rules) (says e), back tries within)
         where
-          back : {n : ℕ} → NeedsTries b 1 n → n ≤ limit → ((x : Atoms) → AnswerSet b x → ⊥)
+          back : {n : ℕ} → Needs b 1 n → n ≤ limit → ((x : Atoms) → AnswerSet b x → ⊥)
               → writeIn b k limit buffer .told ≡ fewer n 0 (lastClash b)
           back (to-reading {x = x} first) h none = absurd (none x (kth-answer b (good .few-rules) first))
           back (to-end f) h none = told-by (way-no-reading b k limit buffer good f h)
 
-      module _ (some : (x : Atoms) × AnswerSet b x) {m : ℕ} (needs : Needs b k m) where
+      module _ (some : (x : Atoms) × AnswerSet b x) {m : ℕ} (needs : PaperNeeds b k m) where
         found : (x : Atoms) × Found b limit x
         found = by tries within
           where
-            by : {n : ℕ} → NeedsTries b 1 n → n ≤ limit → (x : Atoms) × Found b limit x
+            by : {n : ℕ} → Needs b 1 n → n ≤ limit → (x : Atoms) × Found b limit x
             by {n} (to-reading {x = x} first) h = (x, (n, first, h))
             by (to-end f) h = absurd (fewer-none b (good .few-rules) f (some .0) (some .1))
 
@@ -103,8 +102,8 @@ module _ (b : Book) (k : Claim) (limit : ℕ) (buffer : List ℕ) where
         pub write-paper-stopped : (writeIn b k limit buffer .told ≡ stopped limit) ↔ (limit < m)
         unfolding Says
         write-paper-stopped = (
-          λ e. ⊎-elim (λ (i, p, h). absurd (omega (arith, tries-one b p tries)))
-              (λ (i, p, h, x, f). omega (arith, needs-one b k p needs)) (says e),
+          λ e. ⊎-elim (λ (i, p, h). absurd (omega (arith, needs-one b p tries)))
+              (λ (i, p, h, x, f). omega (arith, paper-needs-one b k p needs)) (says e),
           λ h. told-by (way-paper-stopped b k limit buffer good (found .1) needs h),
         )
 
@@ -113,20 +112,20 @@ module _ (b : Book) (k : Claim) (limit : ℕ) (buffer : List ℕ) where
           pub write-lacking : (writeIn b k limit buffer .told ≡ refused (lacking (k .kind))) ↔ Stuck b k m
           unfolding Says
           write-lacking = (
-            λ e. ⊎-elim (λ (i, p, q). rw (needs-one b k (to-stuck p) needs) at p) (λ (x, f, l, q). absurd (lacking-not-14 (k .kind) q)) (says e),
+            λ e. ⊎-elim (λ (i, p, q). rw (paper-needs-one b k (to-stuck p) needs) at p) (λ (x, f, l, q). absurd (lacking-not-14 (k .kind) q)) (says e),
             λ u. told-by (way-stuck b k limit buffer good (found .1) u enough),
           )
 
           module _ (all : every settled (branches b k start) ≡ true) {t : ℕ} {x : Atoms} (first : Kth b 1 t x) where
             first-found : Found b limit x
-            first-found = (t, first, omega (arith, tries-one b (to-reading first) tries))
+            first-found = (t, first, omega (arith, needs-one b (to-reading first) tries))
 
             within-limit : Settled b k limit
-            within-limit = (all, omega (arith, needs-one b k (to-last all) needs))
+            within-limit = (all, omega (arith, paper-needs-one b k (to-last all) needs))
 
             -- "otherwise 14 exactly if the paper is longer than the room or 60,000"
             pub write-too-long : (writeIn b k limit buffer .told ≡ refused 14)
-                ↔ ((length buffer < length (paperFor b k x)) ⊎ (60000 < length (paperFor b k x)))
+                ↔ ((length buffer < length (paperFor b k x)) ⊎ (paperBytes < length (paperFor b k x)))
             unfolding Says
             write-too-long = (
               λ e. ⊎-elim (λ (i, p, q). absurd (lacking-not-14 (k .kind) (sym q)))
@@ -135,7 +134,7 @@ module _ (b : Book) (k : Claim) (limit : ℕ) (buffer : List ℕ) where
             )
 
             -- "else the paper": its walk's branches and its length are told, it stands from byte 0, and the later bytes keep
-            pub write-paper : length (paperFor b k x) ≤ length buffer → length (paperFor b k x) ≤ 60000
+            pub write-paper : length (paperFor b k x) ≤ length buffer → length (paperFor b k x) ≤ paperBytes
                 → writeIn b k limit buffer ≡ record {
                   told = paper (length (branches b k start)) (length (paperFor b k x));
                   buffer = paperFor b k x ++ drop (length (paperFor b k x)) buffer;
@@ -143,13 +142,13 @@ module _ (b : Book) (k : Claim) (limit : ℕ) (buffer : List ℕ) where
             write-paper l h = way-paper b k limit buffer good first-found within-limit l h
 
     -- both 9s together
-    pub write-stopped : {n m : ℕ} → NeedsTries b 1 n → Needs b k m → (writeIn b k limit buffer .told ≡ stopped limit)
+    pub write-stopped : {n m : ℕ} → Needs b 1 n → PaperNeeds b k m → (writeIn b k limit buffer .told ≡ stopped limit)
         ↔ ((limit < n) ⊎ ((n ≤ limit) × ((x : Atoms) × AnswerSet b x) × (limit < m)))
     unfolding Says
     write-stopped tries needs = (
-      λ e. ⊎-elim (λ (i, p, h). inl (omega (arith, tries-one b p tries))) (λ (i, p, h, x, (t, first, g)).
+      λ e. ⊎-elim (λ (i, p, h). inl (omega (arith, needs-one b p tries))) (λ (i, p, h, x, (t, first, g)).
           let answer = kth-answer b (good .few-rules) first in
-          inr (omega (arith, tries-one b (to-reading first) tries), (x, answer), omega (arith, needs-one b k p needs))) (says e),
+          inr (omega (arith, needs-one b (to-reading first) tries), (x, answer), omega (arith, paper-needs-one b k p needs))) (says e),
       λ s. ⊎-elim (λ h. told-by (write-first-stopped tries h)) (λ (h, some, g). write-paper-stopped tries h some needs .1 g) s,
     )
 
@@ -158,7 +157,7 @@ module _ (b : Book) (k : Claim) (limit : ℕ) (buffer : List ℕ) where
     -- every paper that is told keeps the printed rules, is at most 60,000 bytes and stands in the buffer
     pub write-written : {t n : ℕ} → writeIn b k limit buffer .told ≡ paper t n
         → (x : Atoms) × AnswerSet b x × (t ≡ length (branches b k start)) × (n ≡ length (paperFor b k x)) × (n ≤ length buffer)
-        × (n ≤ 60000) × (writeIn b k limit buffer .buffer ≡ paperFor b k x ++ drop n buffer) × Keeps b k (paperFor b k x)
+        × (n ≤ paperBytes) × (writeIn b k limit buffer .buffer ≡ paperFor b k x ++ drop n buffer) × Keeps b k (paperFor b k x)
     unfolding Says
     write-written e =
         let (x, (t, first, h), s, p, q, room, most, stands) = says e in
@@ -178,7 +177,7 @@ module _ (b : Book) (k : Claim) (limit : ℕ) (buffer : List ℕ) where
     unfolding Says
     write-certain c = (
       λ t n r e. fewer-none b (good .few-rules) (says e) (c .one .0) (c .one .1),
-      λ e. let (x, answer, n) = write-lacks e in clash (c .each x answer) n,
+      λ e. let (x, answer, n) = write-lacks e in true-and-false (c .each x answer) n,
     )
 
     -- so it is a paper, 9 or 14
@@ -191,14 +190,14 @@ module _ (b : Book) (k : Claim) (limit : ℕ) (buffer : List ℕ) where
         by (first-stopped p h) = inr (inl refl)
         by (no-reading h l) = absurd (fewer-none b (good .few-rules) h (c .one .0) (c .one .1))
         by (paper-stopped f p h) = inr (inl refl)
-        by (got-stuck f u h) = clash (certain-settled b k (good .few-rules) c) (stuck-unsettled b k u)
+        by (got-stuck f u h) = true-and-false (certain-settled b k (good .few-rules) c) (stuck-unsettled b k u)
         by (too-long f s l) = inr (inr refl)
         by (handed-over f s h l) = inl (_, _, refl)
 
     -- "When the atom is in all answer sets, and there is at least one, the engine writes such a paper unless document 01's walks pass the
     -- tries limit or its paper passes the room given or 60,000 bytes"
     pub write-writes : Throughout b (meant k) → {t : ℕ} {x : Atoms} → Kth b 1 t x → t ≤ limit → length (branches b k start) ≤ limit
-        → length (paperFor b k x) ≤ length buffer → length (paperFor b k x) ≤ 60000
+        → length (paperFor b k x) ≤ length buffer → length (paperFor b k x) ≤ paperBytes
         → (writeIn b k limit buffer ≡ written b k buffer x) × Keeps b k (paperFor b k x)
     write-writes c {t} {x} first h l room most =
         let s = certain-settled b k (good .few-rules) c in (

@@ -10,6 +10,7 @@ use lib.Seq.{take-suc-set}
 use Rattle.meaning.specs.declared.kind.Kind.{Kind}
 use Rattle.meaning.specs.Claim.{markOf}
 use Rattle.meaning.proofs.Marks.{mark-bytes}
+use Rattle.meaning.specs.Paper.{paperBytes}
 use Rattle.writer.specs.Draft.{Stands, whole, passed, Writes}
 
 pub stands-most : {l : List ℕ} {n : ℕ} {out : List ℕ} → Stands l n out → n ≤ 60001
@@ -19,7 +20,7 @@ stands-most (passed g e h) = omega arith
 -- ---- one byte
 
 module _ (at x : ℕ) (out : List ℕ) where
-  pub write-stored : at < 60000 → Writes (x ∷ []) at out (at + 1) (set out at x)
+  pub write-stored : at < paperBytes → Writes (x ∷ []) at out (at + 1) (set out at x)
   write-stored h = record { behind = stored }
     where
       stored : (k : List ℕ) → Stands k at out → Stands (k ++ (x ∷ [])) (at + 1) (set out at x)
@@ -28,7 +29,7 @@ module _ (at x : ℕ) (out : List ℕ) where
           (rw add-one (take-suc-set out at x (omega arith)) ∙ ap (λ (l : List ℕ). l ++ (x ∷ [])) t)
       stored k (passed g e f) = absurd (omega arith)
 
-  pub write-counted : 60000 ≤ at → Writes (x ∷ []) at out 60001 out
+  pub write-counted : paperBytes ≤ at → Writes (x ∷ []) at out 60001 out
   write-counted h = record { behind = counted }
     where
       counted : (k : List ℕ) → Stands k at out → Stands (k ++ (x ∷ [])) 60001 out

@@ -10,22 +10,22 @@ use lib.ListN.{length, getD, take, drop, set, length-append}
 use lib.Seq.{paste-suc, length-take-le}
 use Rattle.meaning.specs.Books.{Atoms, Book}
 use Rattle.meaning.specs.declared.kind.Claim.{Claim}
-use Rattle.meaning.specs.Paper.{numbers, trailer}
+use Rattle.meaning.specs.Paper.{numbers, trailer, paperBytes}
 use Rattle.meaning.specs.Engine.{witnessOf}
 use Rattle.meaning.specs.Told.{refused}
 use Rattle.walk.specs.Run.{writeAt}
-use Rattle.writer.specs.Needs.{wholePaper}
+use Rattle.writer.specs.PaperNeeds.{wholePaper}
 use Rattle.writer.specs.Write.{paper, handOver}
 use Rattle.writer.specs.Draft.{Stands, whole, passed, Writes}
 use Rattle.writer.proofs.Stages.{only, hand-no-room, hand-long, hand-over}
 
 -- ---- a copy
 
-pub stands-long : {l : List ℕ} {n : ℕ} {out : List ℕ} → Stands l n out → length out ≡ 60000
+pub stands-long : {l : List ℕ} {n : ℕ} {out : List ℕ} → Stands l n out → length out ≡ paperBytes
 stands-long (whole g e h f) = g
 stands-long (passed g e h) = g
 
-pub stands-counted : {l : List ℕ} {n : ℕ} {out : List ℕ} → Stands l n out → 60000 < length l → n ≡ 60001
+pub stands-counted : {l : List ℕ} {n : ℕ} {out : List ℕ} → Stands l n out → paperBytes < length l → n ≡ 60001
 stands-counted (whole g e h f) l = absurd (omega arith)
 stands-counted (passed g e h) l = e
 
@@ -49,11 +49,11 @@ module _ (tries : ℕ) (buffer : List ℕ) {w : List ℕ} {n : ℕ} {draft : Lis
   hand-small (whole g e h f) l = sym (hand-no-room tries w buffer (omega arith))
   hand-small (passed g e h) l = sym (hand-long tries w buffer h)
 
-  pub hand-passed : Stands w n draft → 60000 < n → only buffer (refused 14) ≡ handOver tries w buffer
+  pub hand-passed : Stands w n draft → paperBytes < n → only buffer (refused 14) ≡ handOver tries w buffer
   hand-passed (whole g e h f) l = absurd (omega arith)
   hand-passed (passed g e h) l = sym (hand-long tries w buffer h)
 
-  pub hand-copied : Stands w n draft → n ≤ length buffer → n ≤ 60000 → {b : List ℕ} → b ≡ writeAt 0 (take n draft) buffer
+  pub hand-copied : Stands w n draft → n ≤ length buffer → n ≤ paperBytes → {b : List ℕ} → b ≡ writeAt 0 (take n draft) buffer
       → record { told = paper tries n; buffer = b } ≡ handOver tries w buffer
   unfolding writeAt
   hand-copied (whole g e h f) l m c = rw (c, f, zero-add, e) (sym (hand-over tries w buffer (omega arith) (omega arith)))

@@ -1,7 +1,7 @@
 -- The laws of the writer. Read in this order; from Drafts on they are what the functions of src/ are proved with.
 pub mod Branches
 pub mod Scan
-pub mod Needs
+pub mod PaperNeeds
 pub mod Papers
 pub mod Stages
 pub mod First

@@ -15,13 +15,13 @@ use Rattle.meaning.specs.Claim.{claimed, meant}
 use Rattle.meaning.specs.Paper.{numbers, Keeps, step-41, step-42, step-55, step-53, step-45}
 use Rattle.meaning.specs.Paper.{Branch as Derives}
 use Rattle.meaning.specs.Engine.{stuck, next, witnessOf}
-use Rattle.meaning.proofs.Tests.{both, left, right, clash, decided, absent, proved}
+use Rattle.meaning.proofs.Tests.{both, and-left, and-right, true-and-false, decided, absent, proved}
 use Rattle.meaning.proofs.Sets.{every-append}
 use Rattle.meaning.proofs.Engine.{next-ends, next-puts-on, next-puts-off, next-drops, next-splits, next-stuck}
 use Rattle.meaning.proofs.Papers.{branch-each}
 use Rattle.meaning.proofs.Listing.{witness-of}
 use Rattle.writer.specs.Branches.{Tip, ended, parted, unsettled, Branch, behind, branch, branches}
-use Rattle.writer.specs.Needs.{settles, settled, stepsOf, wholePaper, paperFor}
+use Rattle.writer.specs.PaperNeeds.{settles, settled, stepsOf, wholePaper, paperFor}
 use Rattle.writer.proofs.Branches.{Steps, at-end, at-split, step-on, step-off, step-all, branch-steps}
 use Rattle.writer.proofs.Branches.{Reached, reached-stuck, branch-reached, Parts, no-more, left-open, two-more, branches-parts}
 
@@ -52,11 +52,11 @@ module _ (b : Book) (k : Claim) (fits : count b ≤ 255) where
   parts-legal : {c : Pair} {l : List Branch} → Parts b k c l → every settled l ≡ true → Derives b k c (stepsOf l)
   unfolding every stepsOf settles
   parts-legal (no-more {c} e) s = steps-legal (branch-steps b k fits c) (rw e follows-end)
-  parts-legal (left-open {c} e) s = clash (left (settled (branch b k c)) _ s) (rw e)
+  parts-legal (left-open {c} e) s = true-and-false (and-left (settled (branch b k c)) _ s) (rw e)
   parts-legal (two-more {c} {l = l} {m = m} e p q) s =
-      let u = sym (every-append settled l m) ∙ right (settled (branch b k c)) _ s in
+      let u = sym (every-append settled l m) ∙ and-right (settled (branch b k c)) _ s in
       rw (steps-append l m) (steps-legal (branch-steps b k fits c)
-      (rw e (follows-split (parts-legal p (left (every settled l) _ u)) (parts-legal q (right (every settled l) _ u)))))
+      (rw e (follows-split (parts-legal p (and-left (every settled l) _ u)) (parts-legal q (and-right (every settled l) _ u)))))
 
   pub settled-branch : (c : Pair) → every settled (branches b k c) ≡ true → Derives b k c (stepsOf (branches b k c))
   settled-branch c s = parts-legal (branches-parts b k fits c) s
@@ -65,7 +65,7 @@ module _ (b : Book) (k : Claim) (fits : count b ≤ 255) where
 
   parts-stuck : {c : Pair} {l : List Branch} → Parts b k c l → every settled l ≡ false → (d : Pair) × (next b k d ≡ stuck)
   unfolding every settles
-  parts-stuck (no-more {c} e) n = clash (rw e) n
+  parts-stuck (no-more {c} e) n = true-and-false (rw e) n
   parts-stuck (left-open {c} e) n = from (branch-reached b k fits c e)
     where
       from : {c : Pair} → Reached b k c unsettled → (d : Pair) × (next b k d ≡ stuck)
@@ -88,7 +88,7 @@ module _ (b : Book) (k : Claim) (fits : count b ≤ 255) where
 
   -- where the claim holds throughout, no branch is left unsettled
   pub certain-settled : Throughout b (meant k) → every settled (branches b k start) ≡ true
-  certain-settled c = proved (λ n. let (x, answer, m) = unsettled-one n in clash (c .each x answer) m)
+  certain-settled c = proved (λ n. let (x, answer, m) = unsettled-one n in true-and-false (c .each x answer) m)
 
   pub paper-keeps : every settled (branches b k start) ≡ true → claimed k .0 < b .atoms → (x : Atoms) → AnswerSet b x
       → Keeps b k (paperFor b k x)

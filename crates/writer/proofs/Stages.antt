@@ -11,6 +11,7 @@ use Rattle.meaning.specs.declared.kind.Claim.{Claim}
 use Rattle.meaning.specs.Claim.{claimed}
 use Rattle.meaning.specs.Told.{Told, refusedAt, refused, Answered}
 use Rattle.meaning.proofs.Choice.{lt-yes, lt-no, lt-either}
+use Rattle.meaning.specs.Paper.{paperBytes}
 use Rattle.book.specs.Format.{BookRead, good, bad, readOf}
 use Rattle.walk.specs.Run.{State, writeAt}
 use Rattle.walk.specs.declared.tally.Halt.{Halt}
@@ -30,11 +31,11 @@ module _ (tries : ℕ) (whole buffer : List ℕ) where
   unfolding handOver
   hand-no-room h = lt-yes _ _ _ _ h
 
-  pub hand-long : 60000 < length whole → handOver tries whole buffer ≡ only buffer (refused 14)
+  pub hand-long : paperBytes < length whole → handOver tries whole buffer ≡ only buffer (refused 14)
   unfolding handOver
   hand-long h = lt-either (λ a. a ≡ only buffer (refused 14)) _ _ _ _ (λ g. refl) (λ g. lt-yes _ _ _ _ h)
 
-  pub hand-over : length whole ≤ length buffer → length whole ≤ 60000 → handOver tries whole buffer
+  pub hand-over : length whole ≤ length buffer → length whole ≤ paperBytes → handOver tries whole buffer
       ≡ record { told = paper tries (length whole); buffer = whole ++ drop (length whole) buffer }
   unfolding handOver writeAt
   hand-over h g = lt-no _ _ _ _ h ∙ lt-no _ _ _ _ g ∙ rw zero-add

@@ -18,20 +18,20 @@ use Rattle.meaning.proofs.Tests.{decided, lt-or-le}
 use Rattle.meaning.proofs.Rules.{rule-member}
 use Rattle.meaning.proofs.Choice.{lt-yes}
 use Rattle.meaning.proofs.LeastModel.{Proper, answer-inside}
+use Rattle.meaning.specs.Paper.{paperBytes}
 use Rattle.book.specs.Writing.{Fits}
 use Rattle.walk.specs.Events.{events}
 use Rattle.walk.specs.Readings.{readings}
 use Rattle.walk.specs.Tries.{Kth, to-reading, to-end, lastClash}
-use Rattle.walk.specs.Tries.{Needs as NeedsTries}
+use Rattle.walk.specs.Tries.{Needs}
 use Rattle.walk.specs.Page.{setIn}
 use Rattle.walk.specs.declared.tally.Halt.the-variants.{Full}
 use Rattle.walk.proofs.Needs.{kth-or-fewer}
 use Rattle.writer.specs.Branches.{branches}
-use Rattle.writer.specs.Needs.{settled, Stuck, Needs, to-stuck, paperFor}
-use Rattle.writer.specs.Needs.{to-end as to-last}
+use Rattle.writer.specs.PaperNeeds.{settled, Stuck, PaperNeeds, to-stuck, paperFor, to-last}
 use Rattle.writer.specs.Write.{Handed, paper, firstWalk, paperWalk, handOver}
 use Rattle.writer.specs.Write.{lacking, afterPaperWalk, afterFirstWalk, writeIn}
-use Rattle.writer.proofs.Needs.{stuck-some, paper-limited, paper-stuck, paper-written}
+use Rattle.writer.proofs.PaperNeeds.{stuck-some, paper-limited, paper-stuck, paper-written}
 use Rattle.writer.proofs.Stages.{only, hand-no-room, hand-long, hand-over}
 use Rattle.writer.proofs.First.{set-in-first, kth-answer, first-limited, first-none, first-found}
 
@@ -67,17 +67,17 @@ Settled b k limit = (every settled (branches b k start) ≡ true) × (length (br
 
 -- "paper longer than the buffer or 60,000"
 abbrev pub TooLong : Book → Claim → List ℕ → Atoms → Type 0
-TooLong b k buffer x = (length buffer < length (paperFor b k x)) ⊎ (60000 < length (paperFor b k x))
+TooLong b k buffer x = (length buffer < length (paperFor b k x)) ⊎ (paperBytes < length (paperFor b k x))
 
 module _ (b : Book) (k : Claim) (limit : ℕ) (buffer : List ℕ) where
   pub data Outcome : Answered Handed → Type 0 where
-    first-stopped : {n : ℕ} → NeedsTries b 1 n → limit < n → Outcome (only buffer (stopped limit))
+    first-stopped : {n : ℕ} → Needs b 1 n → limit < n → Outcome (only buffer (stopped limit))
     no-reading : length (readings b) < 1 → length (events b nothing) ≤ limit → Outcome (only buffer (fewer (length (events b nothing)) 0 (lastClash b)))
-    paper-stopped : {x : Atoms} {n : ℕ} → Found b limit x → Needs b k n → limit < n → Outcome (only buffer (stopped limit))
+    paper-stopped : {x : Atoms} {n : ℕ} → Found b limit x → PaperNeeds b k n → limit < n → Outcome (only buffer (stopped limit))
     got-stuck : {x : Atoms} {n : ℕ} → Found b limit x → Stuck b k n → n ≤ limit → Outcome (only buffer (refused (lacking (k .kind))))
     too-long : {x : Atoms} → Found b limit x → Settled b k limit → TooLong b k buffer x → Outcome (only buffer (refused 14))
     handed-over : {x : Atoms} → Found b limit x → Settled b k limit → length (paperFor b k x) ≤ length buffer
-        → length (paperFor b k x) ≤ 60000 → Outcome (written b k buffer x)
+        → length (paperFor b k x) ≤ paperBytes → Outcome (written b k buffer x)
 
   module _ (good : Nameable b k) where
     abbrev answer : Answered Handed
@@ -85,7 +85,7 @@ module _ (b : Book) (k : Claim) (limit : ℕ) (buffer : List ℕ) where
 
     -- ---- what each way answers
 
-    pub way-first-stopped : {n : ℕ} → NeedsTries b 1 n → limit < n → writeIn b k limit buffer ≡ only buffer (stopped limit)
+    pub way-first-stopped : {n : ℕ} → Needs b 1 n → limit < n → writeIn b k limit buffer ≡ only buffer (stopped limit)
     unfolding writeIn afterFirstWalk
     way-first-stopped p h = lt-yes _ _ _ _ (good .atom-below) ∙ rw (first-limited b limit (good .few-atoms) p h)
 
@@ -106,7 +106,7 @@ module _ (b : Book) (k : Claim) (limit : ℕ) (buffer : List ℕ) where
       unfolding writeIn afterFirstWalk
       after-first = lt-yes _ _ _ _ (good .atom-below) ∙ rw (ended .0)
 
-      pub way-paper-stopped : {n : ℕ} → Needs b k n → limit < n → writeIn b k limit buffer ≡ only buffer (stopped limit)
+      pub way-paper-stopped : {n : ℕ} → PaperNeeds b k n → limit < n → writeIn b k limit buffer ≡ only buffer (stopped limit)
       unfolding afterPaperWalk
       way-paper-stopped p g = after-first ∙ rw (paper-limited b k limit p g)
 
@@ -122,7 +122,7 @@ module _ (b : Book) (k : Claim) (limit : ℕ) (buffer : List ℕ) where
         pub way-too-long : TooLong b k buffer x → writeIn b k limit buffer ≡ only buffer (refused 14)
         way-too-long l = handed ∙ ⊎-elim (hand-no-room _ (paperFor b k x) buffer) (hand-long _ (paperFor b k x) buffer) l
 
-        pub way-paper : length (paperFor b k x) ≤ length buffer → length (paperFor b k x) ≤ 60000
+        pub way-paper : length (paperFor b k x) ≤ length buffer → length (paperFor b k x) ≤ paperBytes
             → writeIn b k limit buffer ≡ written b k buffer x
         way-paper l m = handed ∙ hand-over _ (paperFor b k x) buffer l m
 
@@ -137,7 +137,7 @@ module _ (b : Book) (k : Claim) (limit : ℕ) (buffer : List ℕ) where
       settled-outcome : Settled b k limit → Outcome answer
       settled-outcome all = ⊎-elim (λ h. long (inl h)) (λ h. ⊎-elim (λ g. long (inr g))
           (λ g. rw (way-paper found all h g) (handed-over found all h g))
-          (lt-or-le 60000 (length (paperFor b k x)))) (lt-or-le (length buffer) (length (paperFor b k x)))
+          (lt-or-le paperBytes (length (paperFor b k x)))) (lt-or-le (length buffer) (length (paperFor b k x)))
         where
           long : TooLong b k buffer x → Outcome answer
           long l = rw (way-too-long found all l) (too-long found all l)
@@ -155,5 +155,5 @@ module _ (b : Book) (k : Claim) (limit : ℕ) (buffer : List ℕ) where
         (lt-or-le limit (length (events b nothing))))
         (kth-or-fewer b 1 (omega arith))
       where
-        stopped-first : {n : ℕ} → NeedsTries b 1 n → limit < n → Outcome answer
+        stopped-first : {n : ℕ} → Needs b 1 n → limit < n → Outcome answer
         stopped-first p h = rw (way-first-stopped p h) (first-stopped p h)

@@ -11,7 +11,7 @@ use mathlib.Core.List.{List, [], _∷_, _++_}
 use Prim.Native.Nat.{ℕ, _≤_, _<_}
 use lib.ListN.{length, take}
 use Rattle.meaning.specs.Colours.{Pair}
-use Rattle.meaning.specs.Paper.{codeSplit, codeEnd}
+use Rattle.meaning.specs.Paper.{codeSplit, codeEnd, paperBytes}
 use Rattle.meaning.specs.Written.{pair}
 use Rattle.writer.specs.Branches.{Branch, ended, parted, unsettled}
 use Rattle.writer.specs.Branches.{Tip as End}
@@ -25,8 +25,8 @@ use Rattle.writer.specs.declared.split.Course.the-variants.{Writing, Lim
 use Rattle.writer.specs.declared.split.Drafted.{Drafted}
 
 pub data Stands (l : List ℕ) (n : ℕ) (out : List ℕ) : Type 0 where
-  whole : length out ≡ 60000 → n ≡ length l → n ≤ 60000 → take n out ≡ l → Stands l n out
-  passed : length out ≡ 60000 → n ≡ 60001 → 60000 < length l → Stands l n out
+  whole : length out ≡ paperBytes → n ≡ length l → n ≤ paperBytes → take n out ≡ l → Stands l n out
+  passed : length out ≡ paperBytes → n ≡ 60001 → paperBytes < length l → Stands l n out
 
 pub record Writes (l : List ℕ) (m : ℕ) (before : List ℕ) (n : ℕ) (after : List ℕ) : Type 0 where
   pub behind : (k : List ℕ) → Stands k m before → Stands (k ++ l) n after

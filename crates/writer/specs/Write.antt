@@ -19,6 +19,7 @@ use Rattle.meaning.specs.Claim.{named, cleared, claimed}
 use Rattle.meaning.specs.Written.{nothing}
 use Rattle.meaning.specs.Choice.{ifLt}
 use Rattle.meaning.specs.Told.{Told, success, refusedAt, refused, fewer, stopped, Answered}
+use Rattle.meaning.specs.Paper.{paperBytes}
 use Rattle.book.specs.Numbers.{numberOf, placeOf}
 use Rattle.book.specs.Format.{BookRead, good, bad, readOf}
 use Rattle.walk.specs.Events.{events}
@@ -29,7 +30,7 @@ use Rattle.walk.specs.declared.tally.Halt.{Halt}
 use Rattle.walk.specs.declared.tally.Halt.the-variants.{Going, Full, Limit}
 use Rattle.writer.specs.Branches.{branches}
 use Rattle.writer.specs.Scan.{Course, writing, limited, refuted, Progress, scan}
-use Rattle.writer.specs.Needs.{wholePaper}
+use Rattle.writer.specs.PaperNeeds.{wholePaper}
 use Rattle.writer.specs.declared.answer.Named.{Named}
 use Rattle.writer.specs.declared.answer.Named.the-variants.{Paper, Fewer, Stopped, NotCertain, NotClear, NoAtom, TooLong}
 use Rattle.writer.specs.declared.answer.Named.the-variants.{Book as BadBook}
@@ -69,7 +70,7 @@ paperWalk b k limit = scan limit (record { tries = 0; bytes = []; course = writi
 unfoldable pub handOver : ℕ → List ℕ → List ℕ → Answered Handed
 handOver tries whole buffer =
     ifLt (length buffer) (length whole) (record { told = refused 14; buffer = buffer })
-    (ifLt 60000 (length whole) (record { told = refused 14; buffer = buffer })
+    (ifLt paperBytes (length whole) (record { told = refused 14; buffer = buffer })
     (record { told = paper tries (length whole); buffer = writeAt 0 whole buffer }))
 
 unfoldable pub afterPaperWalk : Course → Book → Claim → ℕ → Progress → List ℕ → List ℕ → Answered Handed

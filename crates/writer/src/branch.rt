@@ -15,6 +15,7 @@ use book::Shape;
 use book::wide;
 use meaning::Claim;
 use meaning::Colouring;
+use meaning::PAPER_BYTES;
 use meaning::STEP_END;
 use meaning::STEP_OFF;
 use meaning::STEP_ON;
@@ -29,7 +30,7 @@ pub struct Written {
 }
 
 // The last step of a branch.
-fn write_tip(draft: &mut [u8; 60000], at: usize, tip: Tip) -> usize
+fn write_tip(draft: &mut [u8; PAPER_BYTES], at: usize, tip: Tip) -> usize
     ensures { λ n. ⌜ Writes (tipBytes tip) at (now (draft .entry)) n (now (draft .exit)) ⌝ }
 {
     match tip {
@@ -45,7 +46,7 @@ pub fn write_branch(
     shape: Shape,
     claim: Claim,
     c: Colouring,
-    draft: &mut [u8; 60000],
+    draft: &mut [u8; PAPER_BYTES],
     at: usize,
 ) -> Written
     requires { ⌜ ReadAs (now book) shape × (claimed claim .0 < shape .atoms) ⌝ }

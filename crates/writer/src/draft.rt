@@ -6,13 +6,14 @@ ghost use Rattle.meaning.specs.Paper.{trailer};
 ghost use Rattle.writer.specs.Draft.{Writes};
 ghost use Prim.Native.Nat.{_<_};
 use meaning::Claim;
+use meaning::PAPER_BYTES;
 use meaning::RuleNo;
 
 // One byte behind the first `at` ones; the length afterwards.
-pub fn write(draft: &mut [u8; 60000], at: usize, byte: u8) -> usize
+pub fn write(draft: &mut [u8; PAPER_BYTES], at: usize, byte: u8) -> usize
     ensures { λ n. ⌜ Writes (byte ∷ []) at (now (draft .entry)) n (now (draft .exit)) ⌝ }
 {
-    if at < 60000 {
+    if at < PAPER_BYTES {
         draft[at] = byte;
         return at + 1;
     }
@@ -20,7 +21,7 @@ pub fn write(draft: &mut [u8; 60000], at: usize, byte: u8) -> usize
 }
 
 // A code and one rule.
-pub fn write_step(draft: &mut [u8; 60000], at: usize, code: u8, r: RuleNo) -> usize
+pub fn write_step(draft: &mut [u8; PAPER_BYTES], at: usize, code: u8, r: RuleNo) -> usize
     ensures { λ n. ⌜ Writes (code ∷ (r .0 ∷ [])) at (now (draft .entry)) n (now (draft .exit)) ⌝ }
 {
     let coded = write(draft, at, code);
@@ -29,7 +30,7 @@ pub fn write_step(draft: &mut [u8; 60000], at: usize, code: u8, r: RuleNo) -> us
 
 // The trailer: the claimed atom, the count of witness rules, where the witness starts, the mark.
 pub fn write_trailer(
-    draft: &mut [u8; 60000],
+    draft: &mut [u8; PAPER_BYTES],
     at: usize,
     claim: Claim,
     count: u8,

@@ -17,14 +17,15 @@ use book::Shape;
 use book::wide;
 use closing::support;
 use meaning::Colouring;
+use meaning::PAPER_BYTES;
 
 // Writes the rules that are neither marked nor off over whatever the array held; how many they
 // are.
 fn list_unmarked<'a>(
     rules: u8,
-    marks: &'a [bool; 255],
-    off: &'a [bool; 255],
-    dropped: &mut [bool; 255],
+    marks: &'a [bool; Colouring::RULES],
+    off: &'a [bool; Colouring::RULES],
+    dropped: &mut [bool; Colouring::RULES],
 ) -> u8
     ensures { λ m. ⌜ ((b : Book) → count b ≡ rules → Listed b m (now (dropped .exit))
         (rulesIn b (outside (now (marks .entry)) (now (off .entry))))) ⌝ }
@@ -50,8 +51,8 @@ fn list_unmarked<'a>(
 pub fn list_unsupported(
     book: &[u8],
     shape: Shape,
-    off: &[bool; 255],
-    dropped: &mut [bool; 255],
+    off: &[bool; Colouring::RULES],
+    dropped: &mut [bool; Colouring::RULES],
 ) -> u8
     requires { ⌜ ReadAs (now book) shape ⌝ }
     ensures { λ m. ⌜ ((on : List Bool) → Listed (bookIn (now (book .entry))) m (now (dropped .exit))
@@ -66,9 +67,9 @@ pub fn list_unsupported(
 // Writes the listed rules and puts them in off; the length afterwards.
 pub fn drop_rules(
     rules: u8,
-    dropped: &[bool; 255],
-    off: &mut [bool; 255],
-    draft: &mut [u8; 60000],
+    dropped: &[bool; Colouring::RULES],
+    off: &mut [bool; Colouring::RULES],
+    draft: &mut [u8; PAPER_BYTES],
     at: usize,
 ) -> usize
     requires { ⌜ length (now off) ≡ 255 ⌝ }

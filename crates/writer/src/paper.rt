@@ -19,6 +19,7 @@ use meaning::AtomNo;
 use meaning::Claim;
 use meaning::Colouring;
 use meaning::Kind;
+use meaning::PAPER_BYTES;
 use walk::Halt;
 use walk::first;
 
@@ -41,7 +42,7 @@ fn write_in(book: &[u8], shape: Shape, claim: Claim, limit: u32, paper: &mut [u8
         Halt::Limit => return Named::Stopped(limit),
         Halt::Full => {}
     }
-    let mut draft = [0u8; 60000];
+    let mut draft = [0u8; PAPER_BYTES];
     let start = Drafted {
         tries: 0,
         length: 0,

@@ -10,15 +10,16 @@ use book::goes_on;
 use book::is_blocked;
 use book::wide;
 use closing::Picked;
+use meaning::Colouring;
 use meaning::RuleNo;
 
 // 41: the lowest rule that may go on and isn't on.
 pub fn lowest_on<'a>(
     book: &[u8],
     shape: Shape,
-    on: &[bool; 255],
-    headed: &'a [bool; 255],
-    lost: &'a [bool; 255],
+    on: &[bool; Colouring::RULES],
+    headed: &'a [bool; Colouring::ATOMS],
+    lost: &'a [bool; Colouring::ATOMS],
 ) -> Picked
     requires { ⌜ ReadAs (now book) shape ⌝ }
     ensures { λ x. ⌜ picked x ≡ lowest (bookIn (now (book .entry)))
@@ -38,7 +39,12 @@ pub fn lowest_on<'a>(
 }
 
 // 42: the lowest rule with a negative atom that is the head of an on rule, and that isn't off.
-pub fn lowest_off(book: &[u8], shape: Shape, off: &[bool; 255], headed: &[bool; 255]) -> Picked
+pub fn lowest_off(
+    book: &[u8],
+    shape: Shape,
+    off: &[bool; Colouring::RULES],
+    headed: &[bool; Colouring::ATOMS],
+) -> Picked
     requires { ⌜ ReadAs (now book) shape ⌝ }
     ensures { λ x. ⌜ picked x ≡ lowest (bookIn (now (book .entry)))
         (newOff (bookIn (now (book .entry))) (now (headed .entry)) (now (off .entry))) ⌝ }

@@ -12,6 +12,7 @@ use crate::step::Tip;
 use book::Shape;
 use meaning::Claim;
 use meaning::Colouring;
+use meaning::PAPER_BYTES;
 
 pub enum Course {
     Writing,
@@ -37,7 +38,7 @@ pub fn write_branches(
     c: Colouring,
     limit: u32,
     p: Drafted,
-    draft: &mut [u8; 60000],
+    draft: &mut [u8; PAPER_BYTES],
 ) -> Drafted
     requires { ⌜ ReadAs (now book) shape × (claimed claim .0 < shape .atoms) ⌝ }
     ensures { λ q. ⌜ ((s : Progress) → Stage p (now (draft .entry)) s → s .tries ≤ limit →

@@ -42,7 +42,12 @@ pub enum Tip {
 }
 
 // Some rule is in both sets.
-fn is_clashing<'a>(book: &[u8], shape: Shape, on: &'a [bool; 255], off: &'a [bool; 255]) -> bool
+fn is_clashing<'a>(
+    book: &[u8],
+    shape: Shape,
+    on: &'a [bool; Colouring::RULES],
+    off: &'a [bool; Colouring::RULES],
+) -> bool
     requires { ⌜ ReadAs (now book) shape ⌝ }
     ensures { λ r. ⌜ r ≡
         clashing (bookIn (now (book .entry))) (lent (now (on .entry)) (now (off .entry))) ⌝ }
@@ -76,9 +81,9 @@ pub fn next_step<'a>(
     book: &[u8],
     shape: Shape,
     claim: Claim,
-    on: &'a [bool; 255],
-    off: &'a [bool; 255],
-    dropped: &mut [bool; 255],
+    on: &'a [bool; Colouring::RULES],
+    off: &'a [bool; Colouring::RULES],
+    dropped: &mut [bool; Colouring::RULES],
 ) -> Step
     requires { ⌜ ReadAs (now book) shape × (claimed claim .0 < shape .atoms) ⌝ }
     ensures { λ x. ⌜ Does (bookIn (now (book .entry))) (now (dropped .exit)) x

@@ -22,6 +22,7 @@ use book::positives;
 use book::wide;
 use closing::Picked;
 use meaning::Colouring;
+use meaning::PAPER_BYTES;
 use meaning::RuleNo;
 use walk::generates;
 
@@ -36,9 +37,9 @@ fn may_list(
     book: &[u8],
     shape: Shape,
     r: RuleNo,
-    row: &[u8; 255],
-    listed: &[bool; 255],
-    headed: &[bool; 255],
+    row: &[u8; Colouring::ATOMS],
+    listed: &[bool; Colouring::RULES],
+    headed: &[bool; Colouring::ATOMS],
 ) -> bool
     requires { ⌜ ReadAs (now book) shape × (r .0 < shape .rules)
         × (now headed ≡ atomTable (heads (bookIn (now book)) (of (now listed)))) ⌝ }
@@ -56,7 +57,12 @@ fn may_list(
 }
 
 // The lowest rule that may be listed next.
-fn next_listed(book: &[u8], shape: Shape, row: &[u8; 255], listed: &[bool; 255]) -> Picked
+fn next_listed(
+    book: &[u8],
+    shape: Shape,
+    row: &[u8; Colouring::ATOMS],
+    listed: &[bool; Colouring::RULES],
+) -> Picked
     requires { ⌜ ReadAs (now book) shape ⌝ }
     ensures { λ x. ⌜ picked x ≡ lowest (bookIn (now (book .entry)))
         (mayList (bookIn (now (book .entry)))
@@ -79,8 +85,8 @@ fn next_listed(book: &[u8], shape: Shape, row: &[u8; 255], listed: &[bool; 255])
 pub fn write_witness(
     book: &[u8],
     shape: Shape,
-    row: &[u8; 255],
-    draft: &mut [u8; 60000],
+    row: &[u8; Colouring::ATOMS],
+    draft: &mut [u8; PAPER_BYTES],
     at: usize,
 ) -> Witness
     requires { ⌜ ReadAs (now book) shape ⌝ }

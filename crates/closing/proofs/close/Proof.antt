@@ -1,4 +1,4 @@
--- The invariant: the sets, the marks and the tables go on from the start within every closed pair above it (Closes), and the rules that
+-- The invariant: the sets, the marks and the tables go on from the start within every closed pair above it (UnderWay), and the rules that
 -- are on neither side become fewer. Where neither pass adds a rule the pair is closed. Blueprint C2.
 use mathlib.Core.Path.{_≡_}
 use mathlib.Core.Bool.{Bool}
@@ -14,12 +14,12 @@ use Rattle.book.proofs.Places.{shape-count}
 use Rattle.closing.specs.Growing.{Condition, Pass}
 use Rattle.closing.proofs.Good.{Good, Asks, good-asks}
 use Rattle.closing.proofs.Growing.{room, pass-less, pass-no-more}
-use Rattle.closing.proofs.Closed.{Closes, closes-start, closes-on, closes-off, closes-end, clash-end}
+use Rattle.closing.proofs.Closed.{UnderWay, closes-start, closes-on, closes-off, closes-end, clash-end}
 use Rattle.closing.proofs.close.Statement.{statement}
 use Rattle.closing.proofs.close.Tie as tie
 
 abbrev Inv-loop : tie.InvT-loop
-Inv-loop book shape on₀ off₀ marks₀ headed₀ lost₀ on off marks headed lost = Closes (bookIn book) on₀ off₀ on off marks headed lost
+Inv-loop book shape on₀ off₀ marks₀ headed₀ lost₀ on off marks headed lost = UnderWay (bookIn book) on₀ off₀ on off marks headed lost
 
 abbrev μ-loop : tie.MeasureT-loop
 μ-loop book shape on₀ off₀ marks₀ headed₀ lost₀ on off marks headed lost = room (bookIn book) on + room (bookIn book) off

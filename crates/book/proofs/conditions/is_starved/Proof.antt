@@ -13,7 +13,7 @@ use Rattle.meaning.specs.Books.{atomNo}
 use Rattle.meaning.specs.Colours.{allIn}
 use Rattle.meaning.specs.Sets.{some}
 use Rattle.meaning.specs.Written.{of}
-use Rattle.meaning.proofs.Tests.{first}
+use Rattle.meaning.proofs.Tests.{or-left}
 use Rattle.book.specs.Format.{bookIn}
 use Rattle.book.proofs.AtomSets.{of-place, allTo, all-at-none, all-at-skip, all-at-other, all-at-end}
 use Rattle.book.proofs.Bodies.{some-end, some-turn, some-part, not-all-in}
@@ -94,7 +94,7 @@ returns-2 c =
     sym
     (sym (some-part _ _ _ (k .before .positives .ensures)) ∙ k .atoms .inv .1
     ∙ some-turn _ (k .before .positives .result .now) (k .atoms .i) (omega arith)
-    ∙ first _ (all-at-end _ _ (l .loop .q) _ (omega arith) (l .loop .inv .1)))
+    ∙ or-left _ (all-at-end _ _ (l .loop .q) _ (omega arith) (l .loop .inv .1)))
 
 pub is-starved-spec : {M : Type 1} → statement M
 is-starved-spec =

@@ -7,7 +7,7 @@ use lib.ListN.{length, drop}
 use borrow.Author.Needs.{needs}
 use Rattle.meaning.specs.Books.{atomNo}
 use Rattle.meaning.specs.Sets.{some}
-use Rattle.meaning.proofs.Tests.{first}
+use Rattle.meaning.proofs.Tests.{or-left}
 use Rattle.book.specs.Tables.{atomsIn}
 use Rattle.book.proofs.Bodies.{some-end, some-turn, table-says}
 use Rattle.book.proofs.conditions.some_in.Statement.{statement}
@@ -35,7 +35,7 @@ returns c =
     let s = k .before .before .args in
     sym
     (k .loop .inv .1 ∙ some-turn _ (s .part .now) (k .loop .i) (omega arith)
-    ∙ first _ (table-says _ _ _ _ (c .before .before .wide .ensures .0) (c .if1 .taken)))
+    ∙ or-left _ (table-says _ _ _ _ (c .before .before .wide .ensures .0) (c .if1 .taken)))
 
 loop-again : tie.Need-loop-again Inv-loop μ-loop
 loop-again c =

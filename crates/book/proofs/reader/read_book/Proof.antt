@@ -5,7 +5,7 @@ use borrow.Author.Needs.{needs}
 use Rattle.meaning.proofs.Choice.{lt-yes, lt-no, eq-yes, eq-no}
 use Rattle.book.specs.Checks.{checked}
 use Rattle.book.specs.Format.{bodyOf, readOf}
-use Rattle.book.proofs.Turns.{told-bad, Framed, read-wrong, read-fine}
+use Rattle.book.proofs.Turns.{told-bad, FrameRead, read-wrong, read-fine}
 use Rattle.book.proofs.reader.read_book.Statement.{statement}
 use Rattle.book.proofs.reader.read_book.Tie as tie
 
@@ -48,7 +48,7 @@ module _ (c : tie.After-check-records) where
   abbrev start : tie.Start
   start = marked .before .before .before .before .before .before .before
 
-  framed : Framed (start .args .book .now) (trailer .before .wide .result) (trailer .u16-at .result)
+  framed : FrameRead (start .args .book .now) (trailer .before .wide .result) (trailer .u16-at .result)
   framed = record {
     count = trailer .before .wide .ensures .0;
     start = trailer .u16-at .ensures .0;

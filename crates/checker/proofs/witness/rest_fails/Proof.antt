@@ -10,7 +10,7 @@ use Rattle.meaning.specs.Sets.{everyBelow}
 use Rattle.meaning.specs.Books.{ruleNo, rule}
 use Rattle.meaning.specs.Paper.{fails}
 use Rattle.meaning.specs.Written.{of}
-use Rattle.meaning.proofs.Tests.{neither, first, other}
+use Rattle.meaning.proofs.Tests.{neither, or-left, or-right}
 use Rattle.meaning.proofs.Sets.{all-next}
 use Rattle.book.specs.Format.{bookIn}
 use Rattle.book.specs.Tables.{atomsIn}
@@ -54,8 +54,8 @@ passes : (c : tie.Joined2 Inv-loop μ-loop) → Passes (c .before .before)
 passes c =
     let p = c .before .before in
     ⊎-elim {C = Passes p}
-    (λ w. other (of (start p .args .listed .now) (ruleNo (turn p .loop .r))) (sym (w .1 .ensures) ∙ not-false _ (w .2 .left)))
-    (λ w. first _ (of-place _ _ (turn p .loop .r) _ (p .wide .ensures .0) (not-false _ (w .left)))) (c .if2 .came)
+    (λ w. or-right (of (start p .args .listed .now) (ruleNo (turn p .loop .r))) (sym (w .1 .ensures) ∙ not-false _ (w .2 .left)))
+    (λ w. or-left _ (of-place _ _ (turn p .loop .r) _ (p .wide .ensures .0) (not-false _ (w .left)))) (c .if2 .came)
 
 loop-again : tie.Need-loop-again Inv-loop μ-loop
 loop-again c = (omega arith, all-next _ _ (passes c) (turn (c .before .before) .loop .inv .1))

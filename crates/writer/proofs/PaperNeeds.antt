@@ -14,12 +14,12 @@ use Rattle.meaning.specs.Books.{Book, count}
 use Rattle.meaning.specs.Colours.{Pair, start}
 use Rattle.meaning.specs.declared.kind.Claim.{Claim}
 use Rattle.meaning.specs.Choice.{ifb}
-use Rattle.meaning.proofs.Tests.{both, left, right, not-first, not-second, absent, decided}
+use Rattle.meaning.proofs.Tests.{both, and-left, and-right, not-first, not-second, absent, decided}
 use Rattle.meaning.proofs.Sets.{every-append}
 use Rattle.meaning.proofs.Choice.{b-yes, b-no}
 use Rattle.writer.specs.Branches.{Tip, ended, parted, unsettled, Branch, branches}
 use Rattle.writer.specs.Scan.{writing, limited, refuted, Progress, courseAt, scan}
-use Rattle.writer.specs.Needs.{settles, settled, Stuck, Needs, to-stuck, to-end, stepsOf}
+use Rattle.writer.specs.PaperNeeds.{settles, settled, Stuck, PaperNeeds, to-stuck, to-last, stepsOf}
 use Rattle.writer.specs.Write.{paperWalk}
 use Rattle.writer.proofs.Branches.{Parts, no-more, left-open, two-more, branches-parts}
 use Rattle.writer.proofs.Scan.{refuted-not-writing, taken, scan-nil, scan-over, scan-taken, scan-stops}
@@ -41,14 +41,14 @@ module _ (t : Branch) (l : List Branch) where
 needed-all : (l : List Branch) → every settled l ≡ true → needed l ≡ length l
 unfolding needed every
 needed-all [] e = refl
-needed-all (t ∷ l) e = needed-further t l (left (settled t) _ e) ∙ ap suc (needed-all l (right (settled t) _ e))
+needed-all (t ∷ l) e = needed-further t l (and-left (settled t) _ e) ∙ ap suc (needed-all l (and-right (settled t) _ e))
 
 needed-stuck : (earlier : List Branch) (t : Branch) (later : List Branch) → every settled earlier ≡ true → t ∉ settled
     → needed (earlier ++ (t ∷ later)) ≡ length earlier + 1
 unfolding every
 needed-stuck [] t later e n = needed-last t later n
 needed-stuck (u ∷ l) t later e n =
-    needed-further u _ (left (settled u) _ e) ∙ (let f = needed-stuck l t later (right (settled u) _ e) n in rw f (omega arith))
+    needed-further u _ (and-left (settled u) _ e) ∙ (let f = needed-stuck l t later (and-right (settled u) _ e) n in rw f (omega arith))
 
 -- ---- the course that a branch sets
 
@@ -113,7 +113,7 @@ module _ (limit : ℕ) where
       let n : p .tries + 1 + length l ≡ p .tries + suc (length l) = omega arith in
       let u = append-assoc (p .bytes) (t .bytes) (stepsOf l) in
       scan-further p e t l (omega arith)
-      ∙ scan-written l (taken limit p t) (settled-writing _ (left (settled t) _ s)) (right (settled t) _ s) (omega arith)
+      ∙ scan-written l (taken limit p t) (settled-writing _ (and-left (settled t) _ s)) (and-right (settled t) _ s) (omega arith)
       ∙ (λ i. record { tries = n i; bytes = u i; course = writing })
 
 -- ---- the paper's walk
@@ -170,19 +170,19 @@ module _ (b : Book) (k : Claim) where
       rw (s .walk, every-append settled (s .earlier) (s .last ∷ s .later))
       (not-second (every settled (s .earlier)) (not-first _ (s .last-unsettled)))
 
-  needs-needed : {n : ℕ} → Needs b k n → n ≡ needed all
+  needs-needed : {n : ℕ} → PaperNeeds b k n → n ≡ needed all
   needs-needed (to-stuck s) = stuck-needed s
-  needs-needed (to-end s) = sym (needed-all all s)
+  needs-needed (to-last s) = sym (needed-all all s)
 
   -- the number of branches that are needed is there, and is one
-  pub needs-some : (n : ℕ) × Needs b k n
-  needs-some = ⊎-elim (λ s. (length all, to-end s)) (λ n. let (m, s) = stuck-some n in (m, to-stuck s)) (decided (every settled all))
+  pub paper-needs-some : (n : ℕ) × PaperNeeds b k n
+  paper-needs-some = ⊎-elim (λ s. (length all, to-last s)) (λ n. let (m, s) = stuck-some n in (m, to-stuck s)) (decided (every settled all))
 
-  pub needs-one : {m n : ℕ} → Needs b k m → Needs b k n → m ≡ n
-  needs-one p q = needs-needed p ∙ sym (needs-needed q)
+  pub paper-needs-one : {m n : ℕ} → PaperNeeds b k m → PaperNeeds b k n → m ≡ n
+  paper-needs-one p q = needs-needed p ∙ sym (needs-needed q)
 
   module _ (limit : ℕ) where
-    pub paper-limited : {n : ℕ} → Needs b k n → limit < n → paperWalk b k limit .course ≡ limited
+    pub paper-limited : {n : ℕ} → PaperNeeds b k n → limit < n → paperWalk b k limit .course ≡ limited
     unfolding paperWalk
     paper-limited p h = scan-limited limit all _ refl (omega arith) (omega (arith, needs-needed p))
 

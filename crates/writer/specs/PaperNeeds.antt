@@ -4,7 +4,7 @@
 --
 --   settled t                the branch t ends with its 45 or with a split
 --   Stuck b k n              the paper's walk gets stuck, and that at its n-th branch
---   Needs b k n              the paper's walk needs n branches: up to the one where it gets stuck, or all of them
+--   PaperNeeds b k n              the paper's walk needs n branches: up to the one where it gets stuck, or all of them
 --   stepsOf l                the bytes of the branches, one after the other
 --   wholePaper b k steps x   the paper of these steps with the witness of the answer set x
 --   paperFor b k x           the engine's own paper with that witness
@@ -38,9 +38,9 @@ pub record Stuck (b : Book) (k : Claim) (n : ℕ) : Type 0 where
   pub earlier-settled : every settled earlier ≡ true
   pub last-unsettled : last ∉ settled
 
-pub data Needs (b : Book) (k : Claim) : ℕ → Type 0 where
-  to-stuck : {n : ℕ} → Stuck b k n → Needs b k n
-  to-end : every settled (branches b k start) ≡ true → Needs b k (length (branches b k start))
+pub data PaperNeeds (b : Book) (k : Claim) : ℕ → Type 0 where
+  to-stuck : {n : ℕ} → Stuck b k n → PaperNeeds b k n
+  to-last : every settled (branches b k start) ≡ true → PaperNeeds b k (length (branches b k start))
 
 unfoldable pub stepsOf : List Branch → List ℕ
 stepsOf [] = []
