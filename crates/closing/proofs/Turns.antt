@@ -86,19 +86,18 @@ module _ (r : RuleNo) (l : List Bool) (more : Bool) where
       off-starved n e = off-added n (other (offByTables b headed marks r) e)
 
 -- what the table of the heads of the set answers: to every_in, asked of the rule's positive atoms as the book's bytes, and to goes_on
-module _ (b : Book) (asks : Asks b) (l : List Bool) (r : RuleNo) (h : InBook b r) (headed : List Bool) (e : headed ≡ atomTable (heads b (of l)))
-  where
-    by-heads : every (atomsIn headed) (rule b r .pos) ≡ every (heads b (of l)) (rule b r .pos)
-    by-heads = rw (e, asks .pos r h (heads b (of l)))
+module _ (b : Book) (asks : Asks b) (l headed : List Bool) (e : headed ≡ atomTable (heads b (of l))) (r : RuleNo) (h : InBook b r) where
+  by-heads : every (atomsIn headed) (rule b r .pos) ≡ every (heads b (of l)) (rule b r .pos)
+  by-heads = rw (e, asks .pos r h (heads b (of l)))
 
-    pub mark-asked : (part : List ℕ) → part ≡ atomBytes (rule b r .pos) → {t : Bool} → t ≡ every (atomsIn headed) (map atomNo part)
-        → t ≡ every (heads b (of l)) (rule b r .pos)
-    mark-asked part z f = f ∙ every-part (atomsIn headed) part _ z ∙ by-heads
+  pub mark-asked : (part : List ℕ) → part ≡ atomBytes (rule b r .pos) → {t : Bool} → t ≡ every (atomsIn headed) (map atomNo part)
+      → t ≡ every (heads b (of l)) (rule b r .pos)
+  mark-asked part z f = f ∙ every-part (atomsIn headed) part _ z ∙ by-heads
 
-    pub on-asked : (lost : List Bool) {t : Bool} → t ≡ (every (atomsIn headed) (rule b r .pos) && every (atomsIn lost) (rule b r .neg))
-        → t ≡ onWith b lost (of l) r
-    unfolding onWith
-    on-asked lost f = f ∙ rw by-heads
+  pub on-asked : (lost : List Bool) {t : Bool} → t ≡ (every (atomsIn headed) (rule b r .pos) && every (atomsIn lost) (rule b r .neg))
+      → t ≡ onWith b lost (of l) r
+  unfolding onWith
+  on-asked lost f = f ∙ rw by-heads
 
 -- ---- the conditions only grow
 

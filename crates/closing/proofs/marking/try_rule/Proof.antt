@@ -56,7 +56,8 @@ returns-3 : tie.Need-returns-3
 returns-3 c =
     let p = body (c .before) in
     let k = start p in
-    let e = mark-asked _ (good-asks (good k)) _ (k .args .r) (inside k) _ (k .pre .3) _ (p .positives .ensures) (c .before .every-in .ensures) in
+    let z = p .positives .ensures in
+    let e = mark-asked _ (good-asks (good k)) _ _ (k .pre .3) (k .args .r) (inside k) _ z (c .before .every-in .ensures) in
     (mark-waits _ _ _ _ _ (sym e ∙ not-true _ (c .if3 .taken)), k .pre .3)
 
 element-write-supported : tie.Need-element-write-supported
@@ -68,7 +69,8 @@ returns-4 c =
     let p = body (asked c) in
     let k = start p in
     let i = inside k in
-    let e = mark-asked _ (good-asks (good k)) _ (k .args .r) i _ (k .pre .3) _ (p .positives .ensures) (asked c .every-in .ensures) in
+    let z = p .positives .ensures in
+    let e = mark-asked _ (good-asks (good k)) _ _ (k .pre .3) (k .args .r) i _ z (asked c .every-in .ensures) in
     let h = c .before .head .ensures in
     let f = p .before in (
       mark-added _ _ _ _ _ (f .before .before .if1 .left) (f .if2 .left) (sym e ∙ not-false _ (c .before .before .if3 .left)),
