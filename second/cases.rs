@@ -190,6 +190,7 @@ fn all_cases(commands: &[&str]) -> Cases {
     cases_lines::add(&mut cases);
     cases_clearing::add(&mut cases);
     cases_clash::add(&mut cases);
+    cases_books::add_two_pages(&mut cases);
     for later in brought(commands) {
         (later.add)(&mut cases);
     }

@@ -181,3 +181,14 @@ fn chains(cases: &mut Cases) {
         cases.readings(&book.write());
     }
 }
+
+/// Nine independent pairs in a book of 254 atoms, the last pair at the end of the row: of its 512
+/// readings a page of 65,280 bytes has room for 257, so that the listing goes on behind a row.
+pub fn add_two_pages(cases: &mut Cases) {
+    let mut book = Book { atoms: 254, rules: Vec::new() };
+    for one in [0, 2, 4, 6, 8, 10, 12, 14, 252] {
+        book.rules.push(Rule::new(one, &[], &[one + 1]));
+        book.rules.push(Rule::new(one + 1, &[], &[one]));
+    }
+    assert!(cases.readings(&book.write()).ends_with("|end 512 tries 1023|"));
+}

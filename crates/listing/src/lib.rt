@@ -1,7 +1,8 @@
 // The listing of all readings of a book, for the programs `readings` and `desk`. Stands on walk,
 // book and talk.
 //
-// The functions here write to standard output, and no contract can say what: their comments do.
+// What is gathered in a buffer, and how the listing goes on from page to page, is promised. What is
+// written to standard output no contract can say: the comments do.
 
 mod piece;
 mod rows;

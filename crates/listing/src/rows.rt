@@ -1,7 +1,10 @@
 // The rows of a page, each a set of atoms: 1 for an atom in it.
-ghost use Prim.Native.Nat.{_≤_};
+ghost use mathlib.Core.Path.{_≡_};
+ghost use Prim.Native.Nat.{_+_, _≤_};
 ghost use lib.ListN.{length};
 ghost use Rattle.io.specs.Counts.{Counts};
+ghost use Rattle.listing.specs.Gathered.{Piece, gather};
+ghost use Rattle.listing.specs.Text.{atomText, setText, lineText};
 use crate::piece::put;
 use crate::piece::put_number;
 use crate::piece::write_full;
@@ -10,6 +13,8 @@ use talk::print;
 // A space and the atom's number, where its byte says that it is in the set.
 fn put_atom(a: usize, byte: u8, piece: &mut [u8], held: usize) -> usize
     requires { ⌜ Counts held (now piece) ⌝ }
+    ensures { λ r. ⌜ _≡_ {A = Piece} (record { bytes = now (piece .exit); held = r })
+        (gather (atomText a byte) (record { bytes = now (piece .entry); held = held })) ⌝ }
     ensures { λ r. ⌜ Counts r (now (piece .exit)) ⌝ }
 {
     if byte != 1 {
@@ -22,6 +27,9 @@ fn put_atom(a: usize, byte: u8, piece: &mut [u8], held: usize) -> usize
 // A space and its number for each atom of the row.
 pub fn put_set(row: &[u8], piece: &mut [u8], held: usize) -> usize
     requires { ⌜ Counts held (now piece) ⌝ }
+    ensures { λ r. ⌜ _≡_ {A = Piece} (record { bytes = now (piece .exit); held = r })
+        (gather (setText 0 (now (row .entry)))
+        (record { bytes = now (piece .entry); held = held })) ⌝ }
     ensures { λ r. ⌜ Counts r (now (piece .exit)) ⌝ }
 {
     let mut end = held;
@@ -33,9 +41,13 @@ pub fn put_set(row: &[u8], piece: &mut [u8], held: usize) -> usize
     end
 }
 
-// The line of a reading: its number, a colon and its atoms.
+// The line of a reading: its number, a colon and its atoms. There is room for all of it.
 fn put_line(n: u64, row: &[u8], line_end: u8, piece: &mut [u8], held: usize) -> usize
-    requires { ⌜ Counts held (now piece) ⌝ }
+    requires { ⌜ Counts held (now piece)
+        × (held + length (lineText n (now row) «line_end») ≤ length (now piece)) ⌝ }
+    ensures { λ r. ⌜ _≡_ {A = Piece} (record { bytes = now (piece .exit); held = r })
+        (gather (lineText n (now (row .entry)) «line_end»)
+        (record { bytes = now (piece .entry); held = held })) ⌝ }
     ensures { λ r. ⌜ Counts r (now (piece .exit)) ⌝ }
 {
     let number = put_number(n, piece, held);
@@ -44,10 +56,10 @@ fn put_line(n: u64, row: &[u8], line_end: u8, piece: &mut [u8], held: usize) -> 
     put(line_end, piece, set)
 }
 
-// Writes the lines of the first rows of a page; `before` readings were listed before. Gives the end
-// of the last row.
-pub fn print_rows(page: &[u8], atoms: usize, rows: u64, before: u64, line_end: u8) -> usize
-    ensures { λ r. ⌜ r ≤ length (now (page .entry)) ⌝ }
+// Writes the lines of the first rows of a page; `before` readings were listed before. No byte is
+// lost: before each line there is room for the longest one.
+pub fn print_rows(page: &[u8], atoms: usize, rows: u64, before: u64, line_end: u8)
+    requires { ⌜ atoms ≤ 255 ⌝ }
 {
     let mut piece = [0u8; 65536];
     let mut held = 0;
@@ -65,5 +77,4 @@ pub fn print_rows(page: &[u8], atoms: usize, rows: u64, before: u64, line_end: u
         at = next;
     }
     print(&piece[..held]);
-    at
 }
