@@ -16,8 +16,8 @@ use talk::refused_book;
 use walk::Page;
 use walk::page;
 
-// The tries of a listing.
-const LIMIT: u32 = 1000000;
+// The tries of a listing, and of each book of a table.
+pub const LIMIT: u32 = 1000000;
 
 // The readings listed and the tries made so far, and whether another page follows. The readings
 // never pass the tries, so the sums that could wrap do not.
