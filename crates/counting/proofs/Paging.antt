@@ -21,8 +21,8 @@ use Rattle.book.proofs.Places.{shape-atoms, shape-count, rule-keeps, in-shape}
 use Rattle.walk.specs.Events.{Event, clash, fork, reading, events}
 use Rattle.walk.specs.Readings.{readingsIn, readings}
 use Rattle.walk.specs.Run.{rowOf}
-use Rattle.walk.specs.Page.{PageEnd, whole, last, cut, setIn, eventsFrom, roomIn, told, pageIn, pageOf}
-use Rattle.walk.specs.Listing.{lastRow, rowsIn}
+use Rattle.walk.specs.Page.{PageEnd, setIn, eventsFrom, roomIn, told, pageIn, pageOf}
+use Rattle.walk.specs.Listing.{lastRow}
 use Rattle.walk.specs.declared.page_answer.Page.{Page}
 use Rattle.walk.specs.declared.page_answer.Page.the-variants.{Whole, Last, Cut, Book as BadBook, NoRoom}
 use Rattle.walk.proofs.Run.{apart}

@@ -1,5 +1,5 @@
 -- The totals of one book, atom by atom (src/sum.rt), and the turn of a book by what was told of it (src/turn.rt).
-use mathlib.Core.Path.{_≡_, refl, sym, _∙_, ap}
+use mathlib.Core.Path.{_≡_, refl, sym, _∙_}
 use mathlib.Core.Logic.{⊎-elim}
 use mathlib.Core.Bool.{Bool, true, false}
 use mathlib.Core.List.{List}
@@ -11,7 +11,7 @@ use lib.ListN.{getD, take}
 use borrow.Author.Tests.{lt-ltb, le-ltb, eq-eqb, ne-eqb}
 use Rattle.meaning.specs.Sets.{Set}
 use Rattle.meaning.specs.Choice.{ifb}
-use Rattle.meaning.specs.Told.{Told, success, Answered}
+use Rattle.meaning.specs.Told.{success, Answered}
 use Rattle.meaning.proofs.Tests.{decided, both, not-first, not-second}
 use Rattle.meaning.proofs.Choice.{b-yes, b-no, b-either}
 use Rattle.book.specs.declared.refusal.Refusal.{Refusal}
@@ -19,7 +19,7 @@ use Rattle.book.specs.declared.reader.Shape.{Shape}
 use Rattle.book.specs.declared.reader.Read.{Read}
 use Rattle.book.specs.declared.reader.Read.the-variants.{Good, Refused}
 use Rattle.book.specs.Numbers.{numberOf, told as bookTold}
-use Rattle.book.specs.Format.{bad, readOf, toldOf, bookOf, bookIn}
+use Rattle.book.specs.Format.{readOf, toldOf, bookOf, bookIn}
 use Rattle.book.proofs.Places.{shape-atoms}
 use Rattle.walk.proofs.Answering.{read-as, read-bad}
 use Rattle.counting.specs.Totals.{numberBelow, atEach, atSome, atNone, noTotals, totalsFrom, totalsWith}

@@ -21,8 +21,8 @@ use Rattle.walk.specs.Events.{events}
 use Rattle.walk.specs.Readings.{readings}
 use Rattle.walk.proofs.Readings.{readings-all}
 use Rattle.counting.specs.Counts.{standings, Counts, HasOne}
-use Rattle.counting.specs.Count.{countIn, countOf}
-use Rattle.counting.specs.Totals.{noTotals, totalsWith, atomsOf, TotalsOf}
+use Rattle.counting.specs.Count.{countIn}
+use Rattle.counting.specs.Totals.{noTotals, atomsOf, TotalsOf}
 use Rattle.counting.specs.Table.{Opened, unread, bytes, row, no-sets, refuse, Turn, turnBy, turnOf, turnsOf}
 use Rattle.counting.specs.Table.{countedBook, countedRead, countedOf, countedIn}
 use Rattle.counting.specs.declared.sum.Totals.{Totals}

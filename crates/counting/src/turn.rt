@@ -1,7 +1,5 @@
 // The table's turn: a book's line, and the totals after it. A program only prints what it gives.
 ghost use mathlib.Core.Path.{_≡_};
-ghost use Prim.Native.Nat.{ℕ};
-ghost use lib.ListN.{length};
 ghost use Rattle.meaning.specs.Told.{success};
 ghost use Rattle.book.specs.Format.{bookIn};
 ghost use Rattle.counting.specs.Table.{Turn as TableTurn, openedAs, rowIn, turnBy, turnOf};

@@ -1,5 +1,5 @@
 -- A page that is full, last or cut by the limit; a good book's page is no refusal.
-use mathlib.Core.Path.{_≡_, _∙_}
+use mathlib.Core.Path.{_∙_}
 use Prim.Native.Nat.{ℕ, _*_, _≤_}
 use native.Mathlib.Omega.{arith}
 use lib.ListN.{length-replicate}
