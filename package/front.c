@@ -77,7 +77,7 @@ ssize_t __wrap_write(int to, const void *bytes, size_t n) {
 
 static int starts(const char *word) {
     size_t n = strlen(word);
-    return strncmp(last, word, n) == 0 && (last[n] == ' ' || last[n] == ':' || last[n] == 0);
+    return strncmp(last, word, n) == 0 && (last[n] == ' ' || last[n] == ':' || last[n] == '\t' || last[n] == 0);
 }
 
 static int status(void) {

@@ -4,6 +4,7 @@ use crate::find::answer_find;
 use crate::paper_check::answer_check;
 use crate::paper_name::answer_name;
 use crate::readings::answer_readings;
+use crate::table::answer_table;
 use check::same;
 use meaning::Kind;
 use talk::first_word;
@@ -44,11 +45,15 @@ fn answer_at_once(line: &[u8], book: &mut [u8], room: &mut [u8], out: &mut [u8])
     print(&out[..held]);
 }
 
-// Writes the answer to the line: at once, but for `readings`, which goes in pieces. A book is read
-// into the one buffer, another is lent to the engine, and the last takes the answer.
+// Writes the answer to the line: at once, but for `readings` and `table`, which go in pieces. A book
+// is read into the one buffer, another is lent to the engine, and the last takes the answer.
 pub fn answer_line(line: &[u8], book: &mut [u8], room: &mut [u8], out: &mut [u8]) {
     if same(first_word(line), b"readings") {
         answer_readings(other_words(line), book);
+        return;
+    }
+    if same(first_word(line), b"table") {
+        answer_table(line, book);
         return;
     }
     answer_at_once(line, book, room, out);

@@ -13,6 +13,7 @@ mod numbers;
 mod paper_check;
 mod paper_name;
 mod readings;
+mod table;
 
 fn main() {
     if os::arg_count() != 1 {

@@ -9,4 +9,5 @@ mod rows;
 mod whole;
 
 pub use rows::put_set;
+pub use whole::LIMIT;
 pub use whole::list;

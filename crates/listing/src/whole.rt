@@ -22,8 +22,8 @@ use talk::refused_book;
 use walk::Page;
 use walk::page;
 
-// The tries of a listing.
-const LIMIT: u32 = 1000000;
+// The tries of a listing, and of each book of a table.
+pub const LIMIT: u32 = 1000000;
 
 // How a listing ended, with the readings that it listed.
 enum End {

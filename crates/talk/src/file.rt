@@ -82,6 +82,22 @@ fn read_file(path: &[u8], out: &mut [u8]) -> Taken
     taken
 }
 
+// Reads a file from its start. Where it cannot be read nothing is said.
+pub fn read_quietly(path: &[u8], out: &mut [u8]) -> Taken
+    ensures { λ r. ⌜ Counts (r .count) (now (out .exit)) ⌝ }
+{
+    let fd = os::open_read(path);
+    if fd < 0 {
+        return Taken {
+            good: false,
+            count: 0,
+        };
+    }
+    let taken = read_open(fd, out);
+    libc::close(fd);
+    taken
+}
+
 // Reads standard input. Where it cannot be read a line says so.
 pub fn read_input(out: &mut [u8]) -> Taken
     ensures { λ r. ⌜ Counts (r .count) (now (out .exit)) ⌝ }

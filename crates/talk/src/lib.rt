@@ -26,6 +26,7 @@ pub use file::complain_of_call;
 pub use file::open_call;
 pub use file::read_argument;
 pub use file::read_input;
+pub use file::read_quietly;
 pub use hexadecimal::Decoded;
 pub use hexadecimal::read_bytes;
 pub use line::put_bytes;

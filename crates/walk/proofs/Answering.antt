@@ -44,7 +44,7 @@ module _ (s : List ℕ) {x : Read} (e : bookTold x ≡ toldOf (readOf s)) where
   pub read-as : {h : Shape} → x ≡ Good h → ReadAs s h
   read-as f = sym e ∙ ap bookTold f
 
-  read-bad : {f : Refusal} → x ≡ Refused f → readOf s ≡ bad (numberOf f) (placeOf f)
+  pub read-bad : {f : Refusal} → x ≡ Refused f → readOf s ≡ bad (numberOf f) (placeOf f)
   read-bad f = told-refused (readOf s) _ _ (sym e ∙ ap bookTold f)
 
   pub find-refused : (k limit : ℕ) (answer : List ℕ) {f : Refusal} → x ≡ Refused f

@@ -30,7 +30,7 @@ row-from-at i zero x j h = absurd (omega arith)
 row-from-at i (suc n) x zero h = rw add-zero
 row-from-at i (suc n) x (suc j) h = rw (add-suc, ← suc-add i j) (row-from-at (suc i) n x j (le-of-suc-le-suc h))
 
-one-is : (t : Bool) → eqb (ifb t 1 0) 1 ≡ t
+pub one-is : (t : Bool) → eqb (ifb t 1 0) 1 ≡ t
 unfolding ifb
 one-is true = refl
 one-is false = refl
@@ -40,7 +40,7 @@ module _ (b : Book) (x : Atoms) where
   unfolding rowOf
   row-length = row-from-length 0 (b .atoms) x
 
-  row-at : (j : ℕ) → j < b .atoms → getD (rowOf b x) j 0 ≡ ifb (x (atomNo j)) 1 0
+  pub row-at : (j : ℕ) → j < b .atoms → getD (rowOf b x) j 0 ≡ ifb (x (atomNo j)) 1 0
   unfolding rowOf
   row-at j h = row-from-at 0 (b .atoms) x j h ∙ ap (λ (n : ℕ). ifb (x (atomNo n)) 1 0) (zero-add j)
 

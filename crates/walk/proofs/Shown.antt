@@ -43,7 +43,7 @@ rows-in-front b (x ∷ l) bytes =
     (ap (λ (rows : List (List ℕ)). row ∷ rows) (rows-in-front b l bytes))
 
 -- a page that holds the readings of some events
-page-rows : (b : Book) (out : List ℕ) (es : List Event) {m : ℕ} {buffer : List ℕ} → m ≡ amount b es
+pub page-rows : (b : Book) (out : List ℕ) (es : List Event) {m : ℕ} {buffer : List ℕ} → m ≡ amount b es
     → buffer ≡ filled b out (readingsIn b es) → rowsIn (b .atoms) m buffer ≡ map (rowOf b) (readingsIn b es)
 page-rows b out es e w = (λ i. rowsIn (b .atoms) (e i) (w i)) ∙ rows-in-front b (readingsIn b es) _
 
@@ -156,7 +156,7 @@ page-goes b limit n row out h room = goes (page-outcome b limit n row out h)
 -- ---- of the bytes of a book
 
 module _ (s : List ℕ) (n r index : ℕ) (l : List Rule) (e : readOf s ≡ good n r index l) (limit : ℕ) where
-  page-good-book : (k : ℕ) (row out : List ℕ) → pageOf s limit k row out ≡ pageIn (bookIn s) limit k row out
+  pub page-good-book : (k : ℕ) (row out : List ℕ) → pageOf s limit k row out ≡ pageIn (bookIn s) limit k row out
   unfolding pageOf pageRead bookIn bookOf
   page-good-book k row out = rw e
 

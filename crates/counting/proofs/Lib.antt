@@ -1,0 +1,12 @@
+-- The laws of counting, and those that its code rests on. Read in this order.
+pub mod Standing
+pub mod Numbers
+pub mod Counts
+pub mod Told
+pub mod HowMany
+pub mod Totals
+pub mod Table
+pub mod Worked
+pub mod Columns
+pub mod Paging
+pub mod Summing
