@@ -21,8 +21,11 @@ pub mod Claim
 pub mod Branches
 pub mod Witness
 pub mod Papers
+pub mod Alternates
+pub mod WellFounded
 pub mod Engine
 pub mod Listing
 pub mod PaperCases
 pub mod Readings
 pub mod Cases
+pub mod WellFoundedCases

@@ -2,6 +2,7 @@
 pub mod Sets
 pub mod Books
 pub mod AnswerSet
+pub mod WellFounded
 pub mod Colours
 pub mod Claim
 pub mod Paper
