@@ -8,6 +8,7 @@ pub mod Rules
 pub mod Lowest
 pub mod RulesIn
 pub mod Written
+pub mod Stamps
 pub mod Reduct
 pub mod Support
 pub mod Closing

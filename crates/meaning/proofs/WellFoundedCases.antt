@@ -10,7 +10,7 @@ use Rattle.meaning.specs.Books.{Atoms, atomNo, sameAtom, Book, count, ru
 use Rattle.meaning.specs.WellFounded.{WellFounded}
 use Rattle.meaning.specs.Colours.{heads, allIn, mayOn, blocked, starved}
 use Rattle.meaning.specs.Written.{of, addFrom, added, nothing}
-use Rattle.meaning.specs.Computed.{iterate, upheld, supportMore, support, goesOff, closeMore, marked, close}
+use Rattle.meaning.specs.Computed.{iterate, upheld, supportMore, support, goesOff, closeMore, marked, stamped, close}
 use Rattle.meaning.proofs.Cases.{six, circular, contrary, undone, choice}
 use Rattle.meaning.proofs.Alternates.{openHeads}
 use Rattle.meaning.proofs.WellFounded.{well-founded-one, first-closing-well-founded}
@@ -48,7 +48,7 @@ settled : Settled six six-true six-possible × Settled circular (false ∷ false
     × Settled contrary (false ∷ []) (true ∷ []) × Settled undone (true ∷ false ∷ []) (true ∷ true ∷ [])
     × Settled choice (false ∷ false ∷ []) (true ∷ true ∷ [])
 unfolding every some everyBelow someBelow sameAtom count rule everyRule someRule heads allIn mayOn blocked starved of addFrom added
-    iterate upheld supportMore support goesOff closeMore marked close said
+    iterate upheld supportMore support goesOff closeMore marked stamped close said
 settled = (
   (omega arith, refl, refl),
   (omega arith, refl, refl),

@@ -6,9 +6,9 @@ pub mod WellFounded
 pub mod Colours
 pub mod Claim
 pub mod Paper
+pub mod Choice
 pub mod Written
 pub mod Computed
 pub mod Lowest
 pub mod Engine
-pub mod Choice
 pub mod Told
