@@ -18,12 +18,15 @@ use passes::grow_off;
 use passes::pass_on;
 
 mod clash;
+mod first;
 mod levels;
 mod marking;
 mod passes;
 
 pub use clash::Picked;
 pub use clash::lowest_clash;
+pub use first::Settled;
+pub use first::settle;
 pub use marking::support;
 
 // What a closing comes to: the colouring, and of a contradiction the lowest rule in both sets.

@@ -12,3 +12,4 @@ pub mod Computed
 pub mod Lowest
 pub mod Engine
 pub mod Told
+pub mod Buffers

@@ -64,10 +64,10 @@ impl Colouring {
         requires { ⌜ (r .0 < 255) × (self .level < 255) ⌝ }
         ensures { λ c. ⌜ c ≡ chosen onSide r self ⌝ }
     {
-        let i = r.0 as usize;
-        self.on[i] = true;
+        let at = r.0 as usize;
+        self.on[at] = true;
         self.level += 1;
-        self.levels[i] = self.level;
+        self.levels[at] = self.level;
         self
     }
 
@@ -76,10 +76,10 @@ impl Colouring {
         requires { ⌜ (r .0 < 255) × (self .level < 255) ⌝ }
         ensures { λ c. ⌜ c ≡ chosen offSide r self ⌝ }
     {
-        let i = r.0 as usize;
-        self.off[i] = true;
+        let at = r.0 as usize;
+        self.off[at] = true;
         self.level += 1;
-        self.levels[i] = self.level;
+        self.levels[at] = self.level;
         self
     }
 }
