@@ -12,16 +12,24 @@ use talk::put_text;
 use walk::Found;
 use walk::levels;
 
-// A space and the number for each byte.
-fn put_numbers(bytes: &[u8], out: &mut [u8], held: usize) -> usize
+// A space and the number.
+fn put_level(level: u8, out: &mut [u8], held: usize) -> usize
+    requires { ⌜ Counts held (now out) ⌝ }
+    ensures { λ r. ⌜ Counts r (now (out .exit)) ⌝ }
+{
+    let held = put_text(b" ", out, held);
+    put_number(level as u64, out, held)
+}
+
+// All bytes so.
+fn put_all(bytes: &[u8], out: &mut [u8], held: usize) -> usize
     requires { ⌜ Counts held (now out) ⌝ }
     ensures { λ r. ⌜ Counts r (now (out .exit)) ⌝ }
 {
     let mut end = held;
     let mut i = 0;
     while i < bytes.len() {
-        end = put_text(b" ", out, end);
-        end = put_number(bytes[i] as u64, out, end);
+        end = put_level(bytes[i], out, end);
         i += 1;
     }
     end
@@ -35,7 +43,7 @@ fn put_levels(book: &[u8], bytes: &[u8], out: &mut [u8], held: usize) -> usize
     let Read::Good(shape) = read_book(book) else {
         return held;
     };
-    put_numbers(first_bytes(bytes, shape.rules as usize), out, held)
+    put_all(first_bytes(bytes, shape.rules as usize), out, held)
 }
 
 // Asks the engine, and puts what it answers at the start of out.

@@ -8,7 +8,6 @@ use closing::Settled;
 use closing::settle;
 use listing::put_places;
 use talk::Refused;
-use talk::first_bytes;
 use talk::put_refused;
 use talk::put_text;
 use talk::read_bytes;
@@ -22,16 +21,20 @@ fn put_settled(book: &[u8], bytes: &[u8], out: &mut [u8]) -> usize
         return 0;
     };
     let n = shape.rules as usize;
-    let rules = first_bytes(bytes, n);
-    let both = first_bytes(bytes, n + shape.atoms as usize);
+    let m = n + shape.atoms as usize;
+    if bytes.len() < m {
+        return 0;
+    }
+    let rules = &bytes[..n];
+    let atoms = &bytes[n..m];
     let held = put_text(b"levels on", out, 0);
     let held = put_places(rules, 1, out, held);
     let held = put_text(b" off", out, held);
     let held = put_places(rules, 0, out, held);
     let held = put_text(b" true", out, held);
-    let held = put_places(&both[n..], 1, out, held);
+    let held = put_places(atoms, 1, out, held);
     let held = put_text(b" false", out, held);
-    put_places(&both[n..], 0, out, held)
+    put_places(atoms, 0, out, held)
 }
 
 // Asks the engine, and puts what it answers at the start of out.

@@ -18,7 +18,6 @@ use rules::show_rules;
 use rules::show_settled;
 use talk::BOOK_ROOM;
 use talk::explain_book;
-use talk::first_bytes;
 use talk::open_call;
 
 // Writes the rules, the atoms and what that is worth, from the bytes that settling wrote.
@@ -26,10 +25,10 @@ fn show_all(book: &[u8], shape: Shape, bytes: &[u8; 510])
     requires { ⌜ ReadAs (now book) shape ⌝ }
 {
     let n = shape.rules as usize;
-    let both = first_bytes(bytes, n + shape.atoms as usize);
+    let m = n + shape.atoms as usize;
     show_rules(book, shape, bytes);
-    show_atoms(&both[n..]);
-    show_settled(first_bytes(bytes, n));
+    show_atoms(&bytes[n..m]);
+    show_settled(&bytes[..n]);
 }
 
 // Writes what a good book settles, or why the bytes are none.

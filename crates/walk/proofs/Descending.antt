@@ -23,7 +23,7 @@ use Rattle.walk.specs.Events.{Event, clash, fork, reading}
 use Rattle.walk.specs.Readings.{readingOf, readingsIn}
 use Rattle.walk.specs.Tries.{Kth}
 use Rattle.walk.specs.Levels.{sideOf, afterDown, downIn, down}
-use Rattle.walk.proofs.Events.{Closes, Forks, below-sized, below-left, fork-shallow, Walk, at-clash, at-reading, at-fork, walks}
+use Rattle.walk.proofs.Events.{Closes, Forks, below-sized, below-left, fork-falls, fork-shallow, Walk, at-clash, at-reading, at-fork, walks}
 use Rattle.walk.proofs.Forks.{side-on, side-off}
 use Rattle.walk.proofs.Readings.{walk-sound}
 use Rattle.walk.proofs.Run.{apart}
@@ -107,7 +107,7 @@ module _ (b : Book) (fits : count b ≤ 255) where
 -- ---- what the code keeps to on its way down
 
 -- the side of a rule, by the test whether it generates the set
-module _ {b : Book} {x : Atoms} {r : RuleNo} {d e : Colouring} {g : Bool} (q : g ≡ generating b x r) where
+module _ (b : Book) (x : Atoms) (r : RuleNo) (d : Colouring) {e : Colouring} {g : Bool} (q : g ≡ generating b x r) where
   pub follow-on : g ≡ true → e ≡ chosen onSide r d → e ≡ chosen (sideOf (generating b x r)) r d
   unfolding sideOf
   follow-on t f = rw (sym q ∙ t) f
@@ -121,8 +121,8 @@ pub record Descends (b : Book) (x : Atoms) (c : Colouring) : Type 0 where
   pub shallow : Shallow b c
   pub leads : down b nothing x ≡ down b c x
 
-pub descends-start : (b : Book) (x : Atoms) {c : Colouring} → Sized c → Shallow b c → c ≡ nothing → Descends b x c
-descends-start b x s h e = record { sized = s; shallow = h; leads = ap (λ (c : Colouring). down b c x) (sym e) }
+pub descends-start : (b : Book) (x : Atoms) {c : Colouring} → Shallow b c → c ≡ nothing → Descends b x c
+descends-start b x h e = record { sized = rw e sized-nothing; shallow = h; leads = ap (λ (c : Colouring). down b c x) (sym e) }
 
 module _ {b : Book} {x : Atoms} {c d : Colouring} (k : Descends b x c) where
   pub descends-clash : Closes b c d → {r : RuleNo} → clashed b (pair d) ≡ one r → d ≡ down b nothing x
@@ -130,6 +130,10 @@ module _ {b : Book} {x : Atoms} {c d : Colouring} (k : Descends b x c) where
 
   pub descends-reading : Closes b c d → clashed b (pair d) ≡ none → lowest b (uncoloured (pair d)) ≡ none → d ≡ down b nothing x
   descends-reading j t p = sym (k .leads ∙ down-reading x j t p)
+
+  -- each choice leaves fewer rules without a colour
+  pub descends-falls : {r : RuleNo} → Forks b c d r → {e : Colouring} → e ≡ chosen (sideOf (generating b x r)) r d → left b e < left b c
+  descends-falls {r} f g = rw g (fork-falls f (sideOf (generating b x r)))
 
   pub descends-fork : {r : RuleNo} → Forks b c d r → {e : Colouring} → e ≡ chosen (sideOf (generating b x r)) r d → Descends b x e
   descends-fork {r} f g = rw g (record {

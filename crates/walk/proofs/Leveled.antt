@@ -1,8 +1,8 @@
 -- What a call of levels answers (specs/Levels): from what the code does, way by way; and, for readers, that the bytes told are the levels of
 -- the k-th reading's colouring, that any other answer keeps the buffer, and that the answer is determined.
-use mathlib.Core.Path.{_≡_, refl, sym, _∙_, ap, fun-ext}
+use mathlib.Core.Path.{_≡_, refl, sym, _∙_, ap, subst, fun-ext}
 use mathlib.Core.Logic.{⊎-elim}
-use mathlib.Core.List.{List, [], _∷_, _++_, List·Memᴰ·head, Memᴰ·append-right}
+use mathlib.Core.List.{List, [], _∷_, _++_, List·Memᴰ, List·Memᴰ·head, Memᴰ·append-right}
 use Prim.Native.Nat.{ℕ, _+_, _-_, _≤_, _<_}
 use native.Mathlib.Nat.{zero-add, le-antisymm}
 use native.Mathlib.Omega.{arith}
@@ -29,7 +29,8 @@ use Rattle.book.specs.Format.{readOf, toldOf, bookOf, bookIn, ReadAs}
 use Rattle.book.proofs.Shape.{told-good}
 use Rattle.book.proofs.Verdict.{read-as, read-bad}
 use Rattle.book.proofs.Places.{shape-count}
-use Rattle.walk.specs.Events.{events}
+use Rattle.walk.specs.Events.{reading, events}
+use Rattle.walk.specs.Readings.{readingOf, readings}
 use Rattle.walk.specs.Tries.{Kth}
 use Rattle.walk.specs.Run.{rowOf, State, run}
 use Rattle.walk.specs.Find.{set as given, told, startOf, toldBy, findIn}
@@ -43,7 +44,7 @@ use Rattle.walk.proofs.Run.{apart}
 use Rattle.walk.proofs.Rows.{row-length, set-in-row}
 use Rattle.walk.proofs.Readings.{readings-all}
 use Rattle.walk.proofs.Demand.{find-row}
-use Rattle.walk.proofs.Levels.{node-sized, reading-node}
+use Rattle.walk.proofs.Nodes.{node-sized, reading-node}
 use Rattle.walk.proofs.Descending.{reading-in, down-found}
 use Rattle.walk.proofs.Answering.{any-buffer}
 
@@ -123,7 +124,8 @@ module _ (b : Book) (k limit : ℕ) (out : List ℕ) where
   unfolding levelsIn levelsBy toldBy
   levels-keeps =
       let P : Answered ℕ → Type 0 = λ a. ((t : ℕ) → a .told ≡ given t → ⊥) → a .buffer ≡ out in
-      eq-either P _ _ _ _ (λ e f. refl) λ n. lt-either P _ _ _ _ (λ h f. refl) λ h f. kept _ f
+      eq-either P _ _ _ _ (λ e f. refl) λ n. lt-either P _ _ _ _ (λ h f. refl) λ h f.
+      kept (run b (record { pass = k - 1; room = 1; limit = limit }) (startOf (replicate 255 0)) (events b nothing)) f
     where
       kept : (s : State) → ((t : ℕ) → toldBy (s .tally .halt) s limit ≡ given t → ⊥) → levelsBy b (s .tally .halt) (s .out) out ≡ out
       kept s f = by (s .tally .halt) f
@@ -161,19 +163,26 @@ module _ (b : Book) (fits : count b ≤ 255) (small : b .atoms ≤ 255) (proper 
   unfolding setIn
   set-before-zeros x inside = fun-ext (λ a. ap (λ (n : ℕ). eqb n 1) (same-byte (a .0)) ∙ ap (λ (y : Atoms). y a) (set-in-row b x inside))
     where
+      zero-at : (i : ℕ) → getD zeros i 0 ≡ 0
+      zero-at i = ⊎-elim (λ h. getD-replicate 255 i 0 0 h)
+          (λ h. let g : length zeros ≤ i = omega (arith, length-replicate {A = ℕ} 255 0) in List·getD-eq-default zeros 0 g)
+          (lt-or-le i 255)
+
       same-byte : (i : ℕ) → getD (rowOf b x ++ drop (b .atoms) zeros) i 0 ≡ getD (rowOf b x) i 0
       same-byte i = ⊎-elim
           (λ h. List·getD-append (rowOf b x) (drop (b .atoms) zeros) 0 i (omega (arith, row-length b x)))
           (λ h.
           let n : length (rowOf b x) + (i - b .atoms) ≡ i = omega (arith, row-length b x) in
-          ap (λ (j : ℕ). getD (rowOf b x ++ drop (b .atoms) zeros) j 0) (sym n) ∙ getD-append-add (rowOf b x) _ _ 0
-          ∙ getD-drop (b .atoms) zeros (i - b .atoms) 0 ∙ zero-at _
-          ∙ sym (List·getD-eq-default (rowOf b x) 0 (omega (arith, row-length b x))))
+          let g : length (rowOf b x) ≤ i = omega (arith, row-length b x) in
+          ap (λ (j : ℕ). getD (rowOf b x ++ drop (b .atoms) zeros) j 0) (sym n)
+          ∙ getD-append-add (rowOf b x) (drop (b .atoms) zeros) (i - b .atoms) 0
+          ∙ getD-drop (b .atoms) zeros (i - b .atoms) 0 ∙ zero-at (b .atoms + (i - b .atoms))
+          ∙ sym (List·getD-eq-default (rowOf b x) 0 g))
           (lt-or-le i (b .atoms))
 
-      zero-at : (i : ℕ) → getD zeros i 0 ≡ 0
-      zero-at i = ⊎-elim (λ h. getD-replicate 255 i 0 0 h)
-          (λ h. List·getD-eq-default zeros 0 (omega (arith, length-replicate {A = ℕ} 255 0))) (lt-or-le i 255)
+  sets-in : {d : Colouring} → List·Memᴰ (reading d) (events b nothing) → List·Memᴰ (readingOf b d) (readings b)
+  unfolding readings
+  sets-in {d} m = reading-in b (events b nothing) d m
 
   -- the bytes told are the levels of the colouring of the k-th reading, and the later bytes are kept
   pub levels-kth : (t : ℕ) (x : Atoms) → levelsIn b k limit out .told ≡ given t → (c : Kth b k t x)
@@ -185,8 +194,9 @@ module _ (b : Book) (fits : count b ≤ 255) (small : b .atoms ≤ 255) (proper 
       let row : walked .out ≡ rowOf b x ++ drop (b .atoms) zeros =
       sym (ap (λ (a : Answered ℕ). a .buffer) find-walks)
       ∙ find-row b k limit zeros t x (ap (λ (a : Answered ℕ). a .told) find-walks ∙ told-walk) c in
-      let member = rw (c .walk) (Memᴰ·append-right (c .earlier) (List·Memᴰ·head refl)) in
-      let inside = rw (← c .set) (answer-inside b fits _ proper (readings-all b fits .sound _ (reading-in b _ (c .found) member))) in
+      let member : List·Memᴰ (reading (c .found)) (events b nothing) = rw (c .walk) (Memᴰ·append-right (c .earlier) (List·Memᴰ·head refl)) in
+      let inside : Inside b x =
+      subst (Inside b) (sym (c .set)) (answer-inside b fits _ proper (readings-all b fits .sound _ (sets-in member))) in
       let way : down b nothing (setIn (walked .out)) ≡ c .found =
       ap (down b nothing) (ap setIn row ∙ set-before-zeros x inside) ∙ down-found b fits c in
       let long : length (take (count b) (c .found .levels)) ≡ count b =

@@ -8,7 +8,7 @@ pub mod Readings
 pub mod Tries
 pub mod Clashes
 pub mod FirstTry
-pub mod Levels
+pub mod Nodes
 pub mod Way
 pub mod Needs
 pub mod Finding

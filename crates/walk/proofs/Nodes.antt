@@ -4,7 +4,7 @@
 -- was coloured above keeps its level, and what was not gets one that is higher.
 use mathlib.Core.Path.{_≡_, refl, sym, _∙_, ap, subst}
 use mathlib.Core.Logic.{⊎-elim, _⊎_, inl, inr}
-use mathlib.Core.Bool.{Bool, false, not}
+use mathlib.Core.Bool.{Bool, true, false, not, _&&_}
 use mathlib.Core.List.{List, List·Memᴰ, List·Memᴰ·not-nil, List·Memᴰ·cases-cons, List·Memᴰ·append-cases}
 use Prim.Native.Nat.{ℕ, suc, _+_, _≤_, _<_}
 use native.Mathlib.Nat.{eq-or-lt-of-le}
@@ -22,7 +22,7 @@ use Rattle.meaning.specs.Colours.{Side, onSide, offSide, side, Within, Consiste
 use Rattle.meaning.specs.Written.{of, levelOf, nothing, chosen, pair}
 use Rattle.meaning.specs.Computed.{newly, close}
 use Rattle.meaning.specs.Lowest.{none, one, lowest, clashed}
-use Rattle.meaning.proofs.Tests.{both, left, clash, refuted, decided, same, not-first, not-second}
+use Rattle.meaning.proofs.Tests.{both, clash, refuted, decided, same, not-first, not-second}
 use Rattle.meaning.proofs.Choice.{b-yes, b-no}
 use Rattle.meaning.proofs.Rules.{uncoloured-no, clashing-no, within-trans}
 use Rattle.meaning.proofs.Stamps.{level-of-chosen, level-of-other}
@@ -37,6 +37,10 @@ use Rattle.walk.specs.Levels.{Node, at-first, below, Down, here, deeper,
 use Rattle.walk.proofs.Events.{Walk, at-clash, at-reading, at-fork, walks}
 use Rattle.walk.proofs.Forks.{stands-nothing}
 use Rattle.walk.proofs.Run.{apart}
+
+with-true : (t : Bool) → (t && true) ≡ t
+with-true true = refl
+with-true false = refl
 
 module _ (b : Book) (fits : count b ≤ 255) where
   -- ---- one choice and the closing behind it
@@ -82,7 +86,8 @@ module _ (b : Book) (fits : count b ≤ 255) where
       level-still k =
           let u = uncoloured-mono b (close-is b fits c c-sized .good .above) r h k in
           let n : r ≡ q → ⊥ = λ z. clash (rw z at u) (coloured x (pair c) q (chosen-in b d sized x q low)) in
-          level-stamped b fits c c-sized r h ∙ b-no _ _ _ (not-second _ (ap not k)) ∙ level-of-other q d x r n
+          level-stamped b fits c c-sized r h
+          ∙ b-no (newly (pair c) (pair (close b c)) r) (c .level) (levelOf c r) (not-second (uncoloured (pair c) r) (ap not k)) ∙ level-of-other q d x r n
 
     pub choice-grows : Within b (pair d) (pair (close b c))
     choice-grows = within-trans b (chosen-above b d sized x q low) (close-is b fits c c-sized .good .above)
@@ -97,7 +102,7 @@ module _ (b : Book) (fits : count b ≤ 255) where
   pub level-counts : {n : ℕ} {d : Colouring} → Node b n d → d .level ≡ n
   level-counts at-first = close-level b nothing
   level-counts (below {d = d} {r = r} k t p x) =
-      close-level b (chosen x r d) ∙ chosen-level b x r d ∙ add-one ∙ ap suc (level-counts k)
+      close-level b (chosen x r d) ∙ chosen-level b x r d ∙ add-one (d .level) ∙ ap suc (level-counts k)
 
   pub level-left : {n : ℕ} {d : Colouring} → Node b n d → n + left b d ≤ count b
   level-left at-first = omega (arith, left-count b (close b nothing))
@@ -145,21 +150,25 @@ module _ (b : Book) (fits : count b ≤ 255) where
 
   -- for every level up to the present one a closed colouring stands above on the walk
   pub node-above : {n : ℕ} {e : Colouring} → Node b n e → (m : ℕ) → m ≤ n → (d : Colouring) × Node b m d × Down b d e
-  node-above {n} {e} k m h = ⊎-elim (λ z. (e, rw z k, here)) (λ z. above k z) (eq-or-lt-of-le h)
-    where
-      above : {n : ℕ} {e : Colouring} → Node b n e → m < n → (d : Colouring) × Node b m d × Down b d e
-      above at-first z = absurd (omega arith)
-      above (below {n = n} k t p x) z = let (d, j, w) = node-above k m (omega arith) in (d, j, deeper w t p x)
+  node-above at-first m h =
+      let z : m ≡ 0 = omega arith in
+      (close b nothing, subst (λ (j : ℕ). Node b j (close b nothing)) (sym z) at-first, here)
+  node-above (below {d = d} {r = r} k t p x) m h = ⊎-elim
+      (λ z.
+      let e = close b (chosen x r d) in
+      (e, subst (λ (j : ℕ). Node b j e) (sym z) (below k t p x), here))
+      (λ z. let (e, j, w) = node-above k m (omega arith) in (e, j, deeper w t p x))
+      (eq-or-lt-of-le h)
 
   pub node-first : {d : Colouring} → Node b 0 d → d ≡ close b nothing
   node-first at-first = refl
 
   -- ---- V4: dropping the rules above a level
 
-  module _ {m : ℕ} {e : Colouring} where
+  module _ (m : ℕ) (e : Colouring) where
     kept-low : (l : List Bool) (r : RuleNo) → levelOf e r ≤ m → kept m e l r ≡ of l r
     unfolding kept
-    kept-low l r h = same _ _ (λ e. left (of l r) _ e) (λ e. both e (ap not (le-ltb _ _ h)))
+    kept-low l r h = rw (le-ltb _ _ h) (with-true (of l r))
 
     kept-high : (l : List Bool) (r : RuleNo) → m < levelOf e r → kept m e l r ≡ false
     unfolding kept
@@ -173,61 +182,61 @@ module _ (b : Book) (fits : count b ≤ 255) where
     -- what is coloured in e has its colour and its level from above
     module _ {e : Colouring} {q : RuleNo} (w : Down b d e) (t : clashed b (pair e) ≡ none) (p : lowest b (uncoloured (pair e)) ≡ one q)
         (x : Side) (calm : clashed b (pair (close b (chosen x q e))) ≡ none) where
-      abbrev f : Colouring
-      f = close b (chosen x q e)
+      abbrev lower : Colouring
+      lower = close b (chosen x q e)
 
       e-sized : Sized e
       e-sized = node-sized (down-node node w .1)
 
       -- a second colour would be a contradiction
-      on-stays : (r : RuleNo) → InBook b r → r ∉ uncoloured (pair e) → of (f .on) r ≡ of (e .on) r
+      on-stays : (r : RuleNo) → InBook b r → r ∉ uncoloured (pair e) → of (lower .on) r ≡ of (e .on) r
       unfolding side
       on-stays r h n =
           let g = choice-grows e e-sized q p x in
           same _ _ (λ k. ⊎-elim (λ i. i) (λ i. absurd (consistent r h k (g .each offSide r h i))) (uncoloured-no b (pair e) r n)) (g .each onSide r h)
         where
-          consistent : Consistent b (pair f)
-          consistent = clashing-no b (pair f) (clashed-none b (pair f) .0 calm)
+          consistent : Consistent b (pair lower)
+          consistent = clashing-no b (pair lower) (clashed-none b (pair lower) .0 calm)
 
-      off-stays : (r : RuleNo) → InBook b r → r ∉ uncoloured (pair e) → of (f .off) r ≡ of (e .off) r
+      off-stays : (r : RuleNo) → InBook b r → r ∉ uncoloured (pair e) → of (lower .off) r ≡ of (e .off) r
       unfolding side
       off-stays r h n =
           let g = choice-grows e e-sized q p x in
           same _ _ (λ k. ⊎-elim (λ i. absurd (consistent r h (g .each onSide r h i) k)) (λ i. i) (uncoloured-no b (pair e) r n)) (g .each offSide r h)
         where
-          consistent : Consistent b (pair f)
-          consistent = clashing-no b (pair f) (clashed-none b (pair f) .0 calm)
+          consistent : Consistent b (pair lower)
+          consistent = clashing-no b (pair lower) (clashed-none b (pair lower) .0 calm)
 
       -- what gets its colour there is above level m
-      high : (r : RuleNo) → InBook b r → r ∈ uncoloured (pair e) → r ∉ uncoloured (pair f) → m < levelOf f r
+      high : (r : RuleNo) → InBook b r → r ∈ uncoloured (pair e) → r ∉ uncoloured (pair lower) → m < levelOf lower r
       high r h u n =
           let (k, j, l) = down-node node w in
           omega (arith, level-new e e-sized q p x r h u n, level-counts j)
 
       kept-same : (l l' : List Bool) (r : RuleNo) → InBook b r → (r ∉ uncoloured (pair e) → of l' r ≡ of l r)
-          → (r ∈ uncoloured (pair e) → r ∉ of l) → (r ∈ of l' → r ∉ uncoloured (pair f)) → kept m f l' r ≡ kept m e l r
+          → (r ∈ uncoloured (pair e) → r ∉ of l) → (r ∈ of l' → r ∉ uncoloured (pair lower)) → kept m lower l' r ≡ kept m e l r
       unfolding kept
       kept-same l l' r h same-set was has = ⊎-elim
-          (λ u. kept-new u (decided (of l' r)) ∙ sym (kept-out l r (was u)))
+          (λ u. kept-new u (decided (of l' r)) ∙ sym (kept-out m e l r (was u)))
           (λ u. let z = level-kept e e-sized q p x r h u in rw (same-set u, z))
           (decided (uncoloured (pair e) r))
         where
-          kept-new : r ∈ uncoloured (pair e) → (r ∈ of l') ⊎ (r ∉ of l') → kept m f l' r ≡ false
-          kept-new u (inl i) = kept-high l' r (high r h u (has i))
-          kept-new u (inr i) = kept-out l' r i
+          kept-new : r ∈ uncoloured (pair e) → (r ∈ of l') ⊎ (r ∉ of l') → kept m lower l' r ≡ false
+          kept-new u (inl i) = kept-high m lower l' r (high r h u (has i))
+          kept-new u (inr i) = kept-out m lower l' r i
 
-      drop-same : (y : Side) (r : RuleNo) → InBook b r → side y (dropped m f) r ≡ side y (dropped m e) r
+      drop-same : (y : Side) (r : RuleNo) → InBook b r → side y (dropped m lower) r ≡ side y (dropped m e) r
       unfolding side
-      drop-same onSide r h = kept-same (e .on) (f .on) r h (on-stays r h)
-          (λ u. refuted (λ i. clash u (coloured onSide (pair e) r i))) (λ i. coloured onSide (pair f) r i)
-      drop-same offSide r h = kept-same (e .off) (f .off) r h (off-stays r h)
-          (λ u. refuted (λ i. clash u (coloured offSide (pair e) r i))) (λ i. coloured offSide (pair f) r i)
+      drop-same onSide r h = kept-same (e .on) (lower .on) r h (on-stays r h)
+          (λ u. refuted (λ i. clash u (coloured onSide (pair e) r i))) (λ i. coloured onSide (pair lower) r i)
+      drop-same offSide r h = kept-same (e .off) (lower .off) r h (off-stays r h)
+          (λ u. refuted (λ i. clash u (coloured offSide (pair e) r i))) (λ i. coloured offSide (pair lower) r i)
 
     pub drop-again : {e : Colouring} → Down b d e → clashed b (pair e) ≡ none → (x : Side) (r : RuleNo) → InBook b r
         → side x (dropped m e) r ≡ side x (pair d) r
     unfolding side
-    drop-again here calm onSide r h = kept-low (d .on) r (level-most node r h)
-    drop-again here calm offSide r h = kept-low (d .off) r (level-most node r h)
+    drop-again here calm onSide r h = kept-low m d (d .on) r (level-most node r h)
+    drop-again here calm offSide r h = kept-low m d (d .off) r (level-most node r h)
     drop-again (deeper w t p y) calm x r h = drop-same w t p y calm x r h ∙ drop-again w t x r h
 
     -- a rule that is coloured in d keeps its level below
@@ -266,8 +275,8 @@ module _ (b : Book) (fits : count b ≤ 255) where
       first-keeps x r h (rw (node-first j) at i)
     where
       settled-kept : (x : Side) → r ∈ side x (pair e) → r ∈ side x (dropped 0 e)
-      settled-kept onSide m = kept-low (e .on) r (omega (arith, z)) ∙ m
-      settled-kept offSide m = kept-low (e .off) r (omega (arith, z)) ∙ m
+      settled-kept onSide m = kept-low 0 e (e .on) r (omega (arith, z)) ∙ m
+      settled-kept offSide m = kept-low 0 e (e .off) r (omega (arith, z)) ∙ m
 
       first-keeps : (x : Side) (r : RuleNo) → InBook b r → r ∈ side x (pair (close b nothing)) → r ∈ side x (colouringOf b y)
       first-keeps = close-keeps-answers b fits nothing sized-nothing y answer (stands-nothing b y answer .holds) .each
@@ -281,8 +290,8 @@ module _ (b : Book) (fits : count b ≤ 255) where
       ⊎-elim (λ q. let z : e ≡ d = cc in (n, subst (Node b n) (sym (k .closed) ∙ z) j)) (λ i. absurd (List·Memᴰ·not-nil i)) (List·Memᴰ·cases-cons m)
   walk-node (at-fork {d = e} {r = r} f v w) {n} j d m =
       let i = subst (Node b n) (sym (f .closes .closed)) j in
-      ⊎-elim (λ e. apart (cc))
-      (λ u. ⊎-elim (walk-node v (below i (f .calm) (f .choice) onSide) d) (walk-node w (below i (f .calm) (f .choice) offSide) d)
+      ⊎-elim (λ q. apart (cc))
+      (λ u. ⊎-elim (λ z. walk-node v (below i (f .calm) (f .choice) onSide) d z) (λ z. walk-node w (below i (f .calm) (f .choice) offSide) d z)
       (List·Memᴰ·append-cases _ u)) (List·Memᴰ·cases-cons m)
 
   pub reading-node : (d : Colouring) → List·Memᴰ (reading d) (events b nothing) → (n : ℕ) × Node b n d
