@@ -12,12 +12,11 @@ use lib.Seq.{getD-append-add}
 use Rattle.meaning.specs.declared.AtomNo.{AtomNo}
 use Rattle.meaning.specs.declared.RuleNo.{RuleNo}
 use Rattle.meaning.specs.Sets.{_∈_, _∉_}
-use Rattle.meaning.specs.Books.{Atoms, ruleNo, Book, count, InBook}
+use Rattle.meaning.specs.Books.{Atoms, Book, count, InBook}
 use Rattle.meaning.specs.Choice.{ifb}
-use Rattle.meaning.specs.Colours.{Pair}
 use Rattle.meaning.specs.Told.{Told, success, Answered}
 use Rattle.meaning.specs.WellFounded.{WellFounded}
-use Rattle.meaning.specs.Written.{of, nothing, pair}
+use Rattle.meaning.specs.Written.{of, nothing}
 use Rattle.meaning.specs.Computed.{close}
 use Rattle.meaning.proofs.Choice.{lt-either}
 use Rattle.meaning.proofs.Tests.{clash}
@@ -27,7 +26,7 @@ use Rattle.book.proofs.Told.{refusalAt, refusal-again}
 use Rattle.closing.specs.declared.first.Settled.{Settled}
 use Rattle.closing.specs.declared.first.Settled.the-variants.{Rows, Book as BadBook, NoRoom}
 use Rattle.closing.specs.Settle.{settledByte, ruleRow, atomRow, settledRows, told, settleIn}
-use Rattle.closing.proofs.Settling.{settled-length, settled-at}
+use Rattle.closing.proofs.Settling.{settled-at, rule-row-length}
 
 -- ---- a byte: 1 exactly if the first test holds, 0 exactly if the second does, where they do not both
 
@@ -35,17 +34,17 @@ pub record Says (byte : ℕ) (holds fails : Type 0) : Type 0 where
   pub is-one : (byte ≡ 1) ↔ holds
   pub is-zero : (byte ≡ 0) ↔ fails
 
+never : {A : Type 0} → false ≡ true → A
+never e = absurd (false≢true e)
+
 byte-says : (y n : Bool) → (y ≡ true → n ≡ true → ⊥) → Says (settledByte y n) (y ≡ true) (n ≡ true)
 unfolding settledByte ifb
 byte-says true true f = absurd (f refl refl)
-byte-says true false f = record { is-one = (λ e. refl, λ e. refl); is-zero = (λ e. absurd (omega arith), λ e. absurd (false≢true e)) }
-byte-says false true f = record { is-one = (λ e. absurd (omega arith), λ e. absurd (false≢true e)); is-zero = (λ e. refl, λ e. refl) }
-byte-says false false f = record { is-one = (λ e. absurd (omega arith), λ e. absurd (false≢true e)); is-zero = (λ e. absurd (omega arith), λ e. absurd (false≢true e)) }
+byte-says true false f = record { is-one = (λ e. refl, λ e. refl); is-zero = (λ e. absurd (omega arith), never) }
+byte-says false true f = record { is-one = (λ e. absurd (omega arith), never); is-zero = (λ e. refl, λ e. refl) }
+byte-says false false f = record { is-one = (λ e. absurd (omega arith), never); is-zero = (λ e. absurd (omega arith), never) }
 
 module _ (b : Book) (fits : count b ≤ 255) where
-  first : Pair
-  first = pair (close b nothing)
-
   -- ---- a rule's byte
 
   pub settle-rule : (r : RuleNo) → InBook b r
@@ -53,7 +52,7 @@ module _ (b : Book) (fits : count b ≤ 255) where
   unfolding settledRows
   settle-rule r h =
       let d = close b nothing in
-      let n = settled-length 0 (count b) (λ i. of (d .on) (ruleNo i)) (λ i. of (d .off) (ruleNo i)) in
+      let n = rule-row-length b in
       let e = List·getD-append (ruleRow b d) (atomRow b d) 0 (r .0) (omega (arith, n)) ∙ settled-at (count b) _ _ (r .0) h in
       rw e (byte-says _ _ (first-consistent b fits r h))
 
@@ -64,8 +63,9 @@ module _ (b : Book) (fits : count b ≤ 255) where
     unfolding settledRows
     settle-true a h =
         let d = close b nothing in
-        let n = settled-length 0 (count b) (λ i. of (d .on) (ruleNo i)) (λ i. of (d .off) (ruleNo i)) in
-        let e = ap (λ (m : ℕ). getD (settledRows b) (m + a .0) 0) (sym n) ∙ getD-append-add (ruleRow b d) (atomRow b d) (a .0) 0 ∙ settled-at (b .atoms) _ _ (a .0) h in
+        let n = rule-row-length b in
+        let e = ap (λ (m : ℕ). getD (settledRows b) (m + a .0) 0) (sym n)
+        ∙ getD-append-add (ruleRow b d) (atomRow b d) (a .0) 0 ∙ settled-at (b .atoms) _ _ (a .0) h in
         let (u, v) = well-founded-one b w (first-closing-well-founded b fits) a in
         rw (e, u, v) (says-false (byte-says _ _ (λ x y. clash (well-founded-consistent b (first-closing-well-founded b fits) a x) (ap not y))))
       where

@@ -10,7 +10,7 @@ use lib.ListN.{length, getD, set, drop, length-append}
 use lib.Seq.{paste}
 use Rattle.meaning.specs.declared.colouring.Colouring.{Colouring}
 use Rattle.meaning.specs.Sets.{Set}
-use Rattle.meaning.specs.Books.{ruleNo, atomNo, Book, count}
+use Rattle.meaning.specs.Books.{atomNo, Book, count}
 use Rattle.meaning.specs.Colours.{heads, allIn}
 use Rattle.meaning.specs.Told.{success, refusedAt, refused, Answered}
 use Rattle.meaning.specs.Buffers.{writeAt}
@@ -68,11 +68,14 @@ module _ (holds fails : List Bool) (n at : ℕ) (out : List ℕ) where
 
 -- ---- both rows
 
+pub rule-row-length : (b : Book) → length (ruleRow b (close b nothing)) ≡ count b
+rule-row-length b = settled-length 0 (count b) _ _
+
 pub settled-rows-length : (b : Book) → length (settledRows b) ≡ count b + b .atoms
 unfolding settledRows
 settled-rows-length b =
     let d = close b nothing in
-    length-append (ruleRow b d) (atomRow b d) ∙ rw (settled-length 0 (count b) _ _, settled-length 0 (b .atoms) _ _)
+    length-append (ruleRow b d) (atomRow b d) ∙ rw (rule-row-length b, settled-length 0 (b .atoms) _ _)
 
 module _ (s : List ℕ) (h : Shape) (e : ReadAs s h) (out : List ℕ) where
   pub settle-no-room : length out < h .rules + h .atoms → record { told = refused 8; buffer = out } ≡ settleIn (bookIn s) out
@@ -102,7 +105,7 @@ module _ (s : List ℕ) (h : Shape) (e : ReadAs s h) (out : List ℕ) where
       unfolding settleIn settledRows
       settle-told {u} {w} f g =
           let b = bookIn s in let xs = ruleRow b (close b nothing) in let ys = atomRow b (close b nothing) in
-          let n : 0 + length xs ≡ h .rules = omega (arith, settled-length 0 (count b) (λ i. of (close b nothing .on) (ruleNo i)) (λ i. of (close b nothing .off) (ruleNo i)), shape-count s h e) in
+          let n : 0 + length xs ≡ h .rules = omega (arith, rule-row-length b, shape-count s h e) in
           let z : w ≡ (xs ++ ys) ++ drop (count b + b .atoms) out =
           g ∙ rw (f, rules-are, atoms-are, ← n) (write-next 0 xs ys out (omega arith))
           ∙ write-front (xs ++ ys) out ∙ ap (λ (m : ℕ). (xs ++ ys) ++ drop m out) (settled-rows-length b) in

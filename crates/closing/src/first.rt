@@ -1,5 +1,6 @@
 // What the first closing settles: which rules have a colour before any choice, and which atoms are
-// true or false in the well-founded model. Settled is not certain: nobody is named or cleared by it.
+// true or false in the well-founded model. Settled is not certain: nobody is named or cleared by
+// it.
 ghost use mathlib.Core.Path.{_≡_};
 ghost use Prim.Native.Nat.{_+_, _≤_};
 ghost use lib.ListN.{length};

@@ -1,5 +1,5 @@
 -- What a call of levels answers (specs/Levels): from what the code does, way by way; and, for readers, that the bytes told are the levels of
--- the k-th reading's colouring, that any other answer keeps the buffer, and that the answer is determined.
+-- the k-th reading's colouring, and that any other answer keeps the buffer.
 use mathlib.Core.Path.{_≡_, refl, sym, _∙_, ap, subst, fun-ext}
 use mathlib.Core.Logic.{⊎-elim}
 use mathlib.Core.List.{List, [], _∷_, _++_, List·Memᴰ, List·Memᴰ·head, Memᴰ·append-right}

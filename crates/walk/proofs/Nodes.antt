@@ -30,7 +30,8 @@ use Rattle.meaning.proofs.Written.{Sized, sized-nothing, sized-chosen}
 use Rattle.meaning.proofs.Closing.{close-is, close-sized, close-level, level-stamped}
 use Rattle.meaning.proofs.Lowest.{lowest-one, clashed-none}
 use Rattle.closing.specs.Left.{left}
-use Rattle.closing.proofs.Left.{chosen-above, chosen-in, chosen-level, chosen-other, coloured, uncoloured-mono, left-count, left-chosen, left-close}
+use Rattle.closing.proofs.Left.{chosen-above, chosen-in, chosen-level, chosen-other, coloured, uncoloured-mono}
+use Rattle.closing.proofs.Left.{left-count, left-chosen, left-close}
 use Rattle.closing.proofs.Laws.{close-keeps-answers}
 use Rattle.walk.specs.Events.{Event, reading, events}
 use Rattle.walk.specs.Levels.{Node, at-first, below, Down, here, deeper, kept, dropped}
@@ -87,7 +88,8 @@ module _ (b : Book) (fits : count b ≤ 255) where
           let u = uncoloured-mono b (close-is b fits c c-sized .good .above) r h k in
           let n : r ≡ q → ⊥ = λ z. clash (rw z at u) (coloured x (pair c) q (chosen-in b d sized x q low)) in
           level-stamped b fits c c-sized r h
-          ∙ b-no (newly (pair c) (pair (close b c)) r) (c .level) (levelOf c r) (not-second (uncoloured (pair c) r) (ap not k)) ∙ level-of-other q d x r n
+          ∙ b-no (newly (pair c) (pair (close b c)) r) (c .level) (levelOf c r) (not-second (uncoloured (pair c) r) (ap not k))
+          ∙ level-of-other q d x r n
 
     pub choice-grows : Within b (pair d) (pair (close b c))
     choice-grows = within-trans b (chosen-above b d sized x q low) (close-is b fits c c-sized .good .above)
@@ -188,24 +190,16 @@ module _ (b : Book) (fits : count b ≤ 255) where
       e-sized : Sized e
       e-sized = node-sized (down-node node w .1)
 
-      -- a second colour would be a contradiction
-      on-stays : (r : RuleNo) → InBook b r → r ∉ uncoloured (pair e) → of (lower .on) r ≡ of (e .on) r
-      unfolding side
-      on-stays r h n =
-          let g = choice-grows e e-sized q p x in
-          same _ _ (λ k. ⊎-elim (λ i. i) (λ i. absurd (consistent r h k (g .each offSide r h i))) (uncoloured-no b (pair e) r n)) (g .each onSide r h)
-        where
-          consistent : Consistent b (pair lower)
-          consistent = clashing-no b (pair lower) (clashed-none b (pair lower) .0 calm)
+      consistent : Consistent b (pair lower)
+      consistent = clashing-no b (pair lower) (clashed-none b (pair lower) .0 calm)
 
-      off-stays : (r : RuleNo) → InBook b r → r ∉ uncoloured (pair e) → of (lower .off) r ≡ of (e .off) r
+      -- a second colour would be a contradiction
+      side-stays : (y : Side) (r : RuleNo) → InBook b r → r ∉ uncoloured (pair e) → side y (pair lower) r ≡ side y (pair e) r
       unfolding side
-      off-stays r h n =
-          let g = choice-grows e e-sized q p x in
-          same _ _ (λ k. ⊎-elim (λ i. absurd (consistent r h (g .each onSide r h i) k)) (λ i. i) (uncoloured-no b (pair e) r n)) (g .each offSide r h)
-        where
-          consistent : Consistent b (pair lower)
-          consistent = clashing-no b (pair lower) (clashed-none b (pair lower) .0 calm)
+      side-stays onSide r h n = let g = choice-grows e e-sized q p x in same _ _
+          (λ k. ⊎-elim (λ i. i) (λ i. absurd (consistent r h k (g .each offSide r h i))) (uncoloured-no b (pair e) r n)) (g .each onSide r h)
+      side-stays offSide r h n = let g = choice-grows e e-sized q p x in same _ _
+          (λ k. ⊎-elim (λ i. absurd (consistent r h (g .each onSide r h i) k)) (λ i. i) (uncoloured-no b (pair e) r n)) (g .each offSide r h)
 
       -- what gets its colour there is above level m
       high : (r : RuleNo) → InBook b r → r ∈ uncoloured (pair e) → r ∉ uncoloured (pair lower) → m < levelOf lower r
@@ -227,9 +221,9 @@ module _ (b : Book) (fits : count b ≤ 255) where
 
       drop-same : (y : Side) (r : RuleNo) → InBook b r → side y (dropped m lower) r ≡ side y (dropped m e) r
       unfolding side
-      drop-same onSide r h = kept-same (e .on) (lower .on) r h (on-stays r h)
+      drop-same onSide r h = kept-same (e .on) (lower .on) r h (side-stays onSide r h)
           (λ u. refuted (λ i. clash u (coloured onSide (pair e) r i))) (λ i. coloured onSide (pair lower) r i)
-      drop-same offSide r h = kept-same (e .off) (lower .off) r h (off-stays r h)
+      drop-same offSide r h = kept-same (e .off) (lower .off) r h (side-stays offSide r h)
           (λ u. refuted (λ i. clash u (coloured offSide (pair e) r i))) (λ i. coloured offSide (pair lower) r i)
 
     pub drop-again : {e : Colouring} → Down b d e → clashed b (pair e) ≡ none → (x : Side) (r : RuleNo) → InBook b r
