@@ -8,10 +8,22 @@ use closing::Settled;
 use closing::settle;
 use listing::put_places;
 use talk::Refused;
+use talk::first_bytes;
 use talk::put_refused;
 use talk::put_text;
 use talk::read_bytes;
 use talk::refused_book;
+
+// A word and the places of the row that say 1, then another word and those that say 0.
+fn put_row<'a>(ones: &'a [u8], zeros: &'a [u8], row: &'a [u8], out: &mut [u8], held: usize) -> usize
+    requires { ⌜ Counts held (now out) ⌝ }
+    ensures { λ r. ⌜ Counts r (now (out .exit)) ⌝ }
+{
+    let held = put_text(ones, out, held);
+    let held = put_places(row, 1, out, held);
+    let held = put_text(zeros, out, held);
+    put_places(row, 0, out, held)
+}
 
 // The rules' words and the atoms' words, from the bytes that settling wrote for a good book.
 fn put_settled(book: &[u8], bytes: &[u8], out: &mut [u8]) -> usize
@@ -25,16 +37,8 @@ fn put_settled(book: &[u8], bytes: &[u8], out: &mut [u8]) -> usize
     if bytes.len() < m {
         return 0;
     }
-    let rules = &bytes[..n];
-    let atoms = &bytes[n..m];
-    let held = put_text(b"levels on", out, 0);
-    let held = put_places(rules, 1, out, held);
-    let held = put_text(b" off", out, held);
-    let held = put_places(rules, 0, out, held);
-    let held = put_text(b" true", out, held);
-    let held = put_places(atoms, 1, out, held);
-    let held = put_text(b" false", out, held);
-    put_places(atoms, 0, out, held)
+    let held = put_row(b"levels on", b" off", first_bytes(bytes, n), out, 0);
+    put_row(b" true", b" false", &bytes[n..m], out, held)
 }
 
 // Asks the engine, and puts what it answers at the start of out.

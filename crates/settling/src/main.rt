@@ -18,6 +18,7 @@ use rules::show_rules;
 use rules::show_settled;
 use talk::BOOK_ROOM;
 use talk::explain_book;
+use talk::first_bytes;
 use talk::open_call;
 
 // Writes the rules, the atoms and what that is worth, from the bytes that settling wrote.
@@ -26,22 +27,28 @@ fn show_all(book: &[u8], shape: Shape, bytes: &[u8; 510])
 {
     let n = shape.rules as usize;
     let m = n + shape.atoms as usize;
+    let all = &bytes[..];
     show_rules(book, shape, bytes);
-    show_atoms(&bytes[n..m]);
-    show_settled(&bytes[..n]);
+    show_atoms(&all[n..m]);
+    show_settled(first_bytes(all, n));
+}
+
+// Writes what a good book settles.
+fn show_good(book: &[u8], shape: Shape)
+    requires { ⌜ ReadAs (now book) shape ⌝ }
+{
+    let mut bytes = [2u8; 510];
+    let Settled::Rows = settle(book, &mut bytes) else {
+        return;
+    };
+    show_all(book, shape, &bytes);
 }
 
 // Writes what a good book settles, or why the bytes are none.
 fn show_book(book: &[u8]) {
     match read_book(book) {
         Read::Refused(why) => explain_book(why, book),
-        Read::Good(shape) => {
-            let mut bytes = [2u8; 510];
-            let Settled::Rows = settle(book, &mut bytes) else {
-                return;
-            };
-            show_all(book, shape, &bytes);
-        }
+        Read::Good(shape) => show_good(book, shape),
     }
 }
 

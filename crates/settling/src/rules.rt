@@ -39,16 +39,24 @@ pub fn show_rules(book: &[u8], shape: Shape, bytes: &[u8; 510])
     }
 }
 
-// How many of the rules' bytes say that the rule has a colour.
+// 1 for a byte that says that the rule has a colour.
+fn one_if_settled(byte: u8) -> u64
+    ensures { λ n. ⌜ n ≤ 1 ⌝ }
+{
+    if byte < 2 {
+        return 1;
+    }
+    0
+}
+
+// How many of the rules' bytes say so.
 fn count_settled(bytes: &[u8]) -> u64
     ensures { λ n. ⌜ n ≤ length (now (bytes .entry)) ⌝ }
 {
     let mut n: u64 = 0;
     let mut i = 0;
     while i < bytes.len() {
-        if bytes[i] < 2 {
-            n += 1;
-        }
+        n += one_if_settled(bytes[i]);
         i += 1;
     }
     n
