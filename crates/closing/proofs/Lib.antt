@@ -5,7 +5,11 @@ pub mod Growing
 pub mod Turns
 pub mod Supporting
 pub mod Searches
+pub mod Stamping
 pub mod Picked
 pub mod Closed
 pub mod Left
 pub mod Laws
+pub mod Settling
+pub mod Settled
+pub mod SettledCases

@@ -3,3 +3,4 @@ pub mod Growing
 pub mod Conditions
 pub mod Left
 pub mod Picked
+pub mod Settle

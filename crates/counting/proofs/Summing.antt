@@ -21,7 +21,7 @@ use Rattle.book.specs.declared.reader.Read.the-variants.{Good, Refused}
 use Rattle.book.specs.Numbers.{numberOf, told as bookTold}
 use Rattle.book.specs.Format.{readOf, toldOf, bookOf, bookIn}
 use Rattle.book.proofs.Places.{shape-atoms}
-use Rattle.walk.proofs.Answering.{read-as, read-bad}
+use Rattle.book.proofs.Verdict.{read-as, read-bad}
 use Rattle.counting.specs.Totals.{numberBelow, atEach, atSome, atNone, noTotals, totalsFrom, totalsWith}
 use Rattle.counting.specs.Count.{told, countOf}
 use Rattle.counting.specs.Table.{bytes, openedAs, row, no-sets, refuse, Turn, turnBy, turnOf}

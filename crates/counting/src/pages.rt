@@ -16,6 +16,7 @@ use crate::places::keep_row;
 use book::Read;
 use book::Shape;
 use book::read_book;
+use meaning::Colouring;
 use walk::Page;
 use walk::page;
 
@@ -84,8 +85,8 @@ fn count_in(book: &[u8], shape: Shape, limit: u32, counts: &mut [u32]) -> Counte
         (countIn (bookIn (now (book .entry))) limit (now (counts .entry))) ⌝ }
 {
     let atoms = shape.atoms as usize;
-    let mut tallies = [0u32; 255];
-    let mut last = [0u8; 255];
+    let mut tallies = [0u32; Colouring::ATOMS];
+    let mut last = [0u8; Colouring::ATOMS];
     let mut tries = 0;
     let mut sets = 0;
     loop {
@@ -113,7 +114,7 @@ fn count_in(book: &[u8], shape: Shape, limit: u32, counts: &mut [u32]) -> Counte
 
 // Counts the answer sets of the book, and for each atom those that hold it, within so many tries of
 // the whole walk.
-pub fn count(book: &[u8], limit: u32, counts: &mut [u32; 255]) -> Counted
+pub fn count(book: &[u8], limit: u32, counts: &mut [u32; Colouring::ATOMS]) -> Counted
     ensures { λ r. ⌜ _≡_ {A = Answered ℕ} (record { told = told r; buffer = now (counts .exit) })
         (countOf (now (book .entry)) limit (now (counts .entry))) ⌝ }
 {

@@ -4,6 +4,7 @@ ghost use Prim.Native.Nat.{_≤_};
 ghost use lib.ListN.{length};
 ghost use Rattle.meaning.specs.Choice.{ifb};
 ghost use Rattle.counting.specs.Totals.{atEach, atSome, atNone, totalsFrom, totalsWith};
+use meaning::Colouring;
 use std::num::wrapping_add_u32;
 
 pub struct Totals {
@@ -80,7 +81,7 @@ impl Totals {
     };
 
     // One book more, of so many atoms and answer sets, and in how many of these each atom stands.
-    pub fn with(self, atoms: u8, sets: u32, counts: &[u32; 255]) -> Totals
+    pub fn with(self, atoms: u8, sets: u32, counts: &[u32; Colouring::ATOMS]) -> Totals
         ensures { λ r. ⌜ r ≡ totalsWith self atoms sets (now (counts .entry)) ⌝ }
     {
         let more = of_book(atoms, sets, counts);

@@ -8,6 +8,7 @@ use crate::pages::count;
 use crate::sum::Totals;
 use book::Read;
 use book::read_book;
+use meaning::Colouring;
 
 pub enum Line {
     // `sets S atoms c0 c1 ..`: how many answer sets, and how many atoms. Their counts stand in the
@@ -36,7 +37,7 @@ fn atoms_of(book: &[u8]) -> u8
 }
 
 // The turn of a book with so many answer sets.
-fn turn_counted(sets: u32, atoms: u8, totals: Totals, counts: &[u32; 255]) -> Turn
+fn turn_counted(sets: u32, atoms: u8, totals: Totals, counts: &[u32; Colouring::ATOMS]) -> Turn
     ensures { λ r. ⌜ _≡_ {A = TableTurn}
         (record {
           line = rowIn (r .line) (now (counts .entry));
@@ -63,7 +64,7 @@ pub fn take_turn(
     book: &[u8],
     limit: u32,
     totals: Totals,
-    counts: &mut [u32; 255],
+    counts: &mut [u32; Colouring::ATOMS],
 ) -> Turn
     ensures { λ r. ⌜ _≡_ {A = TableTurn}
         (record {

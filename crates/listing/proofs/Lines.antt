@@ -13,7 +13,7 @@ use Rattle.meaning.proofs.Tests.{lt-or-le}
 use Rattle.meaning.specs.Choice.{ifLt}
 use Rattle.meaning.proofs.Choice.{lt-yes, lt-no, lt-either, eq-yes, eq-no, eq-either}
 use Rattle.listing.specs.Gathered.{Piece, gather}
-use Rattle.listing.specs.Text.{places, numberText, atomText, setText, lineText, longestLine}
+use Rattle.listing.specs.Text.{places, numberText, placeText, placesText, lineText, longestLine}
 use Rattle.listing.proofs.Gathering.{gather-append}
 
 -- ---- the digits of a number
@@ -51,36 +51,36 @@ number-gathered n k text p q small f e g = g ∙ ap (λ (l : List ℕ). gather l
 
 -- ---- a line, part by part
 
-pub no-atom : (a byte : ℕ) (p : Piece) → (byte ≡ 1 → ⊥) → p ≡ gather (atomText a byte) p
-unfolding gather atomText
-no-atom a byte p h = sym (ap (λ (l : List ℕ). gather l p) (eq-no _ _ _ _ h))
+pub no-place : (asked a byte : ℕ) (p : Piece) → (byte ≡ asked → ⊥) → p ≡ gather (placeText asked a byte) p
+unfolding gather placeText
+no-place asked a byte p h = sym (ap (λ (l : List ℕ). gather l p) (eq-no _ _ _ _ h))
 
-pub one-atom : (a byte : ℕ) (p q r : Piece) → byte ≡ 1 → q ≡ gather (32 ∷ []) p → r ≡ gather (numberText a) q
-    → r ≡ gather (atomText a byte) p
-unfolding gather atomText
-one-atom a byte p q r h e f = f ∙ ap (gather (numberText a)) e ∙ sym (ap (λ (l : List ℕ). gather l p) (eq-yes _ _ _ _ h))
+pub one-place : (asked a byte : ℕ) (p q r : Piece) → byte ≡ asked → q ≡ gather (32 ∷ []) p → r ≡ gather (numberText a) q
+    → r ≡ gather (placeText asked a byte) p
+unfolding gather placeText
+one-place asked a byte p q r h e f = f ∙ ap (gather (numberText a)) e ∙ sym (ap (λ (l : List ℕ). gather l p) (eq-yes _ _ _ _ h))
 
--- one atom of a row, and what is left of it
-pub set-turn : (row : List ℕ) (a : ℕ) (p q : Piece) → a < length row → q ≡ gather (atomText a (getD row a 0)) p
-    → gather (setText a (drop a row)) p ≡ gather (setText (a + 1) (drop (a + 1) row)) q
-unfolding setText
-set-turn row a p q h e =
+-- one place of a row, and what is left of it
+pub places-turn : (asked : ℕ) (row : List ℕ) (a : ℕ) (p q : Piece) → a < length row → q ≡ gather (placeText asked a (getD row a 0)) p
+    → gather (placesText asked a (drop a row)) p ≡ gather (placesText asked (a + 1) (drop (a + 1) row)) q
+unfolding placesText
+places-turn asked row a p q h e =
     let next : a + 1 ≡ suc a = omega arith in
     rw next
-    (ap (λ (l : List ℕ). gather (setText a l) p) (drop-cons row a 0 h) ∙ gather-append (atomText a (getD row a 0)) _ p
-    ∙ ap (gather (setText (suc a) (drop (suc a) row))) (sym e))
+    (ap (λ (l : List ℕ). gather (placesText asked a l) p) (drop-cons row a 0 h) ∙ gather-append (placeText asked a (getD row a 0)) _ p
+    ∙ ap (gather (placesText asked (suc a) (drop (suc a) row))) (sym e))
 
-pub set-end : (row : List ℕ) (a : ℕ) (p : Piece) → length row ≤ a → gather (setText a (drop a row)) p ≡ p
-unfolding setText gather
-set-end row a p h = ap (λ (l : List ℕ). gather (setText a l) p) (drop-of-length-le row {i = a} h)
+pub places-end : (asked : ℕ) (row : List ℕ) (a : ℕ) (p : Piece) → length row ≤ a → gather (placesText asked a (drop a row)) p ≡ p
+unfolding placesText gather
+places-end asked row a p h = ap (λ (l : List ℕ). gather (placesText asked a l) p) (drop-of-length-le row {i = a} h)
 
 pub line-gathered : (n : ℕ) (row : List ℕ) (end : ℕ) (p q r s t : Piece) → q ≡ gather (numberText n) p → r ≡ gather (58 ∷ []) q
-    → s ≡ gather (setText 0 row) r → t ≡ gather (end ∷ []) s → t ≡ gather (lineText n row end) p
+    → s ≡ gather (placesText 1 0 row) r → t ≡ gather (end ∷ []) s → t ≡ gather (lineText n row end) p
 unfolding lineText gather
 line-gathered n row end p q r s t e f g h =
-    h ∙ ap (gather (end ∷ [])) (g ∙ ap (gather (setText 0 row)) (f ∙ ap (gather (58 ∷ [])) e))
-    ∙ sym (gather-append (numberText n) (58 ∷ (setText 0 row ++ (end ∷ []))) p
-    ∙ gather-append (setText 0 row) (end ∷ []) (gather (58 ∷ []) (gather (numberText n) p)))
+    h ∙ ap (gather (end ∷ [])) (g ∙ ap (gather (placesText 1 0 row)) (f ∙ ap (gather (58 ∷ [])) e))
+    ∙ sym (gather-append (numberText n) (58 ∷ (placesText 1 0 row ++ (end ∷ []))) p
+    ∙ gather-append (placesText 1 0 row) (end ∷ []) (gather (58 ∷ []) (gather (numberText n) p)))
 
 -- ---- the longest line
 
@@ -105,20 +105,20 @@ places-few (suc (suc (suc more))) n h = lt-either (λ (m : ℕ). m ≤ 3) _ _ _ 
     (λ l. lt-either (λ (m : ℕ). m ≤ 3) _ _ _ _ (λ k. omega arith)
     (λ k. lt-either (λ (m : ℕ). m ≤ 3) _ _ _ _ (λ j. omega arith) (λ j. absurd (omega arith))))
 
-atom-length : (a byte : ℕ) → a < 1000 → length (atomText a byte) ≤ 4
-unfolding atomText numberText
-atom-length a byte h = eq-either (λ (l : List ℕ). length l ≤ 4) _ _ _ _
+place-length : (asked a byte : ℕ) → a < 1000 → length (placeText asked a byte) ≤ 4
+unfolding placeText numberText
+place-length asked a byte h = eq-either (λ (l : List ℕ). length l ≤ 4) _ _ _ _
     (λ e. omega (arith, digits-length (places 19 1 a) a, places-few 19 a h)) (λ e. omega arith)
 
-set-length : (a : ℕ) (row : List ℕ) → a + length row ≤ 1000 → length (setText a row) ≤ 4 * length row
-unfolding setText
-set-length a [] h = omega arith
-set-length a (x ∷ row) h =
+places-length : (asked a : ℕ) (row : List ℕ) → a + length row ≤ 1000 → length (placesText asked a row) ≤ 4 * length row
+unfolding placesText
+places-length asked a [] h = omega arith
+places-length asked a (x ∷ row) h =
     omega (
       arith,
-      length-append (atomText a x) (setText (suc a) row),
-      atom-length a x (omega arith),
-      set-length (suc a) row (omega arith),
+      length-append (placeText asked a x) (placesText asked (suc a) row),
+      place-length asked a x (omega arith),
+      places-length asked (suc a) row (omega arith),
     )
 
 pub line-length : (n : ℕ) (row : List ℕ) (end : ℕ) → length row ≤ 255 → length (lineText n row end) ≤ longestLine
@@ -126,11 +126,11 @@ unfolding lineText numberText
 line-length n row end h =
     omega (
       arith,
-      length-append (digits 10 (places 19 1 n) n) (58 ∷ (setText 0 row ++ (end ∷ []))),
-      length-append (setText 0 row) (end ∷ []),
+      length-append (digits 10 (places 19 1 n) n) (58 ∷ (placesText 1 0 row ++ (end ∷ []))),
+      length-append (placesText 1 0 row) (end ∷ []),
       digits-length (places 19 1 n) n,
       places-most 19 1 n,
-      set-length 0 row (omega arith),
+      places-length 1 0 row (omega arith),
     )
 
 -- so that a line of a page has room where that many bytes are free

@@ -8,6 +8,7 @@ mod piece;
 mod rows;
 mod whole;
 
+pub use rows::put_places;
 pub use rows::put_set;
 pub use whole::LIMIT;
 pub use whole::list;

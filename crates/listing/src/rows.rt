@@ -4,41 +4,52 @@ ghost use Prim.Native.Nat.{_+_, _≤_};
 ghost use lib.ListN.{length};
 ghost use Rattle.io.specs.Counts.{Counts};
 ghost use Rattle.listing.specs.Gathered.{Piece, gather};
-ghost use Rattle.listing.specs.Text.{atomText, setText, lineText};
+ghost use Rattle.listing.specs.Text.{placeText, placesText, lineText};
 use crate::piece::put;
 use crate::piece::put_number;
 use crate::piece::write_full;
 use talk::print;
 
-// A space and the atom's number, where its byte says that it is in the set.
-fn put_atom(a: usize, byte: u8, piece: &mut [u8], held: usize) -> usize
+// A space and the place's number, where its byte is the one that is asked for.
+fn put_place(a: usize, byte: u8, asked: u8, piece: &mut [u8], held: usize) -> usize
     requires { ⌜ Counts held (now piece) ⌝ }
     ensures { λ r. ⌜ _≡_ {A = Piece} (record { bytes = now (piece .exit); held = r })
-        (gather (atomText a byte) (record { bytes = now (piece .entry); held = held })) ⌝ }
+        (gather (placeText asked a byte) (record { bytes = now (piece .entry); held = held })) ⌝ }
     ensures { λ r. ⌜ Counts r (now (piece .exit)) ⌝ }
 {
-    if byte != 1 {
+    if byte != asked {
         return held;
     }
     let space = put(b' ', piece, held);
     put_number(a as u64, piece, space)
 }
 
-// A space and its number for each atom of the row.
-pub fn put_set(row: &[u8], piece: &mut [u8], held: usize) -> usize
+// A space and its number for each place of the row that has the byte asked for.
+pub fn put_places(row: &[u8], asked: u8, piece: &mut [u8], held: usize) -> usize
     requires { ⌜ Counts held (now piece) ⌝ }
     ensures { λ r. ⌜ _≡_ {A = Piece} (record { bytes = now (piece .exit); held = r })
-        (gather (setText 0 (now (row .entry)))
+        (gather (placesText asked 0 (now (row .entry)))
         (record { bytes = now (piece .entry); held = held })) ⌝ }
     ensures { λ r. ⌜ Counts r (now (piece .exit)) ⌝ }
 {
     let mut end = held;
     let mut a = 0;
     while a < row.len() {
-        end = put_atom(a, row[a], piece, end);
+        end = put_place(a, row[a], asked, piece, end);
         a += 1;
     }
     end
+}
+
+// A space and its number for each atom of the row.
+pub fn put_set(row: &[u8], piece: &mut [u8], held: usize) -> usize
+    requires { ⌜ Counts held (now piece) ⌝ }
+    ensures { λ r. ⌜ _≡_ {A = Piece} (record { bytes = now (piece .exit); held = r })
+        (gather (placesText 1 0 (now (row .entry)))
+        (record { bytes = now (piece .entry); held = held })) ⌝ }
+    ensures { λ r. ⌜ Counts r (now (piece .exit)) ⌝ }
+{
+    put_places(row, 1, piece, held)
 }
 
 // The line of a reading: its number, a colon and its atoms. There is room for all of it.

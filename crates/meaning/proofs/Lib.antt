@@ -1,6 +1,7 @@
 -- The laws of the meaning that need no code. Read in this order.
 pub mod Choice
 pub mod Told
+pub mod Buffers
 pub mod Tests
 pub mod Sets
 pub mod Least
@@ -8,6 +9,7 @@ pub mod Rules
 pub mod Lowest
 pub mod RulesIn
 pub mod Written
+pub mod Stamps
 pub mod Reduct
 pub mod Support
 pub mod Closing
@@ -21,8 +23,11 @@ pub mod Claim
 pub mod Branches
 pub mod Witness
 pub mod Papers
+pub mod Alternates
+pub mod WellFounded
 pub mod Engine
 pub mod Listing
 pub mod PaperCases
 pub mod Readings
 pub mod Cases
+pub mod WellFoundedCases

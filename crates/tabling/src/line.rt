@@ -2,6 +2,7 @@
 ghost use Rattle.io.specs.Counts.{Counts};
 use counting::Line;
 use counting::Totals;
+use meaning::Colouring;
 use talk::print;
 use talk::put_name;
 use talk::put_number;
@@ -33,7 +34,13 @@ fn put_value(n: u32, separator: u8, line: &mut [u8], held: usize) -> usize
 }
 
 // The counts of the first atoms.
-fn put_counts(counts: &[u32; 255], atoms: u8, separator: u8, line: &mut [u8], held: usize) -> usize
+fn put_counts(
+    counts: &[u32; Colouring::ATOMS],
+    atoms: u8,
+    separator: u8,
+    line: &mut [u8],
+    held: usize,
+) -> usize
     requires { ⌜ Counts held (now line) ⌝ }
     ensures { λ r. ⌜ Counts r (now (line .exit)) ⌝ }
 {
@@ -49,7 +56,7 @@ fn put_counts(counts: &[u32; 255], atoms: u8, separator: u8, line: &mut [u8], he
 // The values of a book's line.
 fn put_values(
     values: Line,
-    counts: &[u32; 255],
+    counts: &[u32; Colouring::ATOMS],
     separator: u8,
     line: &mut [u8],
     held: usize,
@@ -89,7 +96,13 @@ fn put_name_behind(name: &[u8], layout: Layout, line: &mut [u8], held: usize) ->
 
 // Writes a book's line: its number, its name where there are names, and its values. The longest has
 // a name of 4,096 bytes and 256 numbers.
-pub fn print_book(number: u64, name: &[u8], values: Line, counts: &[u32; 255], layout: Layout) {
+pub fn print_book(
+    number: u64,
+    name: &[u8],
+    values: Line,
+    counts: &[u32; Colouring::ATOMS],
+    layout: Layout,
+) {
     let mut line = [0u8; 8192];
     let held = put_number(number, &mut line, 0);
     let held = put_name_behind(name, layout, &mut line, held);

@@ -7,6 +7,7 @@ use counting::Line;
 use counting::Totals;
 use counting::take_turn;
 use listing::LIMIT;
+use meaning::Colouring;
 
 // The most books of a table: with more names it is refused, 36.
 pub const MOST_BOOKS: usize = 64;
@@ -40,7 +41,7 @@ impl Table {
         if 63 < self.books {
             return self;
         }
-        let mut counts = [0u32; 255];
+        let mut counts = [0u32; Colouring::ATOMS];
         let turn = take_turn(is_open, book, LIMIT, self.totals, &mut counts);
         let line = turn.line;
         print_book(self.books as u64 + 1, name, line, &counts, layout);

@@ -12,15 +12,17 @@ use Rattle.meaning.specs.declared.colouring.Colouring.{Colouring}
 use Rattle.meaning.specs.Books.{Atoms, Book}
 use Rattle.meaning.specs.Told.{success, refusedAt, refused, Answered}
 use Rattle.meaning.proofs.Choice.{lt-either, eq-either}
-use Rattle.meaning.proofs.Tests.{apart}
 use Rattle.book.specs.Format.{BookRead, good, bad, readOf}
 use Rattle.walk.specs.Events.{Event, reading}
 use Rattle.walk.specs.Readings.{readingsIn}
-use Rattle.walk.specs.Run.{writeAt, Wanted, State}
+use Rattle.meaning.specs.Buffers.{writeAt}
+use Rattle.walk.specs.Run.{Wanted, State}
 use Rattle.walk.specs.Find.{startAt}
 use Rattle.walk.specs.Page.{PageEnd, whole, last, cut, setIn, eventsFrom, roomIn, endedBy, pagedBy}
 use Rattle.walk.specs.Page.{pageIn, pageRead, pageOf}
-use Rattle.walk.proofs.Rows.{rowsOf, rows-length, write-front}
+use Rattle.meaning.proofs.Buffers.{write-front}
+use Rattle.meaning.proofs.Tests.{apart}
+use Rattle.walk.proofs.Rows.{rowsOf, rows-length}
 use Rattle.walk.proofs.Way.{step, gone, gone-append, gone-tries, gone-sets, gone-writes, Way, to-end, to-full, to-limit, way}
 use Rattle.walk.proofs.Needs.{amount, amount-last}
 

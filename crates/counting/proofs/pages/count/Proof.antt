@@ -3,7 +3,7 @@ use mathlib.Core.Path.{sym, _∙_}
 use borrow.Author.Needs.{needs}
 use Rattle.book.specs.Format.{readOf}
 use Rattle.book.proofs.Shape.{told-good}
-use Rattle.walk.proofs.Answering.{read-as, read-bad}
+use Rattle.book.proofs.Verdict.{read-as, read-bad}
 use Rattle.counting.proofs.Counts.{count-bad-book, count-good-book}
 use Rattle.counting.proofs.pages.count.Statement.{statement}
 use Rattle.counting.proofs.pages.count.Tie as tie

@@ -1,6 +1,6 @@
 -- `list` lists a book that was read as good.
 use borrow.Author.Needs.{needs}
-use Rattle.walk.proofs.Answering.{read-as}
+use Rattle.book.proofs.Verdict.{read-as}
 use Rattle.listing.proofs.whole.list.Statement.{statement}
 use Rattle.listing.proofs.whole.list.Tie as tie
 

@@ -15,11 +15,11 @@ use Rattle.writer.proofs.branch.write_branch.Statement.{statement}
 use Rattle.writer.proofs.branch.write_branch.Tie as tie
 
 abbrev Inv-loop : tie.InvT-loop
-Inv-loop book shape claim draft₀ at on₀ off₀ marks dropped₀ n₀ draft on off dropped n =
+Inv-loop book shape claim draft₀ at on₀ off₀ marks level levels dropped₀ n₀ draft on off dropped n =
     Ahead (bookIn book) claim (lent on₀ off₀) n₀ draft₀ on off n draft
 
 abbrev μ-loop : tie.MeasureT-loop
-μ-loop book shape claim draft₀ at on₀ off₀ marks dropped₀ n₀ draft on off dropped n = missing (bookIn book) (lent on off)
+μ-loop book shape claim draft₀ at on₀ off₀ marks level levels dropped₀ n₀ draft on off dropped n = missing (bookIn book) (lent on off)
 
 -- a good book has at most 255 rules
 module _ (s : tie.Start Inv-loop μ-loop) where
@@ -37,7 +37,7 @@ module _ (c : tie.After-next-step Inv-loop μ-loop) where
   turn = c .before .before .before .before
 
   abbrev start : tie.Start Inv-loop μ-loop
-  start = turn .before .before .before .before .before
+  start = turn .before .before .before .before .before .before
 
 loop-holds : tie.Need-loop-holds Inv-loop μ-loop
 loop-holds c = ahead-start _ _ _ _ _ _ (search needs) (search needs)

@@ -1,0 +1,14 @@
+-- `show_book` shows what is settled of a book that was read as good only.
+use mathlib.Core.Path.{sym, _∙_, ap}
+use borrow.Author.Needs.{needs}
+use Rattle.book.specs.Numbers.{told}
+use Rattle.settling.proofs.show_book.Statement.{statement}
+use Rattle.settling.proofs.show_book.Tie as tie
+
+show-good-requires : tie.Need-show-good-requires
+show-good-requires c κs = sym (c .before .before .before .read-book .ensures) ∙ ap told (c .before .shape .given .1)
+
+pub show-book-spec : {M : Type 1} → statement M
+show-book-spec =
+    tie.close (tie.spec (λ c κs. search needs) (λ c. search needs) (λ c κs. search needs) (λ c. search needs) show-good-requires
+    (λ c. search needs) (λ c. search needs))
