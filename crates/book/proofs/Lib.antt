@@ -17,3 +17,4 @@ pub mod Places
 pub mod Asked
 pub mod AtomsFrom
 pub mod Made
+pub mod Joined

@@ -24,5 +24,8 @@ pub mod Papers
 pub mod Engine
 pub mod Listing
 pub mod PaperCases
+pub mod Parts
+pub mod Joined
 pub mod Readings
 pub mod Cases
+pub mod JoinedCases

@@ -11,3 +11,4 @@ pub mod Lowest
 pub mod Engine
 pub mod Choice
 pub mod Told
+pub mod Joined
