@@ -24,10 +24,10 @@ use Rattle.book.specs.Format.{good, readOf, bookOf, bookIn, ReadAs}
 use Rattle.book.specs.Rows.{Bytes}
 use Rattle.book.specs.Writing.{atomBytes, BodyFits, RuleFits, Fits}
 use Rattle.book.specs.Writing.{recordBytes, recordsBytes, indexBytes, trailerBytes, bytesOfBook}
-use Rattle.book.proofs.Shape.{told-good, good-fits}
+use Rattle.book.proofs.Shape.{told-good, good-fits, good-rules-fit}
 use Rattle.book.proofs.Writing.{write-read}
 use Rattle.book.proofs.ReadBack.{book-length, read-write}
-use Rattle.book.proofs.Places.{shape-atoms, shape-count}
+use Rattle.book.proofs.Places.{shape-good, shape-atoms, shape-count}
 use Rattle.book.proofs.Made.{records-append}
 
 -- ---- a book that fits names atoms of its own only
@@ -57,7 +57,7 @@ ltb-up n i j = ⊎-elim
     (λ h. le-ltb (n + i) (n + j) (omega arith) ∙ sym (le-ltb i j h))
     (lt-or-le i j)
 
-up-ascends : (n : ℕ) (l : List AtomNo) → ascending (atomBytes (map (upAtom n) l)) ≡ ascending (atomBytes l)
+pub up-ascends : (n : ℕ) (l : List AtomNo) → ascending (atomBytes (map (upAtom n) l)) ≡ ascending (atomBytes l)
 unfolding ascending
 up-ascends n [] = refl
 up-ascends n (a ∷ []) = refl
@@ -124,6 +124,14 @@ unfolding joined
 joined-fits-only b c f = (f .atoms, rw (joined-count b c) at (f .rules))
 
 -- ---- the same of bytes that were read as good, for whoever has their shapes
+
+-- a shape's counts are bytes
+pub shape-keeps : (s : List ℕ) (h : Shape) → ReadAs s h → h .atoms ≤ 255 → h .rules ≤ 255 → Fits (bookIn s)
+shape-keeps s h e few-atoms few-rules = record {
+  atoms = rw (shape-atoms s h e) few-atoms;
+  rules = rw (shape-count s h e) few-rules;
+  each = λ q m. rw (shape-atoms s h e) (good-rules-fit (shape-good s h e) q m);
+}
 
 module _ (s : List ℕ) (h : Shape) (bytes : Bytes s) (e : ReadAs s h) where
   read-good : readOf s ≡ good (h .atoms) (h .rules) (h .index) (bookIn s .rules)

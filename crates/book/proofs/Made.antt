@@ -276,6 +276,10 @@ pub made-whole : {l : List Rule} {m : Making} {d : List ℕ} → Made l m d → 
 made-whole (whole h t s r n b) e = record { long = h; small = s; rules = r; size = n; bytes = b }
 made-whole (passed h t s) e = clash e t
 
+pub made-fits : {l : List Rule} {m : Making} {d : List ℕ} → Made l m d → Small l → m .fits ≡ true
+made-fits (whole h t s r n b) e = t
+made-fits (passed h t s) e = absurd (s e)
+
 pub made-over : {l : List Rule} {m : Making} {d : List ℕ} → Made l m d → m .fits ≡ false → ¬ Small l
 made-over (whole h t s r n b) e = clash t e
 made-over (passed h t s) e = s

@@ -25,3 +25,4 @@ pub mod HeadTables
 pub mod Meeting
 pub mod Walking
 pub mod Answering
+pub mod FirstWalk

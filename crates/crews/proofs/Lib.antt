@@ -1,0 +1,4 @@
+-- The laws of two crews. Read in this order.
+pub mod Moving
+pub mod Reading
+pub mod Logging
