@@ -2,3 +2,5 @@
 pub mod Moving
 pub mod Reading
 pub mod Logging
+pub mod Told
+pub mod Answers
