@@ -33,7 +33,7 @@ from-at i zero s j h = absurd (not-suc-le-zero h)
 from-at i (suc n) s zero h = rw add-zero
 from-at i (suc n) s (suc j) h = rw (add-suc, ← suc-add i j) (from-at (suc i) n s j (le-of-suc-le-suc h))
 
-table-length : (x : Atoms) → length (atomTable x) ≡ 255
+pub table-length : (x : Atoms) → length (atomTable x) ≡ 255
 unfolding atomTable
 table-length x = length-from 0 255 (λ n. x (atomNo n))
 

@@ -56,7 +56,7 @@ not-all-in b s q n a h e f g =
 
 -- ---- bytes and atoms
 
-atoms-bytes : (l : List AtomNo) → map atomNo (atomBytes l) ≡ l
+pub atoms-bytes : (l : List AtomNo) → map atomNo (atomBytes l) ≡ l
 atoms-bytes [] = refl
 atoms-bytes (a ∷ l) = ap (λ m. a ∷ m) (atoms-bytes l)
 

@@ -16,3 +16,6 @@ pub mod AtomSets
 pub mod Bodies
 pub mod Places
 pub mod Asked
+pub mod AtomsFrom
+pub mod Made
+pub mod Joined

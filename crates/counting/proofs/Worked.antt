@@ -9,7 +9,7 @@ use Rattle.meaning.specs.Books.{sameAtom, count, rule, everyRule, someRule}
 use Rattle.meaning.specs.Choice.{ifb, ifLt, ifEq}
 use Rattle.meaning.specs.Colours.{heads, allIn, mayOn, blocked, starved, clashing, uncoloured}
 use Rattle.meaning.specs.Written.{of, addFrom, added}
-use Rattle.meaning.specs.Computed.{iterate, upheld, supportMore, support, goesOff, closeMore, marked, close}
+use Rattle.meaning.specs.Computed.{iterate, upheld, supportMore, support, goesOff, closeMore, marked, stamped, close}
 use Rattle.meaning.specs.Lowest.{oneOr, lowestFrom, lowest, clashed}
 use Rattle.book.specs.Format.{u16At, partOf, andThen, bytesOf, recordOf, lengthOf, ruleOf, recordsOf, rulesOf, ifFine, bodyOf, readOf, bookOf, bookIn}
 use Rattle.walk.specs.Events.{after, eventsIn, events}
@@ -45,7 +45,7 @@ pub four-books : tableOf (bytes fact ∷ bytes choice ∷ bytes contrary ∷ byt
     (row 1 (1 ∷ []) ∷ row 2 (1 ∷ 1 ∷ []) ∷ no-sets ∷ row 1 (1 ∷ 0 ∷ []) ∷ []) (3 ∷ [])
     (record { certain = 2; some = 2; none = 1; atoms = 5 })
 unfolding every some everyBelow someBelow sameAtom count rule everyRule someRule ifb ifLt ifEq heads allIn mayOn blocked starved
-    clashing uncoloured of addFrom added iterate upheld supportMore support goesOff closeMore marked close oneOr lowestFrom lowest clashed
+    clashing uncoloured of addFrom added iterate upheld supportMore support goesOff closeMore marked stamped close oneOr lowestFrom lowest clashed
     u16At partOf andThen bytesOf recordOf lengthOf ruleOf recordsOf rulesOf ifFine bodyOf readOf after eventsIn events readingsIn readings
     standing numbersFrom countIn countRead countOf bookOf bookIn numberBelow totalsFrom totalsWith turnBy turnOf turnsOf withoutFrom tableOf
 four-books = refl
@@ -60,7 +60,7 @@ pub refused-books : tableOf (unread ∷ bytes [] ∷ bytes choice ∷ bytes fact
     (refuse 37 ∷ refuse 1 ∷ refuse 9 ∷ row 1 (1 ∷ []) ∷ []) []
     (record { certain = 1; some = 0; none = 0; atoms = 1 })
 unfolding every some everyBelow someBelow sameAtom count rule everyRule someRule ifb ifLt ifEq heads allIn mayOn blocked starved
-    clashing uncoloured of addFrom added iterate upheld supportMore support goesOff closeMore marked close oneOr lowestFrom lowest clashed
+    clashing uncoloured of addFrom added iterate upheld supportMore support goesOff closeMore marked stamped close oneOr lowestFrom lowest clashed
     u16At partOf andThen bytesOf recordOf lengthOf ruleOf recordsOf rulesOf ifFine bodyOf readOf after eventsIn events readingsIn readings
     standing numbersFrom countIn countRead countOf bookOf bookIn numberBelow totalsFrom totalsWith turnBy turnOf turnsOf withoutFrom tableOf
 refused-books = refl

@@ -19,7 +19,7 @@ use Rattle.walk.specs.Page.{setIn}
 use Rattle.walk.proofs.Rows.{row-length, set-in-row}
 use Rattle.walk.proofs.Readings.{each-once}
 use Rattle.walk.proofs.Needs.{kth-reading, kth-or-fewer}
-use Rattle.writer.proofs.First.{kth-answer}
+use Rattle.walk.proofs.FirstWalk.{kth-answer}
 use Rattle.demands.specs.Engine.{Engine}
 use Rattle.demands.specs.Demand2.{Call, GivesReadings}
 use Rattle.demands.proofs.Calls.{book-fits, readings-same}

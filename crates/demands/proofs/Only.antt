@@ -24,7 +24,7 @@ use Rattle.walk.proofs.Needs.{needs-some}
 use Rattle.writer.specs.PaperNeeds.{paperFor}
 use Rattle.writer.specs.Write.{Handed, paper, lacking, writeOf}
 use Rattle.writer.proofs.PaperNeeds.{paper-needs-some}
-use Rattle.writer.proofs.First.{kth-answer, fewer-none}
+use Rattle.walk.proofs.FirstWalk.{kth-answer, fewer-none}
 use Rattle.checker.specs.Check.{checkOf}
 use Rattle.demands.specs.Engine.{Engine, ours}
 use Rattle.demands.specs.Damaged.{GoodBook, DamagedBook, DamagedPaper}

@@ -29,7 +29,7 @@ use Rattle.writer.specs.PaperNeeds.{settled, Stuck, to-stuck, to-last, paperFor
 use Rattle.writer.specs.Write.{Handed, paper, lacking, writeIn, writeOf, nameOf, clearOf}
 use Rattle.writer.proofs.PaperNeeds.{stuck-some, paper-needs-one}
 use Rattle.writer.proofs.Papers.{settled-each, unsettled-one, certain-settled}
-use Rattle.writer.proofs.First.{kth-answer}
+use Rattle.walk.proofs.FirstWalk.{kth-answer}
 use Rattle.writer.proofs.Ways.{Nameable}
 use Rattle.writer.proofs.Claiming.{write-writes, write-written, write-lacks, write-lacking, write-too-long}
 use Rattle.checker.specs.Numbers.{accepted, certain, clear}

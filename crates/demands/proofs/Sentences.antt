@@ -30,7 +30,7 @@ use Rattle.walk.proofs.Needs.{kth-count}
 use Rattle.walk.proofs.Demand.{find-set}
 use Rattle.writer.specs.PaperNeeds.{to-last, paperFor}
 use Rattle.writer.specs.Write.{Handed, paper, writeOf}
-use Rattle.writer.proofs.First.{fewer-none}
+use Rattle.walk.proofs.FirstWalk.{fewer-none}
 use Rattle.writer.proofs.Ways.{Found, Settled, Outcome, first-stopped, no-reading, paper-stopped, got-stuck, too-long, handed-over}
 use Rattle.writer.proofs.Ways.{write-outcome}
 use Rattle.checker.specs.Numbers.{accepted}

@@ -19,13 +19,13 @@ use Rattle.book.specs.Format.{u16At, partOf, andThen, bytesOf, recordOf, length
 use Rattle.walk.specs.Events.{after, eventsIn, events}
 use Rattle.meaning.specs.Buffers.{writeAt}
 use Rattle.walk.specs.Run.{rowFrom, rowOf, readingMet, tried, met, run}
-use Rattle.walk.specs.Find.{toldBy, findIn, findRead, findOf}
+use Rattle.walk.specs.Find.{toldBy, findIn, findRead, findOf, firstWalk}
 use Rattle.walk.specs.Page.{setIn}
 use Rattle.writer.specs.Branches.{behind, branchBy, branchIn, branch, below, branchesIn, branches}
 use Rattle.writer.specs.Scan.{courseAt, scan}
 use Rattle.writer.specs.Scan.{met as branchMet}
 use Rattle.writer.specs.PaperNeeds.{wholePaper}
-use Rattle.writer.specs.Write.{lacking, firstWalk, paperWalk, handOver, afterPaperWalk, afterFirstWalk, writeIn, writeRead, writeOf}
+use Rattle.writer.specs.Write.{lacking, paperWalk, handOver, afterPaperWalk, afterFirstWalk, writeIn, writeRead, writeOf}
 use Rattle.checker.specs.Steps.{withRule, properList, withList, stepBy, stepOf}
 use Rattle.checker.specs.Branches.{afterStep, branchOf}
 use Rattle.checker.specs.Branches.{andThen as branchThen}

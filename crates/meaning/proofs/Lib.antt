@@ -28,6 +28,9 @@ pub mod WellFounded
 pub mod Engine
 pub mod Listing
 pub mod PaperCases
+pub mod Parts
+pub mod Joined
 pub mod Readings
 pub mod Cases
 pub mod WellFoundedCases
+pub mod JoinedCases

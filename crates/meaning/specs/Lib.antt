@@ -13,3 +13,4 @@ pub mod Lowest
 pub mod Engine
 pub mod Told
 pub mod Buffers
+pub mod Joined

@@ -29,3 +29,4 @@ pub mod Walking
 pub mod Descending
 pub mod Answering
 pub mod Leveled
+pub mod FirstWalk

@@ -3,9 +3,10 @@
 --
 --   told             an answer's number and values, case by case
 --   findOf book k limit answer   the answer and the buffer, of the bytes of the book and of the buffer before
+--   firstWalk b limit            the walk to answer set 1, for whoever needs no more than that there is one
 use mathlib.Core.List.{List}
 use Prim.Native.Nat.{ℕ, _-_}
-use lib.ListN.{length}
+use lib.ListN.{length, replicate}
 use Rattle.meaning.specs.Books.{ruleNo, Book}
 use Rattle.meaning.specs.Written.{nothing}
 use Rattle.meaning.specs.Choice.{ifLt, ifEq}
@@ -59,3 +60,6 @@ findRead (bad i at) k limit answer = record { told = refusedAt i at; buffer = an
 
 unfoldable pub findOf : List ℕ → ℕ → ℕ → List ℕ → Answered ℕ
 findOf book k limit answer = findRead (readOf book) k limit answer
+
+unfoldable pub firstWalk : Book → ℕ → State
+firstWalk b limit = run b (record { pass = 0; room = 1; limit = limit }) (startOf (replicate 255 0)) (events b nothing)

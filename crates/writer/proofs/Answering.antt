@@ -26,10 +26,11 @@ use Rattle.walk.specs.Run.{State}
 use Rattle.walk.specs.Page.{setIn}
 use Rattle.walk.specs.declared.tally.Tally.{Tally}
 use Rattle.walk.specs.declared.tally.Halt.the-variants.{Going, Full, Limit}
+use Rattle.walk.specs.Find.{firstWalk}
 use Rattle.writer.specs.Branches.{branches}
 use Rattle.writer.specs.Scan.{Progress, writing, scan}
 use Rattle.writer.specs.PaperNeeds.{wholePaper}
-use Rattle.writer.specs.Write.{Handed, lacking, firstWalk, paperWalk, handOver, afterPaperWalk}
+use Rattle.writer.specs.Write.{Handed, lacking, paperWalk, handOver, afterPaperWalk}
 use Rattle.writer.specs.Write.{afterFirstWalk, writeIn, writeRead, writeOf}
 use Rattle.writer.specs.Draft.{whole, courseOf, Stage}
 use Rattle.writer.specs.declared.split.Course.the-variants.{Writing, Limited, Refuted}

@@ -22,10 +22,11 @@ use Rattle.walk.specs.Events.{after, eventsIn, events}
 use Rattle.meaning.specs.Buffers.{writeAt}
 use Rattle.walk.specs.Run.{rowFrom, rowOf, readingMet, tried, met as eventMet, run}
 use Rattle.walk.specs.Page.{setIn}
+use Rattle.walk.specs.Find.{firstWalk}
 use Rattle.writer.specs.Branches.{behind, branchBy, branchIn, branch, below, branchesIn, branches}
 use Rattle.writer.specs.Scan.{courseAt, met, scan}
 use Rattle.writer.specs.PaperNeeds.{wholePaper}
-use Rattle.writer.specs.Write.{paper, firstWalk, paperWalk, handOver, afterPaperWalk}
+use Rattle.writer.specs.Write.{paper, paperWalk, handOver, afterPaperWalk}
 use Rattle.writer.specs.Write.{lacking, afterFirstWalk, writeIn, writeRead, writeOf, nameOf, clearOf}
 
 -- "Fact 0: 00 00 00 | 00 00 | 01 01 03 00 52 42"

@@ -30,7 +30,7 @@ use Rattle.writer.specs.PaperNeeds.{settled, Stuck, PaperNeeds, to-stuck
 use Rattle.writer.specs.Write.{Handed, paper, lacking, writeIn}
 use Rattle.writer.proofs.PaperNeeds.{stuck-unsettled, paper-needs-one}
 use Rattle.writer.proofs.Papers.{settled-each, unsettled-one, certain-settled, paper-keeps}
-use Rattle.writer.proofs.First.{kth-answer, fewer-none}
+use Rattle.walk.proofs.FirstWalk.{kth-answer, fewer-none}
 use Rattle.writer.proofs.Ways.{Nameable, written, Found, Settled, TooLong, Outcome, first-stopped, no-reading, paper-stopped}
 use Rattle.writer.proofs.Ways.{got-stuck, too-long, handed-over, way-first-stopped, way-no-reading, way-paper-stopped, way-stuck}
 use Rattle.writer.proofs.Ways.{way-too-long, way-paper, write-outcome}

@@ -4,7 +4,6 @@ pub mod Scan
 pub mod PaperNeeds
 pub mod Papers
 pub mod Stages
-pub mod First
 pub mod Ways
 pub mod Claiming
 pub mod Told

@@ -27,13 +27,14 @@ use Rattle.walk.specs.Tries.{Needs}
 use Rattle.walk.specs.Page.{setIn}
 use Rattle.walk.specs.declared.tally.Halt.the-variants.{Full}
 use Rattle.walk.proofs.Needs.{kth-or-fewer}
+use Rattle.walk.specs.Find.{firstWalk}
 use Rattle.writer.specs.Branches.{branches}
 use Rattle.writer.specs.PaperNeeds.{settled, Stuck, PaperNeeds, to-stuck, paperFor, to-last}
-use Rattle.writer.specs.Write.{Handed, paper, firstWalk, paperWalk, handOver}
+use Rattle.writer.specs.Write.{Handed, paper, paperWalk, handOver}
 use Rattle.writer.specs.Write.{lacking, afterPaperWalk, afterFirstWalk, writeIn}
 use Rattle.writer.proofs.PaperNeeds.{stuck-some, paper-limited, paper-stuck, paper-written}
 use Rattle.writer.proofs.Stages.{only, hand-no-room, hand-long, hand-over}
-use Rattle.writer.proofs.First.{set-in-first, kth-answer, first-limited, first-none, first-found}
+use Rattle.walk.proofs.FirstWalk.{set-in-first, kth-answer, first-limited, first-none, first-found}
 
 -- a book within the bounds of the format whose heads are its atoms, and a claim of one of its atoms
 pub record Nameable (b : Book) (k : Claim) : Type 0 where

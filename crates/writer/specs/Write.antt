@@ -8,7 +8,7 @@
 --   nameOf, clearOf  the same, for a claim of one kind
 use mathlib.Core.List.{List, []}
 use Prim.Native.Nat.{ℕ}
-use lib.ListN.{length, replicate}
+use lib.ListN.{length}
 use Rattle.meaning.specs.declared.AtomNo.{AtomNo}
 use Rattle.meaning.specs.Books.{Book}
 use Rattle.meaning.specs.Colours.{start}
@@ -16,16 +16,14 @@ use Rattle.meaning.specs.declared.kind.Kind.{Kind}
 use Rattle.meaning.specs.declared.kind.Kind.the-variants.{Naming, Clearing}
 use Rattle.meaning.specs.declared.kind.Claim.{Claim}
 use Rattle.meaning.specs.Claim.{named, cleared, claimed}
-use Rattle.meaning.specs.Written.{nothing}
 use Rattle.meaning.specs.Choice.{ifLt}
 use Rattle.meaning.specs.Told.{Told, success, refusedAt, refused, fewer, stopped, Answered}
 use Rattle.meaning.specs.Paper.{paperBytes}
 use Rattle.book.specs.Numbers.{numberOf, placeOf}
 use Rattle.book.specs.Format.{BookRead, good, bad, readOf}
-use Rattle.walk.specs.Events.{events}
 use Rattle.meaning.specs.Buffers.{writeAt}
-use Rattle.walk.specs.Run.{State, run}
-use Rattle.walk.specs.Find.{startOf}
+use Rattle.walk.specs.Run.{State}
+use Rattle.walk.specs.Find.{firstWalk}
 use Rattle.walk.specs.Page.{setIn}
 use Rattle.walk.specs.declared.tally.Halt.{Halt}
 use Rattle.walk.specs.declared.tally.Halt.the-variants.{Going, Full, Limit}
@@ -58,10 +56,6 @@ told TooLong = refused 14
 unfoldable pub lacking : Kind → ℕ
 lacking Naming = 12
 lacking Clearing = 18
-
--- the walk to answer set 1
-unfoldable pub firstWalk : Book → ℕ → State
-firstWalk b limit = run b (record { pass = 0; room = 1; limit = limit }) (startOf (replicate 255 0)) (events b nothing)
 
 -- the paper's walk
 unfoldable pub paperWalk : Book → Claim → ℕ → Progress

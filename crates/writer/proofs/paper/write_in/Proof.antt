@@ -7,7 +7,8 @@ use Rattle.meaning.specs.Claim.{claimed}
 use Rattle.book.specs.Format.{bookIn}
 use Rattle.book.proofs.Places.{shape-atoms}
 use Rattle.walk.specs.declared.tally.Halt.the-variants.{Full}
-use Rattle.writer.specs.Write.{firstWalk, paperWalk}
+use Rattle.walk.specs.Find.{firstWalk}
+use Rattle.writer.specs.Write.{paperWalk}
 use Rattle.writer.specs.Draft.{Stage}
 use Rattle.writer.proofs.Drafts.{stands-most}
 use Rattle.writer.proofs.Handing.{stands-long}

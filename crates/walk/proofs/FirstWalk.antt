@@ -1,4 +1,4 @@
--- The walk to answer set 1, as naming makes it (document 01, "then answer set 1 with limit L"): how it ends, and that the set is read back
+-- The walk to answer set 1, as naming and the log make it (document 01, "then answer set 1 with limit L"): how it ends, and that the set is read back
 -- from the row that it leaves.
 use mathlib.Core.Path.{_≡_, refl, sym, _∙_, ap, fun-ext}
 use mathlib.Core.List.{List, [], _∷_, _++_, List·Memᴰ, List·Memᴰ·head, List·Memᴰ·not-nil, Memᴰ·append-right}
@@ -12,18 +12,17 @@ use Rattle.meaning.specs.Told.{Told, fewer, stopped, Answered}
 use Rattle.meaning.specs.Written.{nothing}
 use Rattle.meaning.proofs.Choice.{lt-no, eq-no}
 use Rattle.meaning.proofs.LeastModel.{Inside}
 use Rattle.walk.specs.Events.{events}
 use Rattle.walk.specs.Readings.{readingsIn, readings}
 use Rattle.walk.specs.Tries.{Kth, Needs, lastClash}
 use Rattle.walk.specs.Run.{rowOf, State}
-use Rattle.walk.specs.Find.{set, toldBy, answeredBy, findIn}
+use Rattle.walk.specs.Find.{set, toldBy, answeredBy, findIn, firstWalk}
 use Rattle.walk.specs.Page.{setIn}
 use Rattle.walk.specs.declared.tally.Halt.{Halt}
 use Rattle.walk.specs.declared.tally.Halt.the-variants.{Going, Full, Limit}
 use Rattle.walk.proofs.Readings.{readings-append, readings-all}
 use Rattle.walk.proofs.Rows.{set-in-row}
 use Rattle.walk.proofs.Demand.{find-set, find-stopped, find-fewer, find-row}
-use Rattle.writer.specs.Write.{firstWalk}
 
 -- two answers that differ in their kind
 kinds : {A : Type 0} → _≡_ {A = ℕ} 0 1 → A
