@@ -75,7 +75,7 @@ ascends-first x (z ∷ l) e y m =
     ⊎-elim (λ p. omega (arith, next)) (λ k. omega (arith, next, ascends-first z l (ascends-after x (z ∷ l) e) y k)) (List·Memᴰ·cases-cons m)
   where
     next : x < z
-    next = ltb-true x z (left _ _ e)
+    next = ltb-true x z (and-left _ _ e)
 
 from-fine : (n at least : ℕ) (l : List ℕ) → partOf n at least l ≡ fine → From least l × PartFine n l
 unfolding partOf ascending
