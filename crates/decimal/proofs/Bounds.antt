@@ -14,7 +14,7 @@ pub data UpTo (most : ℕ) : Digits → Type 0 where
   value : {v : ℕ} → v ≤ most → UpTo most (Value v)
   nothing : UpTo most Nothing
 
-value-one : (u v : ℕ) → Value u ≡ Value v → u ≡ v
+pub value-one : (u v : ℕ) → Value u ≡ Value v → u ≡ v
 value-one u v e = cc
 
 pub value-bound : (most v : ℕ) (l : List ℕ) → v ≤ most → UpTo most (valueFrom most v l)

@@ -1,7 +1,11 @@
-// Decimal numbers read from digits, up to a bound that the caller names. Stands on meaning, whose
-// choices its definitions go by.
+// Decimal numbers, read from digits up to a bound that the caller names, and written. Stands on
+// meaning, whose choices its definitions go by.
 ghost use mathlib.Core.Path.{_≡_};
 ghost use Rattle.decimal.specs.Digits.{valueFrom, plainOf};
+
+mod writing;
+
+pub use writing::put_number;
 
 pub enum Digits {
     Value(u64),
