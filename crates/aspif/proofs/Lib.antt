@@ -1,0 +1,3 @@
+-- The laws of a book's text.
+pub mod Pieces
+pub mod Lines

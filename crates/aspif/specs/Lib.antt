@@ -1,0 +1,3 @@
+-- A book as a text for other solvers. Read in this order.
+pub mod Text
+pub mod Reading

@@ -1,0 +1,1 @@
+// A book as a text for other solvers, and back.
