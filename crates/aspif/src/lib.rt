@@ -1,1 +1,11 @@
 // A book as a text for other solvers, and back.
+
+mod answer;
+mod lines;
+mod scan;
+mod write;
+
+pub use answer::Exported;
+pub use answer::Restored;
+pub use write::TEXT_ROOM;
+pub use write::export;

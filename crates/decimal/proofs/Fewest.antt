@@ -4,8 +4,8 @@ use mathlib.Core.List.{List, [], _∷_, _++_}
 use Prim.Native.Nat.{ℕ, zero, suc, _+_, _*_, _^_, _/_, _%_, _<_, _≤_}
 use native.Mathlib.Nat.{add-zero, add-suc, suc-add, pow-succ'}
 use native.Mathlib.Omega.{arith}
-use lib.ListN.{length, getD, set, length-append, List·getD-append}
-use lib.Seq.{sets, length-sets}
+use lib.ListN.{length, getD, set, length-append, length-set, List·getD-append}
+use lib.Seq.{sets}
 use Rattle.meaning.proofs.Choice.{lt-yes, lt-no, lt-either}
 use Rattle.decimal.specs.Fewest.{decimalFor, decimal, Stored}
 
@@ -96,16 +96,14 @@ sets-append [] m d at = rw add-zero
 sets-append (x ∷ l) m d at = rw (add-suc, ← suc-add) (sets-append l m (set d at x) (suc at))
 
 pub stored-nil : (at : ℕ) (d : List ℕ) → Stored [] at d at d
-stored-nil at d = record { ends = sym (add-zero at); bytes = refl }
+stored-nil at d = record { ends = sym (add-zero at); long = refl; bytes = refl }
 
 pub stored-then : {l m d e f : List ℕ} {at n k : ℕ} → Stored l at d n e → Stored m n e k f → Stored (l ++ m) at d k f
 stored-then {l} {m} {d} {at = at} s t = record {
   ends = rw length-append (omega (arith, s .ends, t .ends));
+  long = t .long ∙ s .long;
   bytes = t .bytes ∙ rw (s .bytes, s .ends) (sets-append l m d at);
 }
 
-pub stored-long : {l d e : List ℕ} {at n : ℕ} → Stored l at d n e → length e ≡ length d
-stored-long {l} {d} {at = at} s = rw (s .bytes) (length-sets d at l)
-
 pub stored-one : (d : List ℕ) (at x : ℕ) → Stored (x ∷ []) at d (at + 1) (set d at x)
-stored-one d at x = record { ends = refl; bytes = refl }
+stored-one d at x = record { ends = refl; long = length-set d at x; bytes = refl }

@@ -20,4 +20,5 @@ decimal n = decimalFor n n
 
 pub record Stored (l : List ℕ) (at : ℕ) (before : List ℕ) (n : ℕ) (after : List ℕ) : Type 0 where
   pub ends : n ≡ at + length l
+  pub long : length after ≡ length before
   pub bytes : after ≡ sets before at l

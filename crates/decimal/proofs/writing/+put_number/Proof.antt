@@ -4,7 +4,7 @@ use borrow.Author.Needs.{needs}
 use borrow.Fn.Kinds.{In}
 use borrow.Fn.PlainCycle.{Measures, is, falls, and}
 use native.Mathlib.Omega.{arith}
-use Rattle.decimal.proofs.Fewest.{decimal-small, decimal-large, decimal-longer, decimal-some, stored-then, stored-one, stored-long}
+use Rattle.decimal.proofs.Fewest.{decimal-small, decimal-large, decimal-longer, decimal-some, stored-then, stored-one}
 use Rattle.decimal.proofs.writing.put_number.Reads as put-number
 use Rattle.decimal.proofs.writing.put_number.Kinds as kinds
 use Rattle.decimal.proofs.writing.+put_number.Lts-put_number as lts
@@ -38,13 +38,13 @@ module _ (t : ℕ) where
   write-large c =
       let s = c .before .before .before .before .before .before in
       let w = c .before .before .put-number .ensures in
-      omega (arith, decimal-longer (s .args .n) (omega arith), stored-long w, w .ends)
+      omega (arith, decimal-longer (s .args .n) (omega arith), w .long, w .ends)
 
   add-result : lts.Need-add-result-2 calls here put-number.Post
   add-result c =
       let s = c .before .before .before .before .before .before in
       let w = c .before .before .put-number .ensures in
-      omega (arith, decimal-longer (s .args .n) (omega arith), stored-long w, w .ends)
+      omega (arith, decimal-longer (s .args .n) (omega arith), w .long, w .ends)
 
   returns-2 : lts.Need-returns-2 calls here put-number.Post
   returns-2 c =
