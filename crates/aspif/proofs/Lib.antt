@@ -7,3 +7,4 @@ pub mod Scanned
 pub mod LinesStored
 pub mod Short
 pub mod Answering
+pub mod Gathered

@@ -3,3 +3,4 @@ pub mod Text
 pub mod Reading
 pub mod Scanning
 pub mod Handing
+pub mod Gathering

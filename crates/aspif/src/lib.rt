@@ -2,6 +2,7 @@
 
 mod answer;
 mod lines;
+mod part;
 mod scan;
 mod write;
 
