@@ -12,17 +12,17 @@ use lib.ListN.{length, getD, set, replicate, drop, length-append, length-drop, l
 use lib.Seq.{getD-set-same, getD-set-other}
 use Rattle.meaning.specs.declared.AtomNo.{AtomNo}
 use Rattle.meaning.specs.Sets.{_∈_, ascending}
-use Rattle.meaning.specs.Books.{atomNo}
+use Rattle.meaning.specs.Books.{atomNo, Rule}
 use Rattle.meaning.proofs.Choice.{lt-either, eq-either}
 use Rattle.book.specs.Writing.{atomBytes}
-use Rattle.book.specs.Making.{saidOf, listed, SmallPart}
+use Rattle.book.specs.Making.{saidOf, listed, ruleBy, SmallPart, SmallRule}
 use Rattle.book.proofs.AtomsFrom.{atoms-of}
 use Rattle.aspif.specs.declared.part.Part.{Part}
 use Rattle.aspif.specs.declared.scan.Number.{Number}
 use Rattle.aspif.specs.declared.scan.Number.the-variants.{Value, Outside}
 use Rattle.aspif.specs.Reading.{Got, got, outside, onGot, itemIn, partIn, wholePart, topAtom}
 use Rattle.aspif.specs.Scanning.{seen, Behind}
-use Rattle.aspif.specs.Gathering.{Held, held, beyond, PartSeen}
+use Rattle.aspif.specs.Gathering.{Held, held, beyond, Rises, PartSeen}
 use Rattle.aspif.proofs.Pieces.{on-got, on-outside, item-back}
 use Rattle.aspif.proofs.Scanned.{behind}
 
@@ -130,7 +130,7 @@ module _ (s sign : List ℕ) (at : ℕ) where
       ahead = omega (arith, g .ahead);
       inside = g .inside;
       count = g .counted;
-      few = omega (arith, g .ahead);
+      few = g .ahead;
       top = g .top-is;
       table = g .table;
     }
@@ -159,3 +159,19 @@ module _ (s sign : List ℕ) (at : ℕ) where
             top-most = p;
             table = k (g .acc) (g .table);
           }
+
+-- ---- a rule kept
+
+module _ (head : ℕ) (p q : List AtomNo) where
+  pub over-pos : {x : Bool} {t : List Bool} → x ≡ false → Held p x t → ¬ SmallRule (record { head = atomNo (head - 1); pos = p; neg = q })
+  over-pos e h k = held-passed (rw e at h) (k .pos)
+
+  pub over-neg : {x : Bool} {t : List Bool} → x ≡ false → Held q x t → ¬ SmallRule (record { head = atomNo (head - 1); pos = p; neg = q })
+  over-neg e h k = held-passed (rw e at h) (k .neg)
+
+  pub over-head : 255 < head → ¬ SmallRule (record { head = atomNo (head - 1); pos = p; neg = q })
+  over-head h k = omega (arith, k .head)
+
+  pub rule-kept : {x y : Bool} {t u : List Bool} → x ≡ true → y ≡ true → Rises p → Held p x t → Rises q → Held q y u
+      → ruleBy (atomNo (head - 1)) t u ≡ record { head = atomNo (head - 1); pos = p; neg = q }
+  rule-kept e f a h b k = rw (held-listed (rw e at h) a, held-listed (rw f at k) b)

@@ -8,3 +8,4 @@ pub mod LinesStored
 pub mod Short
 pub mod Answering
 pub mod Gathered
+pub mod Lined

@@ -15,6 +15,11 @@ use Rattle.meaning.specs.declared.AtomNo.{AtomNo}
 use Rattle.meaning.specs.Books.{atomNo, Rule, Book}
 use Rattle.meaning.specs.Choice.{ifEq}
 use Rattle.meaning.proofs.Choice.{eq-yes, eq-no, eq-either}
+use Rattle.meaning.specs.Sets.{ascending}
+use Rattle.meaning.proofs.Tests.{both}
+use borrow.Author.Tests.{lt-ltb}
+use mathlib.Core.Bool.{true}
+use Rattle.book.specs.Writing.{atomBytes}
 use Rattle.decimal.specs.Fewest.{decimal}
 use Rattle.aspif.specs.Text.{opening, normal, plus, minus, lineEnd, partBytes, bodyBytes, ruleLine, ruleLines, outputLine, outputLines}
 use Rattle.aspif.specs.Reading.{Got, got, outside, onGot, skip, digitCount, itemIn, partIn, wholePart, bodyIn, ruleIn, rulesIn, outputsIn}
@@ -299,3 +304,16 @@ outputs-back (suc f) k l x rest e = by-line (outputs-back f (suc k)) (skip (outp
         let (h, b) = below j x rest e in
         let g : x - k ≡ suc (x - suc k) = omega arith in
         (omega arith, skip-back (outputLine k) l j u i ∙ rw (g, append-assoc) (ap (λ m. outputLine k ++ m) b))
+
+-- ---- parts ascend
+
+-- the first of a climbing list is at least so much
+pub climbs-rise : {least : ℕ} {l : List AtomNo} → Climbs least l → ascending (atomBytes l) ≡ true
+unfolding ascending
+climbs-rise none = refl
+climbs-rise (more h none) = refl
+climbs-rise (more {a = a} h (more {a = b} g c)) = both (lt-ltb (a .0) (b .0) (omega arith)) (climbs-rise (more {a = b} g c))
+
+pub part-rises : (most : ℕ) (sign : List ℕ) (f : ℕ) (l : List ℕ) (x : List AtomNo) (r : List ℕ) → partIn f most sign [] 1 l ≡ got x r
+    → ascending (atomBytes x) ≡ true
+part-rises most sign f l x r e = let b = part-back most sign f [] 1 l x r (omega arith) e in rw (b .whole) (climbs-rise (b .climbs))

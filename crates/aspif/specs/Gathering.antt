@@ -5,10 +5,11 @@
 use mathlib.Core.Path.{_≡_}
 use mathlib.Core.Bool.{Bool, true, false}
 use mathlib.Core.List.{List, List·Memᴰ}
-use Prim.Native.Nat.{ℕ, _<_, _≤_}
+use Prim.Native.Nat.{ℕ, _+_, _<_, _≤_}
 use lib.ListN.{length, drop}
 use Rattle.meaning.specs.declared.AtomNo.{AtomNo}
-use Rattle.meaning.specs.Sets.{_∈_}
+use Rattle.meaning.specs.Sets.{_∈_, ascending}
+use Rattle.book.specs.Writing.{atomBytes}
 use Rattle.book.specs.Making.{saidOf}
 use Rattle.aspif.specs.declared.part.Part.{Part}
 use Rattle.aspif.specs.Reading.{Got, got, wholePart, topAtom}
@@ -18,12 +19,16 @@ pub data Held (l : List AtomNo) : Bool → List Bool → Type 0 where
       → ((a : AtomNo) → a .0 ∈ saidOf t → List·Memᴰ a l) → Held l true t
   beyond : {t : List Bool} {a : AtomNo} → length t ≡ 255 → List·Memᴰ a l → 255 ≤ a .0 → Held l false t
 
+-- each atom is greater than the one before it
+abbrev pub Rises : List AtomNo → Type 0
+Rises l = ascending (atomBytes l) ≡ true
+
 pub record PartSeen (s sign : List ℕ) (at : ℕ) (p : Part) (t : List Bool) : Type 0 where
   pub atoms : List AtomNo
   pub read : wholePart (length s) sign (drop at s) ≡ got atoms (drop (p .next) s)
   pub ahead : at ≤ p .next
   pub inside : p .next ≤ length s
   pub count : p .count ≡ length atoms
-  pub few : p .count ≤ p .next
+  pub few : at + p .count ≤ p .next
   pub top : p .top ≡ topAtom atoms
   pub table : Held atoms (p .small) t

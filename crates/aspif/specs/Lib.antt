@@ -4,3 +4,4 @@ pub mod Reading
 pub mod Scanning
 pub mod Handing
 pub mod Gathering
+pub mod Lining

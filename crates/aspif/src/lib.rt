@@ -3,6 +3,8 @@
 mod answer;
 mod lines;
 mod part;
+mod rule;
+mod rules;
 mod scan;
 mod write;
 
