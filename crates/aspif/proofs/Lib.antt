@@ -9,3 +9,4 @@ pub mod Short
 pub mod Answering
 pub mod Gathered
 pub mod Lined
+pub mod OutputsCounted

@@ -2,6 +2,7 @@
 
 mod answer;
 mod lines;
+mod outputs;
 mod part;
 mod rule;
 mod rules;
