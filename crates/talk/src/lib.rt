@@ -1,15 +1,15 @@
 // What the programs share: words, numbers and bytes taken from a line, files read, and words,
-// numbers, bytes, rules and refusals written to standard output, a line at once. Stands on the answers of
-// book, checker and writer.
+// numbers, bytes, rules and refusals written to standard output, a line at once. Stands on the
+// answers of book, checker and writer, and on decimal.
 //
 // Functions that give a value promise which. Of those that read or write a file no contract can say
 // what they read or write; their comments do.
 
-mod decimal;
 mod file;
 mod hexadecimal;
 mod hints;
 mod line;
+mod numbers;
 mod output;
 mod part;
 mod refusals;
@@ -17,8 +17,6 @@ mod rule;
 mod sentences;
 mod words;
 
-pub use decimal::Number;
-pub use decimal::read_number;
 pub use file::BOOK_ROOM;
 pub use file::PAPER_ROOM;
 pub use file::Taken;
@@ -34,6 +32,8 @@ pub use line::put_bytes;
 pub use line::put_name;
 pub use line::put_number;
 pub use line::put_text;
+pub use numbers::Number;
+pub use numbers::read_number;
 pub use output::print;
 pub use part::first_bytes;
 pub use refusals::Refused;

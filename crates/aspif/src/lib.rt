@@ -1,0 +1,15 @@
+// A book as a text for other solvers, and back.
+
+mod answer;
+mod lines;
+mod outputs;
+mod part;
+mod rule;
+mod rules;
+mod scan;
+mod write;
+
+pub use answer::Exported;
+pub use answer::Restored;
+pub use write::TEXT_ROOM;
+pub use write::export;
