@@ -2,26 +2,12 @@
 use mathlib.Core.Path.{_≡_}
 use mathlib.Core.Bool.{true, false}
 use mathlib.Core.List.{List}
-use Prim.Native.Nat.{ℕ, _+_, _*_, _-_, _/_, _%_, _<_, _≤_}
+use Prim.Native.Nat.{ℕ, _+_, _*_, _/_, _%_, _<_, _≤_}
 use native.Mathlib.Numerals.{add-one}
 use lib.ListN.{length, getD, set, drop, drop-of-length-le}
 use lib.Seq.{drop-cons}
 use Rattle.meaning.specs.Choice.{ifLt}
-use Rattle.talk.specs.declared.decimal.Number.the-variants.{Value, Nothing}
-use Rattle.talk.specs.Decimal.{valueFrom}
 use Rattle.talk.specs.Hexadecimal.{digitOf, allDigits, byteAt, filled, digitFor, spelled}
-
-module _ (w : List ℕ) (i v : ℕ) where
-  pub value-end : length w ≤ i → valueFrom v (drop i w) ≡ Value v
-  unfolding valueFrom
-  value-end h = rw (drop-of-length-le w h)
-
-  pub value-turn : i < length w → valueFrom v (drop i w)
-      ≡ ifLt (getD w i 0) 48 Nothing
-      (ifLt 57 (getD w i 0) Nothing
-      (ifLt 4294967295 (10 * v + (getD w i 0 - 48)) Nothing (valueFrom (10 * v + (getD w i 0 - 48)) (drop (i + 1) w))))
-  unfolding valueFrom
-  value-turn h = rw (add-one i, drop-cons w i 0 h)
 
 module _ (w : List ℕ) (i : ℕ) where
   pub digits-end : length w ≤ i → allDigits (drop i w) ≡ true

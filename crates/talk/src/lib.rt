@@ -1,23 +1,21 @@
 // What the programs share: words, numbers and bytes taken from a line, files read, and words,
 // numbers, bytes and refusals written to standard output, a line at once. Stands on the answers of
-// book, checker and writer.
+// book, checker and writer, and on decimal.
 //
 // Functions that give a value promise which. Of those that read or write a file no contract can say
 // what they read or write; their comments do.
 
-mod decimal;
 mod file;
 mod hexadecimal;
 mod hints;
 mod line;
+mod numbers;
 mod output;
 mod part;
 mod refusals;
 mod sentences;
 mod words;
 
-pub use decimal::Number;
-pub use decimal::read_number;
 pub use file::BOOK_ROOM;
 pub use file::PAPER_ROOM;
 pub use file::Taken;
@@ -32,6 +30,8 @@ pub use line::put_bytes;
 pub use line::put_name;
 pub use line::put_number;
 pub use line::put_text;
+pub use numbers::Number;
+pub use numbers::read_number;
 pub use output::print;
 pub use part::first_bytes;
 pub use refusals::Refused;

@@ -1,0 +1,2 @@
+-- Numbers written in decimal digits.
+pub mod Digits
