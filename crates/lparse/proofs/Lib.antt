@@ -1,0 +1,3 @@
+-- The laws of the format that need no code. Read in this order.
+pub mod Words
+pub mod Reading

@@ -1,0 +1,3 @@
+-- The format of a grounder's text. Read in this order.
+pub mod Words
+pub mod Reading
