@@ -6,15 +6,17 @@ use Prim.Native.Nat.{ℕ, _-_, _<_, _≤_}
 use native.Mathlib.Omega.{arith}
 use lib.ListN.{length, take, drop}
 use Rattle.meaning.specs.Choice.{ifb}
-use Rattle.meaning.proofs.Choice.{b-yes, b-no, lt-yes, lt-no}
+use Rattle.meaning.proofs.Choice.{b-either, lt-yes, lt-no, lt-either}
 use Rattle.lparse.specs.declared.due.Due.{Due}
+use Rattle.lparse.specs.declared.due.Due.the-variants.{Number, Name, PlusWord, MinusWord, End}
 use Rattle.lparse.specs.declared.due.Said.{Said}
 use Rattle.lparse.specs.declared.due.Move.{Move}
+use Rattle.lparse.specs.declared.due.Move.the-variants.{Goes, Format, Kind as OtherKind}
 use Rattle.lparse.specs.declared.step.Step.{Step}
 use Rattle.lparse.specs.declared.step.Step.the-variants.{Goes as Takes, Format as WrongFormat, Kind as WrongKind, Done}
 use Rattle.lparse.specs.Words.{startOf, endOf, Word, wordAt, wordsAt}
 use Rattle.lparse.specs.Reading.{moveOf, whole, atEnd, stepOf, stepAt, Part, nothingMore, Heard, says, wrong, adding, onMove, heard, heardAt}
-use Rattle.lparse.proofs.Words.{words-none, words-more}
+use Rattle.lparse.proofs.Words.{start-late, word-grows, end-within, words-none, words-more}
 
 module _ (s : List ℕ) (at : ℕ) (due : Due) where
   pub step-none : {r : Step} (start : ℕ) → start ≡ startOf s at → start ≡ length s → r ≡ atEnd due start → r ≡ stepAt s at due
@@ -39,3 +41,65 @@ module _ (s : List ℕ) (at : ℕ) (due : Due) where
       (λ next. heardAt s (endOf s (startOf s at)) next)
   unfolding heardAt heard
   heard-word h = rw (words-more s at h)
+
+-- what is heard, from the step taken
+unfoldable pub byStep : List ℕ → Step → Heard
+byStep s (Takes due said from end) = adding (wordAt s from) said (heardAt s end due)
+byStep s (WrongFormat at) = wrong 30 at
+byStep s (WrongKind at) = wrong 31 at
+byStep s Done = says nothingMore
+
+ended : (s : List ℕ) (due : Due) → ifb (whole due) (says nothingMore) (wrong 30 (length s)) ≡ byStep s (atEnd due (length s))
+unfolding byStep atEnd ifb whole
+ended s (Number role) = refl
+ended s (Name a) = refl
+ended s PlusWord = refl
+ended s MinusWord = refl
+ended s End = refl
+
+moved : (s : List ℕ) (m : Move) (from end : ℕ) →
+    onMove m (wordAt s from) (λ next. heardAt s end next) ≡ byStep s (stepOf m from end)
+unfolding byStep stepOf onMove wordAt
+moved s (Goes due said) from end = refl
+moved s Format from end = refl
+moved s OtherKind from end = refl
+
+pub heard-step : (s : List ℕ) (at : ℕ) (due : Due) → heardAt s at due ≡ byStep s (stepAt s at due)
+unfolding stepAt
+heard-step s at due =
+    lt-either (λ r. heardAt s at due ≡ byStep s r) (startOf s at) (length s) _ _
+    (λ h. heard-word s at due h ∙ moved s _ _ _) (λ h. heard-none s at due h ∙ ended s due)
+
+-- a word that is taken ends behind `at` and within the text
+pub data Ahead (at len : ℕ) : Step → Type 0 where
+  takes : {due : Due} {said : Said} {from end : ℕ} → at ≤ from → from < end → end ≤ len → Ahead at len (Takes due said from end)
+  format : {place : ℕ} → Ahead at len (WrongFormat place)
+  kind : {place : ℕ} → Ahead at len (WrongKind place)
+  done : Ahead at len Done
+
+ahead-end : (at len : ℕ) (due : Due) → Ahead at len (atEnd due len)
+unfolding atEnd
+ahead-end at len due = b-either (Ahead at len) (whole due) _ _ (λ e. done) (λ e. format)
+
+ahead-move : (at len : ℕ) (m : Move) (from end : ℕ) → at ≤ from → from < end → end ≤ len → Ahead at len (stepOf m from end)
+unfolding stepOf
+ahead-move at len (Goes due said) from end f g h = takes f g h
+ahead-move at len Format from end f g h = format
+ahead-move at len OtherKind from end f g h = kind
+
+pub step-ahead : (s : List ℕ) (at : ℕ) (due : Due) → Ahead at (length s) (stepAt s at due)
+unfolding stepAt
+step-ahead s at due =
+    lt-either (Ahead at (length s)) (startOf s at) (length s) _ _
+    (λ h. ahead-move at (length s) _ _ _ (start-late s at) (word-grows s at h) (end-within s _ (omega arith)))
+    (λ h. ahead-end at (length s) due)
+
+-- what the code knows of a word that it took
+pub took-ahead : {at len : ℕ} {r : Step} (due : Due) (said : Said) (from end : ℕ)
+    → Ahead at len r → r ≡ Takes due said from end → (at ≤ from) × (from < end) × (end ≤ len)
+took-ahead due said from end (takes {from = f} {end = g} p q h) e =
+    let a : f ≡ from = cc in
+    let b : g ≡ end = cc in (rw (← a) p, rw (← a, ← b) q, rw (← b) h)
+took-ahead due said from end format e = let z : _≡_ {A = ℕ} 0 1 = cc in absurd (omega arith)
+took-ahead due said from end kind e = let z : _≡_ {A = ℕ} 0 1 = cc in absurd (omega arith)
+took-ahead due said from end done e = let z : _≡_ {A = ℕ} 0 1 = cc in absurd (omega arith)

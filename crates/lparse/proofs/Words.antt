@@ -68,6 +68,17 @@ unfolding span ifb
 span-some [] h e = absurd (omega arith)
 span-some (x ∷ l) h e = rw (outside-parts x ∙ e) (omega arith)
 
+span-within : (q : Quote) (l : List ℕ) → span q l ≤ length l
+unfolding span
+span-within q [] = omega arith
+span-within q (x ∷ l) =
+    b-either (λ n. n ≤ suc (length l)) (ends q x) 0 (suc (span (turned q x) l)) (λ e. omega arith)
+    (λ e. omega (arith, span-within (turned q x) l))
+
+pub end-within : (s : List ℕ) (start : ℕ) → start ≤ length s → endOf s start ≤ length s
+unfolding endOf
+end-within s start h = omega (arith, span-within Outside (drop start s), length-drop start s)
+
 module _ (s : List ℕ) (at : ℕ) where
   pub start-late : at ≤ startOf s at
   unfolding startOf
