@@ -1,3 +1,4 @@
 -- The laws of the format that need no code. Read in this order.
 pub mod Words
 pub mod Reading
+pub mod Phases
