@@ -3,7 +3,8 @@
 -- Document 01, "The rule book".
 use mathlib.Core.Path.{_≡_, refl, _∙_}
 use mathlib.Core.Bool.{true}
-use mathlib.Core.List.{List, [], _∷_, List·Memᴰ, List·Memᴰ·head, List·Memᴰ·tail}
+use mathlib.Core.Logic.{⊎-elim}
+use mathlib.Core.List.{List, [], _∷_, List·Memᴰ, List·Memᴰ·head, List·Memᴰ·tail, List·Memᴰ·not-nil, List·Memᴰ·cases-cons}
 use Prim.Native.Nat.{ℕ, _+_, _≤_, _<_}
 use native.Mathlib.Omega.{arith}
 use lib.ListN.{length, getD}
@@ -62,6 +63,19 @@ ascends-rest : (x : ℕ) (l : List ℕ) → ascending (x ∷ l) ≡ true → Fro
 unfolding ascending
 ascends-rest x [] e = (none, refl)
 ascends-rest x (y ∷ l) e = (some y (omega (arith, ltb-true x y (left _ _ e))), right (ltb x y) _ e)
+
+pub ascends-after : (x : ℕ) (l : List ℕ) → ascending (x ∷ l) ≡ true → ascending l ≡ true
+ascends-after x l e = ascends-rest x l e .1
+
+-- the first number is below all others
+pub ascends-first : (x : ℕ) (l : List ℕ) → ascending (x ∷ l) ≡ true → (y : ℕ) → List·Memᴰ y l → x < y
+unfolding ascending
+ascends-first x [] e y m = absurd (List·Memᴰ·not-nil m)
+ascends-first x (z ∷ l) e y m =
+    ⊎-elim (λ p. omega (arith, next)) (λ k. omega (arith, next, ascends-first z l (ascends-after x (z ∷ l) e) y k)) (List·Memᴰ·cases-cons m)
+  where
+    next : x < z
+    next = ltb-true x z (left _ _ e)
 
 from-fine : (n at least : ℕ) (l : List ℕ) → partOf n at least l ≡ fine → From least l × PartFine n l
 unfolding partOf ascending

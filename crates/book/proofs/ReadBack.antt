@@ -108,22 +108,26 @@ module _ (s : List ℕ) (n index : ℕ) (trailer : List ℕ) where
   rules-read (q ∷ l) r at f =
       rw (entry-here q l r at f, f .part, written-rule q (recordsBytes l), rules-read l (r + 1) _ (left-next q l r at f))
 
-record-short : (n : ℕ) (q : Rule) → RuleFits n q → length (recordBytes q) ≤ 35
-unfolding recordBytes
-record-short n q f = simp (length-append, length-map) (omega (arith, f .pos .short, f .neg .short))
+-- a rule of at most 16 atoms in a part
+abbrev pub Short : Rule → Type 0
+Short q = (length (q .pos) ≤ 16) × (length (q .neg) ≤ 16)
 
-pub records-short : (n : ℕ) (l : List Rule) → ((q : Rule) → List·Memᴰ q l → RuleFits n q) → length (recordsBytes l) ≤ 35 * length l
+record-short : (q : Rule) → Short q → length (recordBytes q) ≤ 35
+unfolding recordBytes
+record-short q (p, n) = simp (length-append, length-map) (omega arith)
+
+pub records-short : (l : List Rule) → ((q : Rule) → List·Memᴰ q l → Short q) → length (recordsBytes l) ≤ 35 * length l
 unfolding recordsBytes
-records-short n [] f = omega arith
-records-short n (q ∷ l) f =
+records-short [] f = omega arith
+records-short (q ∷ l) f =
     omega (
       arith,
       length-append (recordBytes q) (recordsBytes l),
-      record-short n q (f q (List·Memᴰ·head refl)),
-      records-short n l (λ p m. f p (List·Memᴰ·tail m)),
+      record-short q (f q (List·Memᴰ·head refl)),
+      records-short l (λ p m. f p (List·Memᴰ·tail m)),
     )
 
-index-length : (at : ℕ) (l : List Rule) → length (indexBytes at l) ≡ 2 * length l
+pub index-length : (at : ℕ) (l : List Rule) → length (indexBytes at l) ≡ 2 * length l
 unfolding indexBytes
 index-length at [] = refl
 index-length at (q ∷ l) = omega (arith, index-length (at + length (recordBytes q)) l)
@@ -140,7 +144,7 @@ module _ (b : Book) (f : Fits b) where
   abbrev trailer : List ℕ
   trailer = trailerBytes (b .atoms) (count b) index
 
-  book-length : length (bytesOfBook b) ≡ index + 2 * count b + 6
+  pub book-length : length (bytesOfBook b) ≡ index + 2 * count b + 6
   unfolding bytesOfBook trailerBytes count
   book-length = simp (length-append, index-length) (omega arith)
 
@@ -175,11 +179,12 @@ module _ (b : Book) (f : Fits b) where
       let s = bytesOfBook b in
       let n = b .atoms in
       let rules : ruleCount s ≡ count b = trailer-at 1 _ (omega (arith, book-length)) in
+      let short = records-short (b .rules) (λ q m. (f .each q m .pos .short, f .each q m .neg .short)) in
       record {
         framed = record {
           size = record {
             at-least = omega (arith, book-length);
-            at-most = omega (arith, book-length, records-short n (b .rules) (f .each), f .rules);
+            at-most = omega (arith, book-length, short, f .rules);
           };
           mark = mark-read;
           trailer = omega (arith, book-length, start-read);

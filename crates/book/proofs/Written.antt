@@ -64,7 +64,7 @@ trailer-written n k index h g i =
 pub written-bytes : (b : Book) → Fits b → Bytes (bytesOfBook b)
 unfolding bytesOfBook count
 written-bytes b f =
-    let short = records-short (b .atoms) (b .rules) (f .each) in
+    let short = records-short (b .rules) (λ q m. (f .each q m .pos .short, f .each q m .neg .short)) in
     let few = f .rules in
     small-at (both (records-written (b .atoms) (b .rules) (f .atoms) (f .each))
     (both (index-written 0 (b .rules) (omega arith)) (trailer-written (b .atoms) (count b) _ (f .atoms) (f .rules) (omega arith))))

@@ -1,5 +1,5 @@
--- The format, written: the bytes of a book. Document 01, "The rule book". No code writes books yet; the laws say that reading and
--- writing are each other's way back.
+-- The format, written: the bytes of a book. Document 01, "The rule book". The code that writes books is src/making.rt; the laws say that
+-- reading and writing are each other's way back.
 --
 --   Fits b           the book keeps the format's limits
 --   recordBytes r    one record

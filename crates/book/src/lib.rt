@@ -2,6 +2,7 @@
 // of a good book are handed out in place. Stands on meaning.
 
 mod conditions;
+mod making;
 mod number;
 mod part;
 mod reader;
@@ -15,6 +16,10 @@ pub use conditions::goes_on;
 pub use conditions::is_blocked;
 pub use conditions::is_starved;
 pub use conditions::some_in;
+pub use making::Making;
+pub use making::add_rule;
+pub use making::copy_front;
+pub use making::finish_book;
 pub use number::u16_at;
 pub use number::wide;
 pub use reader::Read;
