@@ -2,3 +2,4 @@
 pub mod Words
 pub mod Reading
 pub mod Phases
+pub mod Collecting

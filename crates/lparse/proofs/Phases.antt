@@ -143,8 +143,19 @@ fits-end len PlusWord p e = let z : _≡_ {A = ℕ} 0 1 = cc in absurd (omega ar
 fits-end len MinusWord p e = let z : _≡_ {A = ℕ} 0 1 = cc in absurd (omega arith)
 fits-end len End p e =
     let g : nothingMore ≡ p = cc in
-    rw (← g) (record { behind-plus = record { behind-table = record { behind-rules = record {
-      shut = record { negatives = refl; positives = refl }; no-rule = refl }; no-entry = refl }; no-plus = refl }; no-minus = refl })
+    rw (← g) (record {
+      behind-plus = record {
+        behind-table = record {
+          behind-rules = record {
+            shut = record { negatives = refl; positives = refl };
+            no-rule = refl;
+          };
+          no-entry = refl;
+        };
+        no-plus = refl;
+      };
+      no-minus = refl;
+    })
 
 pub heard-fits : (len : ℕ) (due : Due) (ws : List Word) (p : Part) → heard len due ws ≡ says p → Fits due p
 unfolding heard

@@ -1,3 +1,4 @@
 -- The format of a grounder's text. Read in this order.
 pub mod Words
 pub mod Reading
+pub mod Collect

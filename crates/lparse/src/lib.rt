@@ -3,5 +3,9 @@
 // means, and on book.
 
 mod due;
+mod gather;
 mod step;
 mod word;
+
+pub use gather::Collected;
+pub use gather::collect;
