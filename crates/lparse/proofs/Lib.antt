@@ -2,4 +2,5 @@
 pub mod Words
 pub mod Reading
 pub mod Phases
+pub mod Spelled
 pub mod Collecting

@@ -1,4 +1,5 @@
 -- The format of a grounder's text. Read in this order.
 pub mod Words
 pub mod Reading
+pub mod Says
 pub mod Collect
