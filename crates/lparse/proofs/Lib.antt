@@ -3,4 +3,5 @@ pub mod Words
 pub mod Reading
 pub mod Phases
 pub mod Spelled
+pub mod Heard
 pub mod Collecting

@@ -28,14 +28,14 @@ use Rattle.lparse.specs.Says.{Written, Token, number, name, exactly, ato
 use Rattle.lparse.proofs.Phases.{Open, NoRule, NoTable, NoPlus, NoMinus, Fits, FitsRole, body-open, heard-fits}
 
 -- the tokens of what the rest says, from a rule's start on
-abbrev behindBody : Part → ℕ → List Token
+abbrev pub behindBody : Part → ℕ → List Token
 behindBody p m = rulesTokens (p .rules) ++ (number 0 ∷ behindRules (p .table) (p .plus) (p .minus) m)
 
-abbrev bodyTokens : Part → ℕ → List Token
+abbrev pub bodyTokens : Part → ℕ → List Token
 bodyTokens p m = atomTokens (p .neg) ++ (atomTokens (p .pos) ++ behindBody p m)
 
 -- the tokens that are left where this is due; behind a rule's type and behind an entry's atom, those behind the token that was taken
-unfoldable RestRole : Role → Part → ℕ → List Token → Type 0
+unfoldable pub RestRole : Role → Part → ℕ → List Token → Type 0
 RestRole Kind p m ts = ts ≡ behindBody p m
 RestRole Head p m ts = number 1 ∷ ts ≡ behindBody p m
 RestRole Literals p m ts =
@@ -48,14 +48,14 @@ RestRole Plus p m ts = ts ≡ plusTokens (p .plus) (p .minus) m
 RestRole Minus p m ts = ts ≡ minusTokens (p .minus) m
 RestRole Models p m ts = ts ≡ number m ∷ []
 
-unfoldable Rest : Due → Part → ℕ → List Token → Type 0
+unfoldable pub Rest : Due → Part → ℕ → List Token → Type 0
 Rest (Number role) p m ts = RestRole role p m ts
 Rest (Name a) p m ts = number (a .0) ∷ ts ≡ behindRules (p .table) (p .plus) (p .minus) m
 Rest PlusWord p m ts = ts ≡ exactly (66 ∷ (43 ∷ [])) ∷ plusTokens (p .plus) (p .minus) m
 Rest MinusWord p m ts = ts ≡ exactly (66 ∷ (45 ∷ [])) ∷ minusTokens (p .minus) m
 Rest End p m ts = ts ≡ []
 
-nothing : (l : List TextAtom) → length l ≡ 0 → l ≡ []
+pub nothing : (l : List TextAtom) → length l ≡ 0 → l ≡ []
 nothing [] e = refl
 nothing (a ∷ l) e = absurd (omega arith)
 
@@ -68,7 +68,7 @@ body-rest i j p m ts o =
     (λ f t. rw (nothing (p .neg) (o .negatives ∙ e), nothing (p .pos) (o .positives ∙ f)) t)
     (λ f t. t)) (λ e t. t)
 
-head-tokens : (a : TextAtom) (pos neg : List TextAtom) (l : List TextRule) (ts : List Token) →
+pub head-tokens : (a : TextAtom) (pos neg : List TextAtom) (l : List TextRule) (ts : List Token) →
     rulesTokens (basic a pos neg ∷ l) ++ ts
     ≡ number 1 ∷ (number (a .0) ∷ (number (length neg + length pos) ∷ (number (length neg)
     ∷ (atomTokens neg ++ (atomTokens pos ++ (rulesTokens l ++ ts))))))
