@@ -58,12 +58,12 @@ module _ (a : TextAtom) (l : List TextAtom) where
   unfolding every
   others-one e = and-second (fromOne a) (every fromOne l) e
 
-every-left : (l m : List TextAtom) → every fromOne (l ++ m) ≡ true → every fromOne l ≡ true
+pub every-left : (l m : List TextAtom) → every fromOne (l ++ m) ≡ true → every fromOne l ≡ true
 unfolding every
 every-left [] m e = refl
 every-left (a ∷ l) m e = rw (and-first (fromOne a) (every fromOne (l ++ m)) e) (every-left l m (and-second (fromOne a) (every fromOne (l ++ m)) e))
 
-every-right : (l m : List TextAtom) → every fromOne (l ++ m) ≡ true → every fromOne m ≡ true
+pub every-right : (l m : List TextAtom) → every fromOne (l ++ m) ≡ true → every fromOne m ≡ true
 unfolding every
 every-right [] m e = e
 every-right (a ∷ l) m e = every-right l m (and-second (fromOne a) (every fromOne (l ++ m)) e)

@@ -4,4 +4,5 @@ pub mod Reading
 pub mod Phases
 pub mod Spelled
 pub mod Heard
+pub mod Said
 pub mod Collecting
