@@ -6,3 +6,5 @@ pub mod Spelled
 pub mod Heard
 pub mod Said
 pub mod Collecting
+pub mod Counted
+pub mod Entries

@@ -3,3 +3,4 @@ pub mod Words
 pub mod Reading
 pub mod Says
 pub mod Collect
+pub mod Forming

@@ -3,9 +3,12 @@
 // means, and on book.
 
 mod due;
+mod form;
 mod gather;
+mod numbering;
 mod step;
 mod word;
 
 pub use gather::Collected;
 pub use gather::collect;
+pub use numbering::number_of;
