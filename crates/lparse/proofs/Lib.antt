@@ -8,3 +8,4 @@ pub mod Said
 pub mod Collecting
 pub mod Counted
 pub mod Entries
+pub mod Formed

@@ -1,48 +1,36 @@
+-- A word that says no atom changes nothing; one that says an atom forms the open rule with it, and adds an entry's rule.
+use mathlib.Core.Path.{_≡_, sym, _∙_}
+use native.Mathlib.Omega.{arith}
 use borrow.Author.Needs.{needs}
+use Rattle.lparse.proofs.Formed.{placed-atom, forms-silent, forms-atom}
 use Rattle.lparse.proofs.form.form_said.Statement.{statement}
 use Rattle.lparse.proofs.form.form_said.Tie as tie
-use Rattle.lparse.proofs.form.form_said.Reads as reads
-use Rattle.lparse.proofs.form.form_said.Lts as lts
-use Rattle.lparse.proofs.form.add_entry.Reads as add-entry-reads
-use Rattle.lparse.proofs.form.form_atom.Reads as form-atom-reads
-use Rattle.lparse.proofs.numbering.number_of.Reads as number-of-reads
 
--- src/form.rt:173:26
-enum-told : tie.Need-enum-told
-enum-told c = search needs
-
--- src/form.rt:174:20
-enum-known-said : tie.Need-enum-known-said
-enum-known-said c = search needs
-
--- src/form.rt:175:17
-number-of-requires : tie.Need-number-of-requires
-number-of-requires c κs = search needs
-
--- src/form.rt:176:17
 form-atom-requires : tie.Need-form-atom-requires
-form-atom-requires c κs = ?
+form-atom-requires c κs =
+    let s = c .before .before .before .before .before in
+    let (h, k) = placed-atom (s .args .atoms .now) _ _ (c .before .before .said .given .1) (s .pre) in
+    omega (arith, c .number-of .ensures)
 
--- src/form.rt:182:25
 add-entry-requires : tie.Need-add-entry-requires
-add-entry-requires c κs = ?
+add-entry-requires c κs =
+    let n = c .before .before .before .before .before .before in
+    let s = n .before .before .before .before .before in
+    let (h, k) = placed-atom (s .args .atoms .now) _ _ (n .before .before .said .given .1) (s .pre) in
+    omega (arith, n .number-of .ensures)
 
--- src/form.rt:166:1
 returns : tie.Need-returns
-returns c = ?
+returns c = forms-silent _ _ _ (c .enum-told .given .1)
 
--- src/form.rt:166:1
 returns-2 : tie.Need-returns-2
-returns-2 c = ?
+returns-2 c =
+    let g = c .before .before .before .before .before .before in
+    let n = g .before in
+    let s = n .before .before .before .before .before in
+    forms-atom (s .args .atoms .now) (s .args .f) _ _ (n .before .before .said .given .1) (n .number-of .ensures) (g .form-atom .ensures)
+    (c .add-entry .ensures)
 
 pub form-said-spec : {M : Type 1} → statement M
 form-said-spec =
-    tie.close
-    (tie.spec
-    enum-told
-    enum-known-said
-    number-of-requires
-    form-atom-requires
-    add-entry-requires
-    returns
+    tie.close (tie.spec (λ c. search needs) (λ c. search needs) (λ c κs. search needs) form-atom-requires add-entry-requires returns
     returns-2)
