@@ -29,15 +29,14 @@ use Rattle.lparse.specs.declared.due.Said.{Said}
 use Rattle.lparse.specs.declared.due.Said.the-variants.{Nothing as Silent, Atom}
 use Rattle.lparse.specs.declared.due.Move.{Move}
 use Rattle.lparse.specs.declared.due.Move.the-variants.{Goes, Format, Kind as OtherKind}
-use Rattle.lparse.specs.Words.{startOf, Word, wordAt, wordsAt}
+use Rattle.lparse.specs.Words.{Word, wordAt, wordsAt}
 use Rattle.decimal.specs.declared.Digits.{Digits}
 use Rattle.decimal.specs.declared.Digits.the-variants.{Value, Nothing}
 use Rattle.lparse.specs.declared.step.Step.{Step}
 use Rattle.lparse.specs.declared.step.Step.the-variants.{Goes as Takes, Format as WrongFormat, Kind as WrongKind, Done}
-use Rattle.lparse.specs.Reading.{textAtom, onKind, onAtom, onListed, onNegatives, onNumber, numberIn, onValue, signed, onSign, moveOf, atEnd, stepOf, stepAt, Part, with, withAtom, Heard, says, wrong, adding, heardAt}
-use Rattle.lparse.specs.Reading.{whole as isWhole}
+use Rattle.lparse.specs.Reading.{textAtom, onKind, onAtom, onListed, onNegatives, onNumber, numberIn, onValue, signed, onSign, moveOf, stepAt, Part, with, withAtom, Heard, says, wrong, adding, heardAt}
 use Rattle.lparse.specs.Collect.{textIn, textOf, numbersOf, collected, collectHeard, collectOf, Stands, whole, passed, Notes, atomsSaid}
-use Rattle.lparse.proofs.Reading.{byStep, heard-step}
+use Rattle.lparse.proofs.Reading.{byStep, heard-step, took-move}
 use Rattle.lparse.proofs.Phases.{Open, NoRule, NoTable, NoPlus, Fits, FitsRole, body-open, heard-fits}
 
 -- ---- one atom in the array
@@ -198,8 +197,8 @@ module _ (w : Word) (a : TextAtom) (p : Part) where
       let g = h .behind-rules in
       rw (no-atoms (p .neg) (g .shut .negatives), no-atoms (p .pos) (g .shut .positives), g .no-rule, h .no-entry, f .no-plus)
 
--- so for every move, and so for every step
-unfoldable First : Word → Move → Type 0
+-- so for every move
+unfoldable pub First : Word → Move → Type 0
 First w (Goes next said) = (p : Part) → Fits next p → atomsOf (with w said p) ≡ atomsSaid said ++ atomsOf p
 First w Format = Unit {0}
 First w OtherKind = Unit {0}
@@ -225,7 +224,7 @@ module _ (w : Word) where
   first-value role (Value n) = first-number role n
   first-value role Nothing = tt
 
-  first : (due : Due) (l : List ℕ) → First w (moveOf due l)
+  pub first : (due : Due) (l : List ℕ) → First w (moveOf due l)
   unfolding First Fits FitsRole moveOf onSign with atomsSaid
   first (Number role) l = first-value role (numberIn l)
   first (Name a) l = λ p f. table-first w a p f
@@ -233,32 +232,9 @@ module _ (w : Word) where
   first MinusWord l = b-either (First w) (signed l 45) _ _ (λ e p f. refl) (λ e. tt)
   first End l = tt
 
-unfoldable FirstStep : List ℕ → Step → Type 0
-FirstStep s (Takes next said from end) = First (wordAt s from) (Goes next said)
-FirstStep s (WrongFormat at) = Unit {0}
-FirstStep s (WrongKind at) = Unit {0}
-FirstStep s Done = Unit {0}
-
-first-move : (s : List ℕ) (m : Move) (from end : ℕ) → First (wordAt s from) m → FirstStep s (stepOf m from end)
-unfolding FirstStep stepOf
-first-move s (Goes next said) from end f = f
-first-move s Format from end f = tt
-first-move s OtherKind from end f = tt
-
-first-end : (s : List ℕ) (due : Due) (len : ℕ) → FirstStep s (atEnd due len)
-unfolding FirstStep atEnd
-first-end s due len = b-either (FirstStep s) (isWhole due) _ _ (λ e. tt) (λ e. tt)
-
-first-step : (s : List ℕ) (at : ℕ) (due : Due) → FirstStep s (stepAt s at due)
-unfolding stepAt
-first-step s at due =
-    lt-either (FirstStep s) (startOf s at) (length s) _ _
-    (λ h. first-move s _ _ _ (first (wordAt s (startOf s at)) due (wordAt s (startOf s at) .bytes)))
-    (λ h. first-end s due (length s))
-
 -- ---- the loop: at its start, in a turn, and at its three ends
 
-heard-at-fits : (s : List ℕ) (at : ℕ) (due : Due) (p : Part) → heardAt s at due ≡ says p → Fits due p
+pub heard-at-fits : (s : List ℕ) (at : ℕ) (due : Due) (p : Part) → heardAt s at due ≡ says p → Fits due p
 unfolding heardAt
 heard-at-fits s at due p e = heard-fits (length s) due (wordsAt s at) p e
 
@@ -288,10 +264,10 @@ turn-said seen l w next (Atom a standing) (wrong i at) f fits = refl
 module _ (s seen : List ℕ) (at : ℕ) (due : Due) (l : List TextAtom) {r : Step} (e : r ≡ stepAt s at due) where
   pub gather-turn : (next : Due) (said : Said) (from end : ℕ) → r ≡ Takes next said from end
       → gathered l (heardAt s at due) seen ≡ gathered (distinctFrom l (atomsSaid said)) (heardAt s end next) seen
-  unfolding byStep FirstStep
+  unfolding byStep
   gather-turn next said from end g =
       ap (λ h. gathered l h seen) (heard-step s at due ∙ ap (byStep s) (sym e ∙ g))
-      ∙ turn-said seen l (wordAt s from) next said (heardAt s end next) (rw (sym e ∙ g) at (first-step s at due))
+      ∙ turn-said seen l (wordAt s from) next said (heardAt s end next) (rw (took-move s at due e next said from end g) at (first (wordAt s from) due (wordAt s from .bytes)))
       (heard-at-fits s end next)
 
   pub gather-format : (place : ℕ) → r ≡ WrongFormat place → record { told = refusedAt 30 place; buffer = seen } ≡ gathered l (heardAt s at due) seen

@@ -9,3 +9,5 @@ pub mod Collecting
 pub mod Counted
 pub mod Entries
 pub mod Formed
+pub mod Remaining
+pub mod Turning

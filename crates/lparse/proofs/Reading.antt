@@ -15,7 +15,7 @@ use Rattle.lparse.specs.declared.due.Move.the-variants.{Goes, Format, Ki
 use Rattle.lparse.specs.declared.step.Step.{Step}
 use Rattle.lparse.specs.declared.step.Step.the-variants.{Goes as Takes, Format as WrongFormat, Kind as WrongKind, Done}
 use Rattle.lparse.specs.Words.{startOf, endOf, Word, wordAt, wordsAt}
-use Rattle.lparse.specs.Reading.{moveOf, whole, atEnd, stepOf, stepAt, Part, nothingMore, Heard, says, wrong, adding, onMove, heard, heardAt}
+use Rattle.lparse.specs.Reading.{moveOf, whole, atEnd, stepOf, stepAt, Part, nothingMore, with, Heard, says, wrong, adding, onMove, heard, heardAt}
 use Rattle.lparse.proofs.Words.{start-late, word-grows, end-within, words-none, words-more}
 
 module _ (s : List ℕ) (at : ℕ) (due : Due) where
@@ -103,3 +103,89 @@ took-ahead due said from end (takes {from = f} {end = g} p q h) e =
 took-ahead due said from end format e = let z : _≡_ {A = ℕ} 0 1 = cc in absurd (omega arith)
 took-ahead due said from end kind e = let z : _≡_ {A = ℕ} 0 1 = cc in absurd (omega arith)
 took-ahead due said from end done e = let z : _≡_ {A = ℕ} 0 1 = cc in absurd (omega arith)
+
+-- the move of a word that was taken
+unfoldable MovedTo : List ℕ → Due → Step → Type 0
+MovedTo s due (Takes next said from end) = moveOf due (wordAt s from .bytes) ≡ Goes next said
+MovedTo s due (WrongFormat at) = Unit {0}
+MovedTo s due (WrongKind at) = Unit {0}
+MovedTo s due Done = Unit {0}
+
+moved-by : (s : List ℕ) (due : Due) (m : Move) (from end : ℕ) → moveOf due (wordAt s from .bytes) ≡ m → MovedTo s due (stepOf m from end)
+unfolding MovedTo stepOf
+moved-by s due (Goes next said) from end e = e
+moved-by s due Format from end e = tt
+moved-by s due OtherKind from end e = tt
+
+moved-end : (s : List ℕ) (due : Due) (len : ℕ) → MovedTo s due (atEnd due len)
+unfolding MovedTo atEnd
+moved-end s due len = b-either (MovedTo s due) (whole due) _ _ (λ e. tt) (λ e. tt)
+
+moved-step : (s : List ℕ) (at : ℕ) (due : Due) → MovedTo s due (stepAt s at due)
+unfolding stepAt
+moved-step s at due =
+    lt-either (MovedTo s due) (startOf s at) (length s) _ _ (λ h. moved-by s due _ _ _ refl) (λ h. moved-end s due (length s))
+
+pub took-move : (s : List ℕ) (at : ℕ) (due : Due) {r : Step} → r ≡ stepAt s at due → (next : Due) (said : Said) (from end : ℕ)
+    → r ≡ Takes next said from end → moveOf due (wordAt s from .bytes) ≡ Goes next said
+unfolding MovedTo
+took-move s at due e next said from end g = rw (sym e ∙ g) at (moved-step s at due)
+
+-- what a text says from a place on: what the word taken says, and what is said behind it
+adding-part : (w : Word) (said : Said) (h : Heard) (p : Part) → adding w said h ≡ says p → (q : Part) × (h ≡ says q) × (with w said q ≡ p)
+unfolding adding
+adding-part w said (says q) p e = let g : with w said q ≡ p = cc in (q, refl, g)
+adding-part w said (wrong i at) p e = let z : _≡_ {A = ℕ} 0 1 = cc in absurd (omega arith)
+
+module _ (s : List ℕ) (at : ℕ) (due : Due) {r : Step} (p : Part) (h : heardAt s at due ≡ says p) (e : r ≡ stepAt s at due) where
+  pub took-part : (next : Due) (said : Said) (from end : ℕ) → r ≡ Takes next said from end
+      → (q : Part) × (heardAt s end next ≡ says q) × (with (wordAt s from) said q ≡ p)
+  unfolding byStep
+  took-part next said from end g =
+      adding-part (wordAt s from) said (heardAt s end next) p (sym (heard-step s at due ∙ ap (byStep s) (sym e ∙ g)) ∙ h)
+
+  pub never-format : (place : ℕ) → r ≡ WrongFormat place → ⊥
+  unfolding byStep
+  never-format place g =
+      let k = sym (heard-step s at due ∙ ap (byStep s) (sym e ∙ g)) ∙ h in
+      let z : _≡_ {A = ℕ} 0 1 = cc in omega arith
+
+  pub never-kind : (place : ℕ) → r ≡ WrongKind place → ⊥
+  unfolding byStep
+  never-kind place g =
+      let k = sym (heard-step s at due ∙ ap (byStep s) (sym e ∙ g)) ∙ h in
+      let z : _≡_ {A = ℕ} 0 1 = cc in omega arith
+
+  pub done-part : r ≡ Done → nothingMore ≡ p
+  unfolding byStep
+  done-part g = let k = sym (heard-step s at due ∙ ap (byStep s) (sym e ∙ g)) ∙ h in cc
+
+-- a text ends only where nothing is due any more
+unfoldable EndsAt : Due → Step → Type 0
+EndsAt due (Takes next said from end) = Unit {0}
+EndsAt due (WrongFormat at) = Unit {0}
+EndsAt due (WrongKind at) = Unit {0}
+EndsAt due Done = due ≡ End
+
+ends-move : (due : Due) (m : Move) (from end : ℕ) → EndsAt due (stepOf m from end)
+unfolding EndsAt stepOf
+ends-move due (Goes next said) from end = tt
+ends-move due Format from end = tt
+ends-move due OtherKind from end = tt
+
+ends-whole : (due : Due) (len : ℕ) → EndsAt due (atEnd due len)
+unfolding EndsAt atEnd whole ifb
+ends-whole (Number role) len = tt
+ends-whole (Name a) len = tt
+ends-whole PlusWord len = tt
+ends-whole MinusWord len = tt
+ends-whole End len = refl
+
+ends-step : (s : List ℕ) (at : ℕ) (due : Due) → EndsAt due (stepAt s at due)
+unfolding stepAt
+ends-step s at due =
+    lt-either (EndsAt due) (startOf s at) (length s) _ _ (λ h. ends-move due _ _ _) (λ h. ends-whole due (length s))
+
+pub done-end : (s : List ℕ) (at : ℕ) (due : Due) {r : Step} → r ≡ stepAt s at due → r ≡ Done → due ≡ End
+unfolding EndsAt
+done-end s at due e g = rw (sym e ∙ g) at (ends-step s at due)

@@ -4,3 +4,4 @@ pub mod Reading
 pub mod Says
 pub mod Collect
 pub mod Forming
+pub mod Make

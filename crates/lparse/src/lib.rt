@@ -5,6 +5,7 @@
 mod due;
 mod form;
 mod gather;
+mod importer;
 mod numbering;
 mod step;
 mod word;
