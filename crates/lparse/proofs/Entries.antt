@@ -59,8 +59,11 @@ two-listed n h f k =
     let long = length-set noAtoms n true ∙ length-replicate 255 false in
     atoms-of 0 255 _ (atomNo n ∷ (atomNo h ∷ [])) (rw (lt-ltb n h f))
     (λ a m. ⊎-elim
-    (λ e. rw e (omega arith, omega arith,
-    getD-set-other t h n true false (λ g. omega arith) ∙ getD-set-same noAtoms n true false (omega (arith, length-replicate 255 false))))
+    (λ e. rw e (
+      omega arith,
+      omega arith,
+      getD-set-other t h n true false (λ g. omega arith) ∙ getD-set-same noAtoms n true false (omega (arith, length-replicate 255 false)),
+    ))
     (λ g. ⊎-elim (λ e. rw e (omega arith, omega arith, getD-set-same t h true false (omega (arith, long))))
     (λ z. absurd (List·Memᴰ·not-nil z)) (List·Memᴰ·cases-cons g)) (List·Memᴰ·cases-cons m))
     (λ a e. ⊎-elim (λ g. List·Memᴰ·tail (List·Memᴰ·head (same-atom a h g)))

@@ -55,7 +55,11 @@ module _ (atoms : List ℕ) {said : Said} (f : Forming) (a : TextAtom) (standing
       let k = j ∙ ap (λ n. formedBy f n standing) i in
       rw e (record {
         adds = rw (← i, ← (ap (λ x. x .making) j ∙ formed-making f n standing)) adds;
-        head = ap (λ x. x .head) k; pos = ap (λ x. x .pos) k; neg = ap (λ x. x .neg) k; entry = ap (λ x. x .entry) k })
+        head = ap (λ x. x .head) k;
+        pos = ap (λ x. x .pos) k;
+        neg = ap (λ x. x .neg) k;
+        entry = ap (λ x. x .entry) k;
+      })
 
 module _ (next : Due) {l : List Rule} {g f : Forming} {m : Making} {before after : List ℕ} (w : Forms l g m before f after) where
   pub forms-open : closes next ≡ false → Forms (l ++ ruleClosed next g) g m before f after
@@ -70,4 +74,8 @@ module _ (next : Due) {l : List Rule} {g f : Forming} {m : Making} {before after
       rw (b-yes _ (ruleBy (g .head) (g .pos) (g .neg) ∷ []) [] e)
       (record {
         adds = adds-then (w .adds) (rw (w .head, w .pos, w .neg) at adds);
-        head = w .head; pos = w .pos; neg = w .neg; entry = w .entry })
+        head = w .head;
+        pos = w .pos;
+        neg = w .neg;
+        entry = w .entry;
+      })

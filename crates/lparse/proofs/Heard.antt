@@ -178,8 +178,13 @@ module _ (len : ℕ) (w : Word) (ws : List Word) where
             (atom-move Head Literals InHead (a .0) refl (first-one a _ s) (spelled-value is (token-one g)))
             (later (Number Literals) tt q m ts (tokens-one g) tt
             (record {
-              neg = every-left neg pos c; pos = every-right neg pos c; rules = every-right (neg ++ pos) (rulesAtoms l) b;
-              table = sound .table; plus = sound .plus; minus = sound .minus }) rest)
+              neg = every-left neg pos c;
+              pos = every-right neg pos c;
+              rules = every-right (neg ++ pos) (rulesAtoms l) b;
+              table = sound .table;
+              plus = sound .plus;
+              minus = sound .minus;
+            }) rest)
             (rw (nothing (p .neg) (o .negatives), nothing (p .pos) (o .positives), r))
 
     at-literals : (p : Part) (m : ℕ) (t : Token) (ts : List Token)

@@ -65,29 +65,73 @@ module _ (w : Word) where
       (λ e. eq-either (Keeps w (Number Kind)) n 1 _ _ (λ g h. (tt, λ q s. s)) (λ g. tt))
   keeps-number Head n =
       eq-either (Keeps w (Number Head)) n 0 _ _ (λ e. tt)
-      (λ e h. (tt, λ q s. record {
-        neg = refl; pos = refl; table = s .table; plus = s .plus; minus = s .minus;
-        rules = every-first (textAtom n) ((q .neg ++ q .pos) ++ rulesAtoms (q .rules)) e
-            (every-both (q .neg ++ q .pos) (rulesAtoms (q .rules)) (every-both (q .neg) (q .pos) (s .neg) (s .pos)) (s .rules)) }))
+      (λ e h. (
+        tt,
+        λ q s. record {
+          neg = refl;
+          pos = refl;
+          table = s .table;
+          plus = s .plus;
+          minus = s .minus;
+          rules = every-first (textAtom n) ((q .neg ++ q .pos) ++ rulesAtoms (q .rules)) e
+              (every-both (q .neg ++ q .pos) (rulesAtoms (q .rules)) (every-both (q .neg) (q .pos) (s .neg) (s .pos)) (s .rules));
+        },
+      ))
   keeps-number Literals n = λ h. (tt, λ q s. s)
   keeps-number (Negatives l) n = lt-either (Keeps w (Number (Negatives l))) l n _ _ (λ h. tt) (λ h g. (tt, λ q s. s))
   keeps-number (Negative i j) n =
       eq-either (Keeps w (Number (Negative i j))) n 0 _ _ (λ e. tt)
-      (λ e h. (tt, λ q s. record {
-        neg = every-first (textAtom n) (q .neg) e (s .neg); pos = s .pos; rules = s .rules; table = s .table; plus = s .plus; minus = s .minus }))
+      (λ e h. (
+        tt,
+        λ q s. record {
+          neg = every-first (textAtom n) (q .neg) e (s .neg);
+          pos = s .pos;
+          rules = s .rules;
+          table = s .table;
+          plus = s .plus;
+          minus = s .minus;
+        },
+      ))
   keeps-number (Positive j) n =
       eq-either (Keeps w (Number (Positive j))) n 0 _ _ (λ e. tt)
-      (λ e h. (tt, λ q s. record {
-        neg = s .neg; pos = every-first (textAtom n) (q .pos) e (s .pos); rules = s .rules; table = s .table; plus = s .plus; minus = s .minus }))
+      (λ e h. (
+        tt,
+        λ q s. record {
+          neg = s .neg;
+          pos = every-first (textAtom n) (q .pos) e (s .pos);
+          rules = s .rules;
+          table = s .table;
+          plus = s .plus;
+          minus = s .minus;
+        },
+      ))
   keeps-number Table n = eq-either (Keeps w (Number Table)) n 0 _ _ (λ e h. (tt, λ q s. s)) (λ e h. (e, λ q s. s))
   keeps-number Plus n =
       eq-either (Keeps w (Number Plus)) n 0 _ _ (λ e h. (tt, λ q s. s))
-      (λ e h. (tt, λ q s. record {
-        neg = s .neg; pos = s .pos; rules = s .rules; table = s .table; plus = every-first (textAtom n) (q .plus) e (s .plus); minus = s .minus }))
+      (λ e h. (
+        tt,
+        λ q s. record {
+          neg = s .neg;
+          pos = s .pos;
+          rules = s .rules;
+          table = s .table;
+          plus = every-first (textAtom n) (q .plus) e (s .plus);
+          minus = s .minus;
+        },
+      ))
   keeps-number Minus n =
       eq-either (Keeps w (Number Minus)) n 0 _ _ (λ e h. (tt, λ q s. s))
-      (λ e h. (tt, λ q s. record {
-        neg = s .neg; pos = s .pos; rules = s .rules; table = s .table; plus = s .plus; minus = every-first (textAtom n) (q .minus) e (s .minus) }))
+      (λ e h. (
+        tt,
+        λ q s. record {
+          neg = s .neg;
+          pos = s .pos;
+          rules = s .rules;
+          table = s .table;
+          plus = s .plus;
+          minus = every-first (textAtom n) (q .minus) e (s .minus);
+        },
+      ))
   keeps-number Models n = λ h. (tt, λ q s. s)
 
   keeps-value : (role : Role) (d : Digits) → Keeps w (Number role) (onValue role d)
@@ -98,9 +142,17 @@ module _ (w : Word) where
   keeps : (due : Due) (l : List ℕ) → Keeps w due (moveOf due l)
   unfolding Keeps Proper moveOf onSign with withAtom
   keeps (Number role) l = keeps-value role (numberIn l)
-  keeps (Name a) l = λ h. (tt, λ q s. record {
-    neg = s .neg; pos = s .pos; rules = s .rules; plus = s .plus; minus = s .minus;
-    table = every-first a (map (λ e. e .atom) (q .table)) h (s .table) })
+  keeps (Name a) l = λ h. (
+    tt,
+    λ q s. record {
+      neg = s .neg;
+      pos = s .pos;
+      rules = s .rules;
+      plus = s .plus;
+      minus = s .minus;
+      table = every-first a (map (λ e. e .atom) (q .table)) h (s .table);
+    },
+  )
   keeps PlusWord l = b-either (Keeps w PlusWord) (signed l 43) _ _ (λ e h. (tt, λ q s. s)) (λ e. tt)
   keeps MinusWord l = b-either (Keeps w MinusWord) (signed l 45) _ _ (λ e h. (tt, λ q s. s)) (λ e. tt)
   keeps End l = tt
@@ -162,9 +214,13 @@ says-read s w h =
     let b = every-right (map (λ e. e .atom) (w .table)) (w .plus ++ w .minus) a in
     spelt-text (length s) (words s) (heardAs w) (h .models) (record { negatives = refl; positives = refl })
     (record {
-      neg = refl; pos = refl; rules = every-left (rulesAtoms (w .rules)) _ (h .atoms);
+      neg = refl;
+      pos = refl;
+      rules = every-left (rulesAtoms (w .rules)) _ (h .atoms);
       table = every-left (map (λ e. e .atom) (w .table)) (w .plus ++ w .minus) a;
-      plus = every-left (w .plus) (w .minus) b; minus = every-right (w .plus) (w .minus) b })
+      plus = every-left (w .plus) (w .minus) b;
+      minus = every-right (w .plus) (w .minus) b;
+    })
     (h .spelled)
 
 -- what is read from a whole text has no open rule: it is what the text says and nothing else

@@ -98,8 +98,13 @@ module _ (w : Word) (n : ℕ) (v : numberIn (w .bytes) ≡ Value n) where
       (λ g p m ts f t. record { token = number n; models = m; is = as-number v; rest = rw g t }) (λ g. tt))
   row-number Head =
       eq-either (Row w (Number Head)) n 0 _ _ (λ e. tt)
-      (λ e p m ts f t. record { token = number n; models = m; is = as-number v; rest =
-      ap (λ k. number 1 ∷ (number n ∷ k)) t ∙ sym (head-tokens (textAtom n) (p .pos) (p .neg) (p .rules) _) })
+      (λ e p m ts f t. record {
+        token = number n;
+        models = m;
+        is = as-number v;
+        rest =
+            ap (λ k. number 1 ∷ (number n ∷ k)) t ∙ sym (head-tokens (textAtom n) (p .pos) (p .neg) (p .rules) _);
+      })
   row-number Literals =
       λ p m ts f t. record { token = number n; models = m; is = as-number v; rest = rw (f, t) }
   row-number (Negatives l) =
@@ -154,18 +159,28 @@ row : (w : Word) (due : Due) → Row w due (moveOf due (w .bytes))
 unfolding Row Fits FitsRole Rest RestRole moveOf onSign with withAtom tableTokens behindRules
 row w (Number role) = row-value w role (numberIn (w .bytes)) refl
 row w (Name a) = λ p m ts f t. record {
-  token = name w; models = m; is = as-name; rest = ap (λ k. number (a .0) ∷ (name w ∷ k)) t }
+  token = name w;
+  models = m;
+  is = as-name;
+  rest = ap (λ k. number (a .0) ∷ (name w ∷ k)) t;
+}
 row w PlusWord =
     b-either (Row w PlusWord) (signed (w .bytes) 43) _ _
     (λ e p m ts f t. record {
-      token = exactly (66 ∷ (43 ∷ [])); models = m; is = as-bytes (sign-bytes (w .bytes) 43 e);
-      rest = ap (λ k. exactly (66 ∷ (43 ∷ [])) ∷ k) t })
+      token = exactly (66 ∷ (43 ∷ []));
+      models = m;
+      is = as-bytes (sign-bytes (w .bytes) 43 e);
+      rest = ap (λ k. exactly (66 ∷ (43 ∷ [])) ∷ k) t;
+    })
     (λ e. tt)
 row w MinusWord =
     b-either (Row w MinusWord) (signed (w .bytes) 45) _ _
     (λ e p m ts f t. record {
-      token = exactly (66 ∷ (45 ∷ [])); models = m; is = as-bytes (sign-bytes (w .bytes) 45 e);
-      rest = ap (λ k. exactly (66 ∷ (45 ∷ [])) ∷ k) t })
+      token = exactly (66 ∷ (45 ∷ []));
+      models = m;
+      is = as-bytes (sign-bytes (w .bytes) 45 e);
+      rest = ap (λ k. exactly (66 ∷ (45 ∷ [])) ∷ k) t;
+    })
     (λ e. tt)
 row w End = tt
 

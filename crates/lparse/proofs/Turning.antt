@@ -213,7 +213,9 @@ pub state-start : (p : Part) (f : Forming) (draft : List ℕ) → Made [] (f .ma
     → atomsOf p ≡ mentioned (textOf p) → State (textOf p) (Number Kind) p f draft
 unfolding madeRules madeBook counted inBody bodyRole remaining rulesLeft
 state-start p f draft m e g h a = record {
-  rules = []; pos = []; neg = [];
+  rules = [];
+  pos = [];
+  neg = [];
   made = m;
   pos-table = rw e (tabled-none (textOf p));
   neg-table = rw g (tabled-none (textOf p));
@@ -291,7 +293,8 @@ module _ (t : Text) (atoms : List ℕ) (same : atoms ≡ numbersOf (distinct (me
         let cl = closed-same t next e _ pos neg hs (tabled-listed t _ pos atomsFew pc p) (tabled-listed t _ neg atomsFew nc n) in
         record {
           rules = s .rules ++ (entryOf t said ++ closed t next (headAfter t said (f .head)) pos neg);
-          pos = pos; neg = neg;
+          pos = pos;
+          neg = neg;
           made = rw (entry-same t atoms same said, cl) at (forms .adds .behind (s .rules) (s .made));
           pos-table = rw (forms .pos) p;
           neg-table = rw (forms .neg) n;

@@ -6,8 +6,17 @@ ghost use Prim.Native.Nat.{_<_};
 ghost use lib.ListN.{set};
 ghost use Rattle.book.specs.Making.{Adds};
 ghost use Rattle.lparse.specs.declared.due.Standing.the-variants.{Plus, Minus};
-ghost use Rattle.lparse.specs.Forming.{formedBy, entryRules, opensRule, closes,
-    formedSaid, saidRules, ruleClosed, Forms, Placed};
+ghost use Rattle.lparse.specs.Forming.{
+  formedBy,
+  entryRules,
+  opensRule,
+  closes,
+  formedSaid,
+  saidRules,
+  ruleClosed,
+  Forms,
+  Placed,
+};
 use crate::due::Due;
 use crate::due::Role;
 use crate::due::Said;
