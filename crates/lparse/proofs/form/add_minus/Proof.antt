@@ -1,0 +1,20 @@
+-- The rule for an entry: its tables hold the entry and the helper, and no other atom.
+use mathlib.Core.Path.{ap, sym, _∙_}
+use native.Mathlib.Omega.{arith}
+use borrow.Author.Needs.{needs}
+use Rattle.lparse.proofs.Entries.{minus-passed, minus-added}
+use Rattle.lparse.proofs.form.add_minus.Statement.{statement}
+use Rattle.lparse.proofs.form.add_minus.Tie as tie
+
+returns : tie.Need-returns
+returns c = rw (c .passed .ensures) (minus-passed _ _ _ _ (omega arith))
+
+returns-2 : tie.Need-returns-2
+returns-2 c =
+    let q = c .before .before .before .before in
+    let p = q .before in
+    minus-added _ _ (omega arith) (omega arith) (p .placed .ensures) (q .placed2 .ensures) (c .add-rule .ensures)
+
+pub add-minus-spec : {M : Type 1} → statement M
+add-minus-spec =
+    tie.close (tie.spec (λ c κs. search needs) returns (λ c κs. search needs) (λ c κs. search needs) (λ c. search needs) (λ c κs. search needs) returns-2)

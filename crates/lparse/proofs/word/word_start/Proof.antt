@@ -1,0 +1,47 @@
+-- The start of a word: where the next word starts from here on is where it starts from `at` on.
+use mathlib.Core.Path.{_≡_, refl, sym, _∙_}
+use Prim.Native.Nat.{_-_, _≤_}
+use native.Mathlib.Omega.{arith}
+use lib.ListN.{length}
+use borrow.Author.Needs.{needs}
+use borrow.Author.Tests.{not-true, not-false}
+use Rattle.lparse.specs.Words.{startOf}
+use Rattle.lparse.proofs.Words.{start-end, start-here, start-turn}
+use Rattle.lparse.proofs.word.word_start.Statement.{statement}
+use Rattle.lparse.proofs.word.word_start.Tie as tie
+
+abbrev Inv-loop : tie.InvT-loop
+Inv-loop text at i₀ i = (i ≤ length text) × (startOf text at ≡ startOf text i)
+
+abbrev μ-loop : tie.MeasureT-loop
+μ-loop text at i₀ i = length text - i
+
+loop-holds : tie.Need-loop-holds Inv-loop μ-loop
+loop-holds c = (search needs, refl)
+
+returns : tie.Need-returns Inv-loop μ-loop
+returns c =
+    let k = c .before .before .before .before in
+    let s = k .before .before .args .text .now in (
+      sym (k .loop .inv .1 ∙ start-here s (k .loop .i) (omega arith) (sym (c .before .parts .ensures) ∙ not-true _ (c .if1 .taken))),
+      search needs,
+    )
+
+loop-again : tie.Need-loop-again Inv-loop μ-loop
+loop-again c =
+    let k = c .before .before .before .before in
+    let s = k .before .before .args .text .now in (
+      search needs,
+      k .loop .inv .1 ∙ start-turn s (k .loop .i) (omega arith) (sym (c .before .parts .ensures) ∙ not-false _ (c .if1 .left)),
+    )
+
+returns-2 : tie.Need-returns-2 Inv-loop μ-loop
+returns-2 c =
+    let k = c .before in
+    let s = k .before .before .args .text .now in
+    (sym (k .loop .inv .1 ∙ start-end s (k .loop .i) (omega arith)), search needs)
+
+pub word-start-spec : {M : Type 1} → statement M
+word-start-spec =
+    tie.close (tie.spec Inv-loop μ-loop loop-holds (λ c. search needs) (λ c κs. search needs) returns (λ c. search needs)
+    (λ c. search needs) loop-again returns-2)

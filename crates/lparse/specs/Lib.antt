@@ -1,0 +1,7 @@
+-- The format of a grounder's text. Read in this order.
+pub mod Words
+pub mod Reading
+pub mod Says
+pub mod Collect
+pub mod Forming
+pub mod Make

@@ -1,0 +1,15 @@
+// The grounder's texts: any bytes are read as a text of Lparse's format or refused with a number
+// and a place, and a book is made of what the text says. Stands on imported, which says what a text
+// means, and on book.
+
+mod due;
+mod form;
+mod gather;
+mod importer;
+mod numbering;
+mod step;
+mod word;
+
+pub use gather::Collected;
+pub use gather::collect;
+pub use numbering::number_of;
