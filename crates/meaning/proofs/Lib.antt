@@ -7,7 +7,11 @@ pub mod Least
 pub mod Rules
 pub mod Lowest
 pub mod RulesIn
+pub mod Words
+pub mod Four
+pub mod Next
 pub mod Written
+pub mod Listed
 pub mod Reduct
 pub mod Support
 pub mod Closing

@@ -5,6 +5,7 @@ pub mod AnswerSet
 pub mod Colours
 pub mod Claim
 pub mod Paper
+pub mod Bits
 pub mod Written
 pub mod Computed
 pub mod Lowest
