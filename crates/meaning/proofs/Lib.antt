@@ -14,8 +14,14 @@ pub mod Written
 pub mod Listed
 pub mod Reduct
 pub mod Support
+pub mod Rounds
 pub mod Closing
+pub mod ClosedMarks
 pub mod Additions
+pub mod Propagation
+pub mod Propagate
+pub mod Pending
+pub mod Remaining
 pub mod Answers
 pub mod LeastModel
 pub mod Order
@@ -30,3 +36,4 @@ pub mod Listing
 pub mod PaperCases
 pub mod Readings
 pub mod Cases
+pub mod PropagationCases

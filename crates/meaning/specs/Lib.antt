@@ -8,6 +8,7 @@ pub mod Paper
 pub mod Bits
 pub mod Written
 pub mod Computed
+pub mod Propagation
 pub mod Lowest
 pub mod Engine
 pub mod Choice
