@@ -15,3 +15,5 @@ pub mod AtomSets
 pub mod Bodies
 pub mod Places
 pub mod Asked
+pub mod RowStores
+pub mod RuleRows

@@ -6,3 +6,4 @@ pub mod Writing
 pub mod Rows
 pub mod Places
 pub mod Tables
+pub mod RuleRows
