@@ -62,7 +62,7 @@ module _ {b : Book} {k : Claim} {s : List ℕ} {from at : ℕ} {c : Pair} {i : �
 
   pub led-list : (m : ℕ) (off : List Bool) → x ≡ Unfounded m → length off ≡ 255
       → of off ≡ plus (of (d .off)) (map ruleNo (take (i + 2 + m - (i + 2)) (drop (i + 2) s)))
-      → Led b k s from at c (i + 2 + m) (record { on = d .on; off = off; marks = d .marks })
+      → Led b k s from at c (i + 2 + m) (record { on = d .on; off = off; marks = d .marks; level = d .level; levels = d .levels })
   unfolding put
   led-list m off e long q =
       let (h, g) = found-by f e in

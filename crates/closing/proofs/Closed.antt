@@ -12,13 +12,14 @@ use Rattle.meaning.specs.declared.colouring.Colouring.{Colouring}
 use Rattle.meaning.specs.Sets.{_∈_, _∉_, every, some}
 use Rattle.meaning.specs.Books.{Book, count, rule, InBook}
 use Rattle.meaning.specs.Colours.{Pair, heads, allIn, mayOn, blocked, starved, Under, Upheld, Within, Closed}
-use Rattle.meaning.specs.Written.{of, lent, pair}
+use Rattle.meaning.specs.Written.{of, stampFrom, lent, pair}
 use Rattle.meaning.specs.Lowest.{Pick, lowestFrom, lowest, inBoth, clashed}
-use Rattle.meaning.specs.Computed.{support, close}
+use Rattle.meaning.specs.Computed.{support, newly, newLevels, close}
 use Rattle.meaning.proofs.Tests.{both, left, right, either, first, other, absent}
 use Rattle.meaning.proofs.Sets.{every-mono}
 use Rattle.meaning.proofs.Rules.{within-on, within-off, within-both, allIn-mono, blocked-mono}
 use Rattle.meaning.proofs.Written.{Sized}
+use Rattle.meaning.proofs.Stamps.{length-stamp}
 use Rattle.meaning.proofs.Support.{support-is, outside, unsupported-any, length-support}
 use Rattle.meaning.proofs.Additions.{Reached, reached-start, reached-more, reached-closing, closed-without-starved}
 use Rattle.meaning.proofs.Closing.{closing-computed}
@@ -135,8 +136,10 @@ pub closes-end : (b : Book) → Asks b → (c : Colouring) → Sized c → {on o
     → {on' headed' : List Bool} → Pass b (goingOn b lost) (count b) on on' false → headed' ≡ atomTable (heads b (of on'))
     → {off' lost' marks' : List Bool} → Pass b (goingOff b headed' marks) (count b) off off' false
     → lost' ≡ atomTable (allIn b (of off')) → marks' ≡ support b (of off')
-    → record { on = on'; off = off'; marks = marks' } ≡ close b c
-closes-end b asks c sized {on} {off} s {on'} p e {off'} q f g =
+    → {n : ℕ} {levels : List ℕ} → count b ≡ n → levels ≡ stampFrom 0 n (newly (pair c) (lent on' off')) (c .level) (c .levels)
+    → record { on = on'; off = off'; marks = marks'; level = c .level; levels = levels } ≡ close b c
+unfolding newLevels
+closes-end b asks c sized {on} {off} s {on'} p e {off'} q f g i l =
     let u = closes-on b asks s p e in let t = closes-off b asks u q f g in
     let x = p .none-same refl in let y = q .none-same refl in
     let closed : Closed b (lent on' off) = closed-without-starved b (record {
@@ -145,8 +148,13 @@ closes-end b asks c sized {on} {off} s {on'} p e {off'} q f g =
       goes-off-unsupported = unsupported-any b (support-is b (of off) (asks .few)) (rests-unmarked b asks u q);
     }) in
     closing-computed b (asks .few) c _ sized
-    (record { on = t .on-long; off = t .off-long; marks = rw g (length-support b (of off') (asks .few)) })
-    (reached-closing b (t .reached) (rw y at closed)) g (record { on = t .on-outside; off = t .off-outside })
+    (record {
+      on = t .on-long;
+      off = t .off-long;
+      marks = rw g (length-support b (of off') (asks .few));
+      levels = rw l (length-stamp 0 _ _ (c .level) (c .levels) ∙ sized .levels);
+    })
+    (reached-closing b (t .reached) (rw y at closed)) g (record { on = t .on-outside; off = t .off-outside }) refl (rw i l)
 
 -- the rule told of a contradiction, where the search among the first rules has found it
 pub clash-end : (b : Book) (c : Colouring) {n : ℕ} → count b ≡ n → {d : Colouring} → d ≡ close b c → {p : Pick}

@@ -1,28 +1,25 @@
 -- How many rules are left without a colour (specs/Left; document 01: "the number of uncoloured rules falls at each level"): a rule that is
--- chosen has a colour from then on and all others keep theirs, so a choice leaves fewer; and closing takes no colour away.
-use mathlib.Core.Path.{_≡_, ap}
+-- chosen has a colour from then on and all others keep theirs, so a choice leaves fewer; and closing takes no colour away. So the choices
+-- above a walk's colouring, with the rules left, are never more than the book has rules (Shallow).
+use mathlib.Core.Path.{_≡_, refl, ap}
 use mathlib.Core.Logic.{⊎-elim}
 use mathlib.Core.Bool.{not}
 use mathlib.Core.List.{[], _∷_}
-use Prim.Native.Nat.{_≤_, _<_}
+use Prim.Native.Nat.{_+_, _≤_, _<_}
 use native.Mathlib.Omega.{arith}
 use Rattle.meaning.specs.declared.RuleNo.{RuleNo}
 use Rattle.meaning.specs.declared.colouring.Colouring.{Colouring}
 use Rattle.meaning.specs.Sets.{_∈_, _∉_}
 use Rattle.meaning.specs.Books.{Book, count, InBook}
 use Rattle.meaning.specs.Colours.{Pair, Side, onSide, offSide, side, put, Under, Within, uncoloured}
-use Rattle.meaning.specs.Written.{pair}
+use Rattle.meaning.specs.Written.{nothing, chosen, pair}
 use Rattle.meaning.specs.Computed.{close}
 use Rattle.meaning.proofs.Tests.{first, other, clash, proved}
 use Rattle.meaning.proofs.Rules.{one-among, one-under, put-above, put-within, uncoloured-no}
 use Rattle.meaning.proofs.RulesIn.{rules-length, rules-more, rules-fewer}
-use Rattle.meaning.proofs.Written.{Sized, pair-on, pair-off, sized-on, sized-off}
-use Rattle.meaning.proofs.Closing.{close-is}
-use Rattle.closing.specs.Left.{left, chosen}
-
-pub sized-chosen : (x : Side) (r : RuleNo) {c : Colouring} → Sized c → Sized (chosen x r c)
-sized-chosen onSide r s = sized-on r s
-sized-chosen offSide r s = sized-off r s
+use Rattle.meaning.proofs.Written.{Sized, pair-on, pair-off}
+use Rattle.meaning.proofs.Closing.{close-is, close-level}
+use Rattle.closing.specs.Left.{left, Shallow}
 
 -- the rule that is put in is there, and so has a colour
 put-in : (x : Side) (r : RuleNo) (c : Pair) → r ∈ side x (put x (r ∷ []) c)
@@ -74,3 +71,18 @@ module _ (b : Book) where
     pub left-close : left b (close b c) ≤ left b c
     unfolding left
     left-close = rules-more b _ _ (uncoloured-mono (close-is b fits c s .good .above))
+
+  -- ---- levels
+
+  pub chosen-level : (x : Side) (r : RuleNo) (c : Colouring) → chosen x r c .level ≡ c .level + 1
+  chosen-level onSide r c = refl
+  chosen-level offSide r c = refl
+
+  pub shallow-nothing : count b ≤ 255 → Shallow b nothing
+  shallow-nothing fits = omega (arith, left-count nothing)
+
+  -- a choice after a closing goes one level deeper and leaves fewer rules
+  pub shallow-chosen : count b ≤ 255 → (c : Colouring) → Sized c → (x : Side) (r : RuleNo) → left b (chosen x r (close b c)) < left b (close b c)
+      → Shallow b c → (close b c .level < 255) × Shallow b (chosen x r (close b c))
+  shallow-chosen fits c s x r k h = let e = close-level b c in let f = left-close fits c s in
+      (omega (arith, e, f, k, h), omega (arith, chosen-level x r (close b c), e, f, k, h))

@@ -6,6 +6,7 @@ pub mod Turns
 pub mod Counters
 pub mod Supporting
 pub mod Searches
+pub mod Stamping
 pub mod Picked
 pub mod Closed
 pub mod Left

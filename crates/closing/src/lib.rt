@@ -12,11 +12,13 @@ ghost use Rattle.closing.specs.Picked.{picked};
 use book::Shape;
 use book::heads_of;
 use book::lost_in;
+use levels::stamp;
 use meaning::Colouring;
 use passes::grow_off;
 use passes::pass_on;
 
 mod clash;
+mod levels;
 mod marking;
 mod passes;
 
@@ -31,7 +33,7 @@ pub struct Closure {
 }
 
 // The least closed colouring above c, also where a rule comes to be in both sets. Its marks are
-// the support set of its off rules.
+// the support set of its off rules, and the rules that got their colour here have c's level.
 pub fn close(book: &[u8], shape: Shape, c: Colouring) -> Closure
     requires { ⌜ ReadAs (now book) shape ⌝ }
     ensures { λ d. ⌜ (d .colours ≡ close (bookIn (now (book .entry))) c)
@@ -51,8 +53,16 @@ pub fn close(book: &[u8], shape: Shape, c: Colouring) -> Closure
         let more_off = grow_off(book, shape, &headed, &mut off, &mut lost, &mut marks);
         if !more_on {
             if !more_off {
+                let mut levels = c.levels;
+                stamp(shape.rules, &c.on, &c.off, &on, &off, c.level, &mut levels);
                 return Closure {
-                    colours: Colouring { on, off, marks },
+                    colours: Colouring {
+                        on,
+                        off,
+                        marks,
+                        level: c.level,
+                        levels,
+                    },
                     clash: lowest_clash(shape.rules, &on, &off),
                 };
             }

@@ -14,7 +14,7 @@ use Rattle.meaning.specs.Colours.{put, heads, allIn, mayOn, blocked, starved, c
 use Rattle.meaning.specs.Claim.{shownBy, shown, ended, Holding}
 use Rattle.meaning.specs.Paper.{fails}
 use Rattle.meaning.specs.Written.{of, addFrom, added}
-use Rattle.meaning.specs.Computed.{iterate, upheld, supportMore, support, goesOff, closeMore, marked, close}
+use Rattle.meaning.specs.Computed.{iterate, upheld, supportMore, support, goesOff, closeMore, marked, stamped, close}
 use Rattle.meaning.specs.Choice.{ifb, ifLt, ifEq}
 use Rattle.meaning.specs.Told.{Told, refusedAt, Answered}
 use Rattle.meaning.proofs.Claim.{not-both}
@@ -60,7 +60,7 @@ always-accepts-fails sound =
 -- it takes the empty set for the only reading
 once-choice : closesOnce .find choice 1 1000 (sevens 3) ≡ record { told = set 1; buffer = 0 ∷ 0 ∷ sevens 1 }
 unfolding onceOf onceIn every some everyBelow someBelow sameAtom count rule everyRule someRule heads allIn mayOn blocked starved clashing
-    of addFrom added iterate upheld supportMore support goesOff closeMore marked close ifb ifLt ifEq rowFrom rowOf writeAt
+    of addFrom added iterate upheld supportMore support goesOff closeMore marked stamped close ifb ifLt ifEq rowFrom rowOf writeAt
     readOf bodyOf ifFine recordsOf rulesOf ruleOf lengthOf recordOf bytesOf partOf recordsThen u16At
 once-choice = refl
 

@@ -10,7 +10,7 @@ use Rattle.meaning.specs.Colours.{put, heads, allIn, mayOn, blocked, starved, c
 use Rattle.meaning.specs.Claim.{claimed, markOf, mark, markedBy, shownBy, shown, ended}
 use Rattle.meaning.specs.Paper.{unfounded, fails, trailer}
 use Rattle.meaning.specs.Written.{of, addFrom, added}
-use Rattle.meaning.specs.Computed.{iterate, upheld, supportMore, support, goesOff, closeMore, marked, close}
+use Rattle.meaning.specs.Computed.{iterate, upheld, supportMore, support, goesOff, closeMore, marked, stamped, close}
 use Rattle.meaning.specs.Lowest.{onPick, oneOr, lowestFrom, lowest, clashed, listedIf, rulesFrom, rulesIn}
 use Rattle.meaning.specs.Engine.{firstOf, unsupported, next, listable, listing}
 use Rattle.meaning.specs.Engine.{witnessOf as ownWitness}
@@ -37,7 +37,7 @@ use Rattle.demands.specs.Worked.{Holds, Each, no-more, _and_, cases}
 pub worked : Each (Holds ours) cases
 unfolding Holds every some everyBelow someBelow ascending sameAtom sameRule count rule everyRule someRule generates generating put heads
     allIn mayOn blocked starved clashing uncoloured claimed markOf mark markedBy shownBy shown ended unfounded fails trailer of addFrom added iterate upheld
-    supportMore support goesOff closeMore marked close onPick oneOr lowestFrom lowest clashed listedIf
+    supportMore support goesOff closeMore marked stamped close onPick oneOr lowestFrom lowest clashed listedIf
     rulesFrom rulesIn firstOf unsupported next listable listing ownWitness ifb ifLt ifEq u16At partOf andThen bytesOf recordOf lengthOf
     ruleOf recordsOf rulesOf ifFine bodyOf readOf after eventsIn events rowFrom rowOf writeAt readingMet tried met run toldBy findIn
     findRead findOf setIn behind branchBy branchIn branch below branchesIn branches courseAt branchMet scan firstWalk paperWalk

@@ -4,22 +4,26 @@
 use mathlib.Core.Path.{_≡_, refl, sym, _∙_, ap}
 use mathlib.Core.Logic.{_⊎_, inl, inr, ⊎-elim}
 use mathlib.Core.Bool.{true, not}
+use mathlib.Core.List.{List}
 use Prim.Native.Nat.{ℕ, _+_, _≤_, _<_}
 use native.Mathlib.Omega.{arith}
+use lib.ListN.{getD}
 use borrow.Author.Tests.{not-true}
 use Rattle.meaning.specs.declared.RuleNo.{RuleNo}
 use Rattle.meaning.specs.declared.colouring.Colouring.{Colouring}
 use Rattle.meaning.specs.Sets.{_∈_}
 use Rattle.meaning.specs.Books.{Book, count, InBook}
 use Rattle.meaning.specs.Colours.{Pair, Side, onSide, offSide, side, blocked, starved, Closed, Within, ClosedAbove, Closing}
-use Rattle.meaning.specs.Written.{of, pair}
-use Rattle.meaning.specs.Computed.{iterate, support, goesOff, closeMore, marked, close}
+use Rattle.meaning.specs.Written.{of, lent, pair, levelOf}
+use Rattle.meaning.specs.Choice.{ifb}
+use Rattle.meaning.specs.Computed.{iterate, support, goesOff, closeMore, marked, newly, newLevels, stamped, close}
 use Rattle.meaning.proofs.Tests.{either, first, other, absent, same}
 use Rattle.meaning.proofs.Least.{Adding, smallest-mono, smallest-unique, iterate-fine, iterate-smallest}
 use Rattle.meaning.proofs.Rules.{in-book-or-not, within-on, within-off, within-both, within-refl, within-trans}
 use Rattle.meaning.proofs.Rules.{mayOn-mono, blocked-mono, starved-mono}
 use Rattle.meaning.proofs.Written.{of-same, length-added, of-added, of-added-outside, added-above, added-grows, added-rests}
 use Rattle.meaning.proofs.Written.{size, size-le, Sized, Untouched}
+use Rattle.meaning.proofs.Stamps.{length-stamp, stamp-at, stamp-rests, newly-same}
 use Rattle.meaning.proofs.Support.{support-is, length-support, outside, unsupported-any}
 
 -- how many additions have been made
@@ -94,6 +98,7 @@ module _ (b : Book) where
           on = length-added b _ (d .on) ∙ f .sized .on;
           off = length-added b _ (d .off) ∙ f .sized .off;
           marks = f .sized .marks;
+          levels = f .sized .levels;
         };
         above = within-trans b (f .above) (within-both b
             (λ r h. added-above b _ (d .on) (rw (f .sized .on) fits) r) (λ r h. added-above b _ (d .off) (rw (f .sized .off) fits) r));
@@ -110,7 +115,7 @@ module _ (b : Book) where
           sides : (d .on ≡ closeMore b d .on) ⊎ (size (count b) (d .on) < size (count b) (closeMore b d .on))
               → (d .off ≡ closeMore b d .off) ⊎ (size (count b) (d .off) < size (count b) (closeMore b d .off))
               → (d ≡ closeMore b d) ⊎ (amount b d < amount b (closeMore b d))
-          sides (inl p) (inl q) = inl (λ i. record { on = p i; off = q i; marks = d .marks })
+          sides (inl p) (inl q) = inl (λ i. record { on = p i; off = q i; marks = d .marks; level = d .level; levels = d .levels })
           sides (inl p) (inr q) = inr (omega (arith, ap (size (count b)) p))
           sides (inr p) (inl q) = inr (omega (arith, ap (size (count b)) q))
           sides (inr p) (inr q) = inr (omega arith)
@@ -133,34 +138,62 @@ module _ (b : Book) where
 
     module _ (c : Colouring) (sized : Sized c) where
       pub close-is : Closing b (pair c) (pair (close b c))
-      unfolding close marked
+      unfolding close marked stamped
       close-is = iterate-smallest (close-adding c) c (between-start c sized) (λ t g. g .above)
 
       pub close-sized : Sized (close b c)
-      unfolding close marked
-      close-sized = let f = rounds-between c sized .sized in record { on = f .on; off = f .off; marks = length-support b _ fits }
+      unfolding close marked stamped newLevels
+      close-sized = let f = rounds-between c sized .sized in record {
+        on = f .on;
+        off = f .off;
+        marks = length-support b _ fits;
+        levels = length-stamp 0 (count b) _ (c .level) (c .levels) ∙ sized .levels;
+      }
 
       pub close-untouched : Untouched b c (close b c)
-      unfolding close marked
+      unfolding close marked stamped
       close-untouched = let f = rounds-between c sized .untouched in record { on = f .on; off = f .off }
 
   pub close-marks : (c : Colouring) → close b c .marks ≡ support b (of (close b c .off))
-  unfolding close marked
+  unfolding close marked stamped
   close-marks c = refl
+
+  -- ---- levels: a closing has that of the choices above it, and gives it to the rules that get their colour there
+
+  pub close-level : (c : Colouring) → close b c .level ≡ c .level
+  unfolding close stamped
+  close-level c = refl
+
+  pub close-levels : (c : Colouring) → close b c .levels ≡ newLevels b c (pair (close b c))
+  unfolding close stamped
+  close-levels c = refl
+
+  pub level-stamped : count b ≤ 255 → (c : Colouring) → Sized c → (r : RuleNo) → InBook b r
+      → levelOf (close b c) r ≡ ifb (newly (pair c) (pair (close b c)) r) (c .level) (levelOf c r)
+  unfolding levelOf newLevels
+  level-stamped fits c s r h =
+      ap (λ (l : List ℕ). getD l (r .0) 0) (close-levels c) ∙ stamp-at (count b) _ (c .level) (c .levels) r h (omega (arith, s .levels))
 
   module _ (fits : count b ≤ 255) where
     -- a colouring that is a closing of c, in whatever order it was made, is the computed one
     pub closing-computed : (c d : Colouring) → Sized c → Sized d → Closing b (pair c) (pair d) → d .marks ≡ support b (of (d .off))
-        → Untouched b c d → d ≡ close b c
+        → Untouched b c d → d .level ≡ c .level → d .levels ≡ newLevels b c (pair d) → d ≡ close b c
     unfolding side
-    closing-computed c d s t p m u =
+    closing-computed c d s t p m u v l =
         let k = close-is fits c s in let z = close-sized fits c s in let w = close-untouched fits c s in
         let on : d .on ≡ close b c .on = of-same _ _ (t .on ∙ sym (z .on)) (λ r. ⊎-elim
         (λ h. closing-unique p k onSide r h) (λ h. u .on r h ∙ sym (w .on r h)) (in-book-or-not b r)) in
         let off : d .off ≡ close b c .off = of-same _ _ (t .off ∙ sym (z .off)) (λ r. ⊎-elim
         (λ h. closing-unique p k offSide r h) (λ h. u .off r h ∙ sym (w .off r h)) (in-book-or-not b r)) in
         let marks : d .marks ≡ close b c .marks = m ∙ ap (λ l. support b (of l)) off ∙ sym (close-marks c) in
-        λ i. record { on = on i; off = off i; marks = marks i }
+        let levels : d .levels ≡ close b c .levels = l ∙ (λ i. newLevels b c (lent (on i) (off i))) ∙ sym (close-levels c) in
+        let level : d .level ≡ close b c .level = v ∙ sym (close-level c) in
+        λ i. record { on = on i; off = off i; marks = marks i; level = level i; levels = levels i }
+
+    -- where no rule gets a colour, no level is new
+    levels-rest : (c : Colouring) → c .levels ≡ newLevels b c (pair c)
+    unfolding newLevels
+    levels-rest c = sym (stamp-rests 0 (count b) _ (c .level) (c .levels) (newly-same (pair c)))
 
     pub close-mono : (c d : Colouring) → Sized c → Sized d → Within b (pair c) (pair d) → Within b (pair (close b c)) (pair (close b d))
     close-mono c d s t w = closing-mono w (close-is fits c s) (close-is fits d t)
@@ -169,10 +202,10 @@ module _ (b : Book) where
     pub closed-close : (c : Colouring) → Sized c → Closed b (pair c) → marked b c ≡ close b c
     unfolding marked
     closed-close c s k = closing-computed c (marked b c) s
-        (record { on = s .on; off = s .off; marks = length-support b _ fits }) (closed-closing k) refl
-        (record { on = λ r h. refl; off = λ r h. refl })
+        (record { on = s .on; off = s .off; marks = length-support b _ fits; levels = s .levels }) (closed-closing k) refl
+        (record { on = λ r h. refl; off = λ r h. refl }) refl (levels-rest c)
 
     pub close-idempotent : (c : Colouring) → Sized c → close b c ≡ close b (close b c)
     close-idempotent c s = let z = close-sized fits c s in
         closing-computed (close b c) (close b c) z z (closed-closing (close-is fits c s .good .closed)) (close-marks c)
-        (record { on = λ r h. refl; off = λ r h. refl })
+        (record { on = λ r h. refl; off = λ r h. refl }) refl (levels-rest (close b c))

@@ -12,6 +12,7 @@ pub mod Four
 pub mod Next
 pub mod Written
 pub mod Listed
+pub mod Stamps
 pub mod Reduct
 pub mod Support
 pub mod Rounds
@@ -31,9 +32,12 @@ pub mod Claim
 pub mod Branches
 pub mod Witness
 pub mod Papers
+pub mod Alternates
+pub mod WellFounded
 pub mod Engine
 pub mod Listing
 pub mod PaperCases
 pub mod Readings
 pub mod Cases
 pub mod PropagationCases
+pub mod WellFoundedCases

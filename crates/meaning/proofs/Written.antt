@@ -13,8 +13,8 @@ use Rattle.meaning.specs.declared.RuleNo.{RuleNo}
 use Rattle.meaning.specs.declared.colouring.Colouring.{Colouring}
 use Rattle.meaning.specs.Sets.{Set, _∈_, _∉_, _⊆_}
 use Rattle.meaning.specs.Books.{Rules, ruleNo, among, Book, count, InBook}
-use Rattle.meaning.specs.Colours.{onSide, offSide, put, plus, start}
-use Rattle.meaning.specs.Written.{of, addFrom, added, nothing, colourOn, colourOff, pair}
+use Rattle.meaning.specs.Colours.{Side, onSide, offSide, put, plus, start}
+use Rattle.meaning.specs.Written.{of, addFrom, added, nothing, colourOn, colourOff, chosen, pair}
 use Rattle.meaning.proofs.Tests.{first, other, decided, clash}
 use Rattle.meaning.proofs.Rules.{among-one, one-among, in-book-or-not}
 
@@ -118,15 +118,26 @@ pub record Sized (c : Colouring) : Type 0 where
   pub on : length (c .on) ≡ 255
   pub off : length (c .off) ≡ 255
   pub marks : length (c .marks) ≡ 255
+  pub levels : length (c .levels) ≡ 255
 
 pub sized-nothing : Sized nothing
-sized-nothing = let e = length-replicate 255 false in record { on = e; off = e; marks = e }
+sized-nothing = let e = length-replicate 255 false in record { on = e; off = e; marks = e; levels = length-replicate {A = ℕ} 255 0 }
 
 pub sized-on : (r : RuleNo) {c : Colouring} → Sized c → Sized (colourOn r c)
-sized-on r {c} s = record { on = length-set (c .on) (r .0) true ∙ s .on; off = s .off; marks = s .marks }
+sized-on r {c} s = record { on = length-set (c .on) (r .0) true ∙ s .on; off = s .off; marks = s .marks; levels = s .levels }
 
 pub sized-off : (r : RuleNo) {c : Colouring} → Sized c → Sized (colourOff r c)
-sized-off r {c} s = record { on = s .on; off = length-set (c .off) (r .0) true ∙ s .off; marks = s .marks }
+sized-off r {c} s = record { on = s .on; off = length-set (c .off) (r .0) true ∙ s .off; marks = s .marks; levels = s .levels }
+
+pub sized-chosen : (x : Side) (r : RuleNo) {c : Colouring} → Sized c → Sized (chosen x r c)
+sized-chosen x r {c} s = by x
+  where
+    long : length (set (c .levels) (r .0) (c .level + 1)) ≡ 255
+    long = length-set (c .levels) (r .0) (c .level + 1) ∙ s .levels
+
+    by : (x : Side) → Sized (chosen x r c)
+    by onSide = let k = sized-on r s in record { on = k .on; off = k .off; marks = k .marks; levels = long }
+    by offSide = let k = sized-off r s in record { on = k .on; off = k .off; marks = k .marks; levels = long }
 
 -- the places from R on are those of c
 pub record Untouched (b : Book) (c d : Colouring) : Type 0 where

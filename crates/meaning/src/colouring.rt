@@ -1,7 +1,9 @@
-// The colouring: which rules are on, which are off, and which were marked by the support step.
+// The colouring: which rules are on, which are off, which were marked by the support step, and at
+// which level each rule got its colour.
 ghost use mathlib.Core.Path.{_≡_};
 ghost use Prim.Native.Nat.{_<_};
-ghost use Rattle.meaning.specs.Written.{nothing, colourOn, colourOff};
+ghost use Rattle.meaning.specs.Colours.{onSide, offSide};
+ghost use Rattle.meaning.specs.Written.{nothing, colourOn, colourOff, chosen};
 use crate::RuleNo;
 
 // Each array has one place for each rule number that a book can have.
@@ -9,6 +11,10 @@ pub struct Colouring {
     pub on: [bool; Colouring::RULES],
     pub off: [bool; Colouring::RULES],
     pub marks: [bool; Colouring::RULES],
+    // The choices so far, and for each coloured rule those that stood above it when it got its
+    // colour. Only choices and closings see to these.
+    pub level: u8,
+    pub levels: [u8; Colouring::RULES],
 }
 
 impl Colouring {
@@ -22,6 +28,8 @@ impl Colouring {
         on: [false; Colouring::RULES],
         off: [false; Colouring::RULES],
         marks: [false; Colouring::RULES],
+        level: 0,
+        levels: [0; Colouring::RULES],
     };
 
     // The start of every walk and of every paper.
@@ -48,6 +56,30 @@ impl Colouring {
     {
         let i = r.0 as usize;
         self.off[i] = true;
+        self
+    }
+
+    // The colouring with the rule put in on by choice, one level deeper.
+    pub fn choose_on(mut self, r: RuleNo) -> Colouring
+        requires { ⌜ (r .0 < 255) × (self .level < 255) ⌝ }
+        ensures { λ c. ⌜ c ≡ chosen onSide r self ⌝ }
+    {
+        let i = r.0 as usize;
+        self.on[i] = true;
+        self.level += 1;
+        self.levels[i] = self.level;
+        self
+    }
+
+    // The colouring with the rule put in off by choice, one level deeper.
+    pub fn choose_off(mut self, r: RuleNo) -> Colouring
+        requires { ⌜ (r .0 < 255) × (self .level < 255) ⌝ }
+        ensures { λ c. ⌜ c ≡ chosen offSide r self ⌝ }
+    {
+        let i = r.0 as usize;
+        self.off[i] = true;
+        self.level += 1;
+        self.levels[i] = self.level;
         self
     }
 }

@@ -28,10 +28,13 @@ use Rattle.walk.specs.Page.{PageEnd, endedBy, setIn, eventsFrom, roomIn,
 use Rattle.walk.specs.declared.tally.Halt.{Halt}
 use Rattle.walk.specs.declared.tally.Halt.the-variants.{Going, Full, Limit}
 use Rattle.walk.specs.declared.tally.Tally.{Tally}
+use Rattle.closing.specs.Left.{Shallow}
+use Rattle.closing.proofs.Left.{shallow-nothing}
 use Rattle.walk.proofs.Run.{apart}
 use Rattle.walk.proofs.Demand.{find-bad-book, find-good-book}
 use Rattle.walk.proofs.Paging.{room-some, rooms-fit}
 use Rattle.walk.proofs.Listing.{later-events}
+use Rattle.walk.proofs.Walking.{few}
 
 -- ---- the book
 
@@ -66,6 +69,9 @@ module _ (s : List ℕ) {x : Read} (e : bookTold x ≡ toldOf (readOf s)) where
 pub room-start : (b : Book) (pass room tries : ℕ) (out : List ℕ) → 1 ≤ room → room * b .atoms ≤ length out
     → Room b pass room (startAt tries out)
 room-start b pass room tries out h k = record { some = h; counts = omega arith; wanting = λ g. omega arith; fits = k }
+
+pub shallow-start : (s : List ℕ) (h : Shape) → ReadAs s h → h .rules < 256 → {c : Colouring} → c ≡ nothing → Shallow (bookIn s) c
+shallow-start s h e n f = rw f (shallow-nothing (bookIn s) (few s h e n))
 
 pub walk-from : (b : Book) (w : Wanted) (s : State) {c d : Colouring} {u : State} → c ≡ d → u ≡ run b w s (events b c)
     → u ≡ run b w s (events b d)
@@ -135,11 +141,12 @@ module _ (s : List ℕ) (h : Shape) (e : ReadAs s h) (tries : ℕ) (out : List �
     room-is = f ∙ ap (λ (a : ℕ). ifEq a 0 1 (length out / a)) (sym (shape-atoms s h e))
 
     -- what the walk and resuming ask
-    pub page-room : ReadAs s h × Room (bookIn s) 0 room start
-    page-room = (
+    pub page-room : h .rules < 256 → {c : Colouring} → c ≡ nothing → ReadAs s h × Room (bookIn s) 0 room start × Shallow (bookIn s) c
+    page-room n f = (
       e,
       room-start (bookIn s) 0 room tries out (rw room-is (room-some (bookIn s) (length out) (rw (shape-atoms s h e) l)))
           (rw room-is (rooms-fit (bookIn s) (length out))),
+      shallow-start s h e n f,
     )
 
     module _ (limit : ℕ) (row : List ℕ) where

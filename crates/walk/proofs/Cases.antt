@@ -10,7 +10,7 @@ use Rattle.meaning.specs.Choice.{ifb, ifLt, ifEq}
 use Rattle.meaning.specs.Told.{Told, success, refused, fewer, stopped, Answered}
 use Rattle.meaning.specs.Colours.{heads, allIn, mayOn, blocked, starved, uncoloured}
 use Rattle.meaning.specs.Written.{of, addFrom, added}
-use Rattle.meaning.specs.Computed.{iterate, upheld, supportMore, support, goesOff, closeMore, marked, close}
+use Rattle.meaning.specs.Computed.{iterate, upheld, supportMore, support, goesOff, closeMore, marked, stamped, close}
 use Rattle.meaning.specs.Lowest.{oneOr, lowestFrom, lowest, clashed}
 use Rattle.book.specs.Format.{u16At, partOf, andThen, bytesOf, recordOf, lengthOf, ruleOf, recordsOf, rulesOf, ifFine, bodyOf, readOf}
 use Rattle.walk.specs.Events.{after, eventsIn, events, beside, afterPast, restIn, rest}
@@ -94,7 +94,7 @@ cases =
 
 pub cases-found : map (λ c. findOf (c .book) (c .k) (c .limit) before) cases ≡ map (λ c. c .answer) cases
 unfolding every some everyBelow someBelow sameAtom count rule everyRule someRule ifb ifLt ifEq heads allIn mayOn blocked starved
-    uncoloured of addFrom added iterate upheld supportMore support goesOff closeMore marked close
+    uncoloured of addFrom added iterate upheld supportMore support goesOff closeMore marked stamped close
     oneOr lowestFrom lowest clashed u16At partOf andThen bytesOf recordOf lengthOf ruleOf recordsOf rulesOf ifFine bodyOf readOf
     after eventsIn events rowFrom rowOf writeAt readingMet tried met run toldBy findIn findRead findOf
 cases-found = refl
@@ -105,7 +105,7 @@ pub pages-found :
     × (pageOf choice 1000 3 (0 ∷ 1 ∷ []) (7 ∷ 7 ∷ 7 ∷ []) ≡ record { told = success (last 3 0); buffer = 7 ∷ 7 ∷ 7 ∷ [] })
     × (pageOf choice 2 2 (1 ∷ 0 ∷ []) (7 ∷ 7 ∷ 7 ∷ []) ≡ record { told = success (cut 0); buffer = 7 ∷ 7 ∷ 7 ∷ [] })
 unfolding every some everyBelow someBelow sameAtom count rule everyRule someRule ifb ifLt ifEq heads allIn mayOn blocked starved
-    uncoloured of addFrom added iterate upheld supportMore support goesOff closeMore marked close
+    uncoloured of addFrom added iterate upheld supportMore support goesOff closeMore marked stamped close
     oneOr lowestFrom lowest clashed u16At partOf andThen bytesOf recordOf lengthOf ruleOf recordsOf rulesOf ifFine bodyOf readOf
     generates generating after eventsIn events beside afterPast restIn rest rowFrom rowOf writeAt readingMet tried met run
     setIn eventsFrom roomIn endedBy pageIn pageRead pageOf

@@ -10,7 +10,8 @@ use lib.ListN.{length, length-append}
 use Rattle.meaning.specs.declared.RuleNo.{RuleNo}
 use Rattle.meaning.specs.declared.colouring.Colouring.{Colouring}
 use Rattle.meaning.specs.Books.{Book, count, InBook}
-use Rattle.meaning.specs.Written.{nothing, colourOn, colourOff, pair}
+use Rattle.meaning.specs.Colours.{onSide, offSide}
+use Rattle.meaning.specs.Written.{nothing, chosen, pair}
 use Rattle.meaning.specs.Computed.{close}
 use Rattle.meaning.specs.Lowest.{one, clashed}
 use Rattle.meaning.proofs.Lowest.{clashed-one}
@@ -67,7 +68,7 @@ module _ (b : Book) where
   walk-clashes (at-clash {r = r} k t) e n = (r, clashed-one b _ r t .0, refl)
   walk-clashes (at-reading k t p) e n = absurd (omega arith)
   walk-clashes (at-fork {d = d} {r = r} f v w) e n =
-      let on = events b (colourOn r d) in let off = events b (colourOff r d) in
+      let on = events b (chosen onSide r d) in let off = events b (chosen offSide r d) in
       let none : length (readingsIn b off) ≡ 0 =
       omega (arith, ap length (readings-append b on off), length-append (readingsIn b on) (readingsIn b off)) in
       let (q, h, z) = walk-clashes w none (clashIn n on) in

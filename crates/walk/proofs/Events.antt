@@ -11,15 +11,15 @@ use Rattle.meaning.specs.declared.colouring.Colouring.{Colouring}
 use Rattle.meaning.specs.Books.{Atoms, Book, InBook, count}
 use Rattle.meaning.specs.AnswerSet.{generating}
 use Rattle.meaning.specs.Colours.{Side, onSide, offSide, uncoloured}
-use Rattle.meaning.specs.Written.{colourOn, colourOff, pair}
+use Rattle.meaning.specs.Written.{chosen, pair}
 use Rattle.meaning.specs.Computed.{close}
 use Rattle.meaning.specs.Lowest.{Pick, none, one, lowest, clashed}
-use Rattle.meaning.proofs.Written.{Sized}
+use Rattle.meaning.proofs.Written.{Sized, sized-chosen}
 use Rattle.meaning.proofs.Closing.{close-sized}
 use Rattle.meaning.proofs.Lowest.{lowest-one}
-use Rattle.closing.specs.Left.{left, chosen}
+use Rattle.closing.specs.Left.{left, Shallow}
 use Rattle.walk.specs.Events.{Event, clash, fork, reading, after, afterClosing, eventsIn, events, beside, afterPast, restIn, rest}
-use Rattle.closing.proofs.Left.{sized-chosen, left-count, left-chosen, left-close}
+use Rattle.closing.proofs.Left.{left-count, left-chosen, left-close, shallow-chosen}
 
 -- what comes after a closing needs the walk below only where it goes on
 after-same : (d : Colouring) (t p : Pick) (f g : Colouring → List Event)
@@ -148,20 +148,33 @@ module _ {b : Book} {c d : Colouring} where
             left-close b (k .few) _ (below-sized b (k .few) c (k .sized) x r e),
           ))
 
-    pub events-fork : events b c ≡ fork r ∷ (events b (colourOn r d) ++ events b (colourOff r d))
+    -- and is one level deeper, which fits in a byte
+    module _ (shallow : Shallow b c) where
+      sides-shallow : (x : Side) → (d .level < 255) × Shallow b (chosen x r d)
+      sides-shallow x =
+          let e = rw (k .closed) at (f .choice) in
+          rw (k .closed) (shallow-chosen b (k .few) c (k .sized) x r (below-fewer b (k .few) c (k .sized) x r e) shallow)
+
+      pub fork-level : d .level < 255
+      fork-level = sides-shallow onSide .0
+
+      pub fork-shallow : (x : Side) → Shallow b (chosen x r d)
+      fork-shallow x = sides-shallow x .1
+
+    pub events-fork : events b c ≡ fork r ∷ (events b (chosen onSide r d) ++ events b (chosen offSide r d))
     unfolding after
     events-fork = rw (f .calm, f .choice) at (events-of k)
 
     rest-fork : (x : Atoms) → rest b c x
-        ≡ beside (generating b x r) (rest b (colourOn r d) x) (rest b (colourOff r d) x) (events b (colourOff r d))
+        ≡ beside (generating b x r) (rest b (chosen onSide r d) x) (rest b (chosen offSide r d) x) (events b (chosen offSide r d))
     unfolding afterPast
     rest-fork x = rw (f .calm, f .choice) at (rest-of k x)
 
-    pub rest-fork-on : (x : Atoms) → generating b x r ≡ true → rest b c x ≡ rest b (colourOn r d) x ++ events b (colourOff r d)
+    pub rest-fork-on : (x : Atoms) → generating b x r ≡ true → rest b c x ≡ rest b (chosen onSide r d) x ++ events b (chosen offSide r d)
     unfolding beside
     rest-fork-on x g = rw g at (rest-fork x)
 
-    pub rest-fork-off : (x : Atoms) → generating b x r ≡ false → rest b c x ≡ rest b (colourOff r d) x
+    pub rest-fork-off : (x : Atoms) → generating b x r ≡ false → rest b c x ≡ rest b (chosen offSide r d) x
     unfolding beside
     rest-fork-off x g = rw g at (rest-fork x)
 
@@ -172,8 +185,8 @@ pub data Walk (b : Book) : Colouring → List Event → Type 0 where
   at-reading : {c d : Colouring} → Closes b c d → clashed b (pair d) ≡ none → lowest b (uncoloured (pair d)) ≡ none
       → Walk b c (reading d ∷ [])
   at-fork : {c d : Colouring} {r : RuleNo} → Forks b c d r
-      → Walk b (colourOn r d) (events b (colourOn r d)) → Walk b (colourOff r d) (events b (colourOff r d))
-      → Walk b c (fork r ∷ (events b (colourOn r d) ++ events b (colourOff r d)))
+      → Walk b (chosen onSide r d) (events b (chosen onSide r d)) → Walk b (chosen offSide r d) (events b (chosen offSide r d))
+      → Walk b c (fork r ∷ (events b (chosen onSide r d) ++ events b (chosen offSide r d)))
 
 module _ (b : Book) (fits : count b ≤ 255) where
   pub walks : (c : Colouring) → Sized c → Walk b c (events b c)

@@ -13,7 +13,7 @@ use Rattle.meaning.specs.Books.{Atoms, Book, InBook}
 use Rattle.meaning.specs.AnswerSet.{AnswerSet, generating}
 use Rattle.meaning.specs.Colours.{Pair, Side, onSide, offSide, side, Under, Within, Closing}
 use Rattle.meaning.specs.Colours.{uncoloured, Total, colouringOf}
-use Rattle.meaning.specs.Written.{of, nothing, pair}
+use Rattle.meaning.specs.Written.{of, nothing, chosen, pair}
 use Rattle.meaning.specs.Lowest.{none, one, lowest, clashed}
 use Rattle.meaning.proofs.Tests.{clash, same}
 use Rattle.meaning.proofs.Rules.{within-on, within-off, within-both, within-trans, clashing-no, uncoloured-no, heads-mono}
@@ -21,7 +21,6 @@ use Rattle.meaning.proofs.Written.{Sized, pair-nothing}
 use Rattle.meaning.proofs.Closing.{close-is, close-sized}
 use Rattle.meaning.proofs.Lowest.{lowest-one, lowest-total, clashed-clashing, clashed-none}
 use Rattle.meaning.proofs.Answers.{total-answer, total-stands, answer-heads, closing-keeps-answers, clash-no-answer}
-use Rattle.closing.specs.Left.{chosen}
 use Rattle.walk.specs.Readings.{readingOf, Agree, Before}
 use Rattle.closing.proofs.Left.{chosen-above, chosen-within, chosen-in}
 use Rattle.walk.proofs.Events.{Closes, Forks, fork-in-book, fork-low}

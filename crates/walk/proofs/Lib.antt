@@ -7,6 +7,7 @@ pub mod Forks
 pub mod Readings
 pub mod Tries
 pub mod Clashes
+pub mod FirstTry
 pub mod Way
 pub mod Needs
 pub mod Finding

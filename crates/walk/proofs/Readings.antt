@@ -11,7 +11,7 @@ use Rattle.meaning.specs.declared.colouring.Colouring.{Colouring}
 use Rattle.meaning.specs.Books.{Atoms, Book, count}
 use Rattle.meaning.specs.AnswerSet.{generating}
 use Rattle.meaning.specs.Colours.{onSide, offSide, side}
-use Rattle.meaning.specs.Written.{nothing, colourOn}
+use Rattle.meaning.specs.Written.{nothing, chosen}
 use Rattle.meaning.proofs.Tests.{decided}
 use Rattle.meaning.proofs.Written.{sized-nothing}
 use Rattle.walk.specs.Events.{Event, clash, fork, reading, events}
@@ -50,7 +50,7 @@ module _ {b : Book} where
       (λ g. let (y, m, e) = walk-complete v x (stands-side f onSide x s g) in (y, Memᴰ·append-left _ m, e))
       (λ g.
       let (y, m, e) = walk-complete w x (stands-side f offSide x s (ap not g)) in
-      (y, Memᴰ·append-right (readingsIn b (events b (colourOn r d))) m, e))
+      (y, Memᴰ·append-right (readingsIn b (events b (chosen onSide r d))) m, e))
       (decided (generating b x r)))
 
   pub walk-ordered : {c : Colouring} {es : List Event} → Walk b c es → Ordered b (readingsIn b es)

@@ -11,7 +11,7 @@ use Rattle.meaning.specs.declared.colouring.Colouring.{Colouring}
 use Rattle.meaning.specs.Books.{Atoms, Book, count}
 use Rattle.meaning.specs.AnswerSet.{generating}
 use Rattle.meaning.specs.Colours.{onSide, offSide}
-use Rattle.meaning.specs.Written.{nothing, colourOn, colourOff}
+use Rattle.meaning.specs.Written.{nothing, chosen}
 use Rattle.meaning.proofs.Tests.{decided}
 use Rattle.meaning.proofs.Written.{sized-nothing}
 use Rattle.meaning.proofs.LeastModel.{Proper, answer-inside}
@@ -49,11 +49,11 @@ module _ {b : Book} where
   walk-rest (at-reading k t p) (e ∷ es) d later q = absurd (omega (arith, ap length q, length-append es (reading d ∷ later)))
   walk-rest (at-fork f v w) [] d later q = apart (cc)
   walk-rest (at-fork {d = u} {r = r} f v w) (e ∷ es) d later q =
-      let z : events b (colourOn r u) ++ events b (colourOff r u) ≡ es ++ (reading d ∷ later) = cc in
+      let z : events b (chosen onSide r u) ++ events b (chosen offSide r u) ≡ es ++ (reading d ∷ later) = cc in
       ⊎-elim
       (λ (l, g, h).
       let m = side-on f x (walk-sound v x (rw g (reading-member b es d l))) in
-      h ∙ ap (λ (m : List Event). m ++ events b (colourOff r u)) (walk-rest v es d l g) ∙ sym (rest-fork-on f x m))
+      h ∙ ap (λ (m : List Event). m ++ events b (chosen offSide r u)) (walk-rest v es d l g) ∙ sym (rest-fork-on f x m))
       (λ (l, g).
       let m = side-off f x (walk-sound w x (rw g (reading-member b l d later))) in
       walk-rest w l d later g ∙ sym (rest-fork-off f x m))
@@ -69,7 +69,7 @@ module _ {b : Book} where
   rest-sound (at-reading k t p) x y m = absurd (List·Memᴰ·not-nil (rw (rest-reading k t p x) at m))
   rest-sound (at-fork {d = d} {r = r} f v w) x y m = ⊎-elim
       (λ g. ⊎-elim (λ e. side-stands f onSide y (rest-sound v x y e)) (λ e. side-stands f offSide y (walk-sound w y e))
-      (List·Memᴰ·append-cases (readingsIn b (rest b (colourOn r d) x)) (rw (rest-fork-on f x g, readings-append) at m)))
+      (List·Memᴰ·append-cases (readingsIn b (rest b (chosen onSide r d) x)) (rw (rest-fork-on f x g, readings-append) at m)))
       (λ g. side-stands f offSide y (rest-sound w x y (rw (rest-fork-off f x g) at m)))
       (decided (generating b x r))
 

@@ -13,14 +13,14 @@ use Rattle.meaning.specs.declared.RuleNo.{RuleNo}
 use Rattle.meaning.specs.declared.colouring.Colouring.{Colouring}
 use Rattle.meaning.specs.Books.{Atoms, Book, count}
 use Rattle.meaning.specs.AnswerSet.{generating}
-use Rattle.meaning.specs.Colours.{Side, heads, uncoloured}
-use Rattle.meaning.specs.Written.{of, colourOn, colourOff, lent, pair}
+use Rattle.meaning.specs.Colours.{Side, onSide, offSide, heads, uncoloured}
+use Rattle.meaning.specs.Written.{of, chosen, lent, pair}
 use Rattle.meaning.specs.Computed.{close}
 use Rattle.meaning.specs.Lowest.{Pick, none, one, lowestFrom, lowest, clashed}
 use Rattle.book.specs.declared.reader.Shape.{Shape}
 use Rattle.book.specs.Format.{bookIn, ReadAs}
 use Rattle.book.proofs.Places.{shape-count}
-use Rattle.closing.specs.Left.{left, chosen}
+use Rattle.closing.specs.Left.{left, Shallow}
 use Rattle.walk.specs.Events.{Event, clash, fork, reading, after, eventsIn, events, rest}
 use Rattle.walk.specs.Run.{Wanted, State, counted, clashedAt, halting, readingMet, tried, run}
 use Rattle.walk.specs.Room.{Room}
@@ -32,7 +32,7 @@ use Rattle.walk.specs.declared.tally.Halt.the-variants.{Going, Full, Lim
 use Rattle.walk.specs.declared.tally.Tally.{Tally}
 use Rattle.walk.proofs.tally.Halt.{the-type}
 use Rattle.walk.proofs.Events.{Closes, events-clash, events-reading, rest-clash, rest-reading}
-use Rattle.walk.proofs.Events.{Forks, fork-falls, events-fork, rest-fork-on, rest-fork-off}
+use Rattle.walk.proofs.Events.{Forks, fork-falls, fork-shallow, events-fork, rest-fork-on, rest-fork-off}
 use Rattle.closing.proofs.Searches.{lowest-in}
 use Rattle.walk.proofs.Run.{apart, run-append, run-ended, run-try, run-stops, run-fine}
 use Rattle.walk.proofs.Meeting.{wanted, room-fine, fine-room}
@@ -84,6 +84,10 @@ pub side-falls : {b : Book} {c d : Colouring} {r : RuleNo} {n : ℕ} → Forks b
     → y ≡ chosen x r d → left b y < n
 side-falls f e x g = rw (g, ← e) (fork-falls f x)
 
+pub side-shallow : {b : Book} {c d : Colouring} {r : RuleNo} → Forks b c d r → Shallow b c → (x : Side) {y : Colouring}
+    → y ≡ chosen x r d → Shallow b y
+side-shallow f h x g = rw g (fork-shallow f h x)
+
 -- ---- the ways of a call
 
 after-some : (d : Colouring) (t p : Pick) (f : Colouring → List Event) → (e : Event) × (es : List Event) × (after d t p f ≡ e ∷ es)
@@ -117,8 +121,8 @@ module _ (b : Book) (w : Wanted) (s : State) (c : Colouring) where
 
       -- x and y are the two sides of the fork, u the state after the first and v after the second
       pub walk-fork : {r : RuleNo} {t : Tally} {x y : Colouring} {u v : State} → Forks b c d r → t ≡ counted s (s .tally .sets) Going
-          → x ≡ colourOn r d → u ≡ run b w (record { tally = t; out = s .out }) (events b x)
-          → y ≡ colourOff r d → v ≡ run b w u (events b y) → v ≡ run b w s (events b c)
+          → x ≡ chosen onSide r d → u ≡ run b w (record { tally = t; out = s .out }) (events b x)
+          → y ≡ chosen offSide r d → v ≡ run b w u (events b y) → v ≡ run b w s (events b c)
       unfolding tried
       walk-fork {r} f et ex eu ey ev =
           ev ∙ rw (ey, eu, ex, et)
@@ -137,9 +141,9 @@ module _ (b : Book) (w : Wanted) (s : State) (c : Colouring) (x : Atoms) {d : Co
 
   -- a says whether the rule that is chosen generates x
   module _ {r : RuleNo} (f : Forks b c d r) {a : Bool} (g : a ≡ generating b x r) where
-    pub resume-off : a ≡ false → {y : Colouring} {u : State} → y ≡ colourOff r d → u ≡ run b w s (rest b y x) → u ≡ run b w s (rest b c x)
+    pub resume-off : a ≡ false → {y : Colouring} {u : State} → y ≡ chosen offSide r d → u ≡ run b w s (rest b y x) → u ≡ run b w s (rest b c x)
     resume-off n ey eu = eu ∙ rw ey (sym (ap (run b w s) (rest-fork-off f x (sym g ∙ n))))
 
-    pub resume-on : a ≡ true → {y z : Colouring} {u v : State} → y ≡ colourOn r d → u ≡ run b w s (rest b y x)
-        → z ≡ colourOff r d → v ≡ run b w u (events b z) → v ≡ run b w s (rest b c x)
+    pub resume-on : a ≡ true → {y z : Colouring} {u v : State} → y ≡ chosen onSide r d → u ≡ run b w s (rest b y x)
+        → z ≡ chosen offSide r d → v ≡ run b w u (events b z) → v ≡ run b w s (rest b c x)
     resume-on m ey eu ez ev = ev ∙ rw (ez, eu, ey) (sym (ap (run b w s) (rest-fork-on f x (sym g ∙ m)) ∙ run-append b w s _ _))

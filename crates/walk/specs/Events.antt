@@ -13,8 +13,8 @@ use Rattle.meaning.specs.declared.RuleNo.{RuleNo}
 use Rattle.meaning.specs.declared.colouring.Colouring.{Colouring}
 use Rattle.meaning.specs.Books.{Atoms, Book, count}
 use Rattle.meaning.specs.AnswerSet.{generating}
-use Rattle.meaning.specs.Colours.{uncoloured}
-use Rattle.meaning.specs.Written.{colourOn, colourOff, pair}
+use Rattle.meaning.specs.Colours.{onSide, offSide, uncoloured}
+use Rattle.meaning.specs.Written.{chosen, pair}
 use Rattle.meaning.specs.Computed.{close}
 use Rattle.meaning.specs.Lowest.{Pick, none, one, lowest, clashed}
 
@@ -29,7 +29,7 @@ pub data Event : Type 0 where
 unfoldable pub after : Colouring → Pick → Pick → (Colouring → List Event) → List Event
 after d (one r) p further = clash r ∷ []
 after d none none further = reading d ∷ []
-after d none (one r) further = fork r ∷ (further (colourOn r d) ++ further (colourOff r d))
+after d none (one r) further = fork r ∷ (further (chosen onSide r d) ++ further (chosen offSide r d))
 
 abbrev pub afterClosing : Book → Colouring → (Colouring → List Event) → List Event
 afterClosing b d further = after d (clashed b (pair d)) (lowest b (uncoloured (pair d))) further
@@ -52,7 +52,7 @@ unfoldable pub afterPast : Book → Colouring → Atoms → Pick → Pick → (C
 afterPast b d x (one r) p further = []
 afterPast b d x none none further = []
 afterPast b d x none (one r) further =
-    beside (generating b x r) (further (colourOn r d)) (further (colourOff r d)) (events b (colourOff r d))
+    beside (generating b x r) (further (chosen onSide r d)) (further (chosen offSide r d)) (events b (chosen offSide r d))
 
 unfoldable pub restIn : ℕ → Book → Colouring → Atoms → List Event
 restIn zero b c x = []

@@ -8,6 +8,7 @@ ghost use Rattle.meaning.specs.Books.{atomNo};
 ghost use Rattle.meaning.specs.AnswerSet.{generating};
 ghost use Rattle.meaning.specs.Choice.{agree};
 ghost use Rattle.book.specs.Format.{bookIn, ReadAs};
+ghost use Rattle.closing.specs.Left.{Shallow};
 ghost use Rattle.walk.specs.Events.{rest};
 ghost use Rattle.walk.specs.Run.{State, run};
 ghost use Rattle.walk.specs.Page.{setIn};
@@ -74,7 +75,8 @@ pub fn resume(
     out: &mut [u8],
 ) -> Tally
     requires { ⌜ ReadAs (now book) shape
-        × Room (bookIn (now book)) pass room (record { tally = t; out = now out }) ⌝ }
+        × Room (bookIn (now book)) pass room (record { tally = t; out = now out })
+        × Shallow (bookIn (now book)) c ⌝ }
     ensures { λ r. ⌜ _≡_ {A = State} (record { tally = r; out = now (out .exit) })
         (run (bookIn (now (book .entry))) (record { pass = pass; room = room; limit = limit })
         (record { tally = t; out = now (out .entry) })
@@ -90,8 +92,18 @@ pub fn resume(
         return t;
     };
     if !generates(book, shape, r, last) {
-        return resume(book, shape, d.with_off(r), last, pass, room, limit, t, out);
+        return resume(
+            book,
+            shape,
+            d.choose_off(r),
+            last,
+            pass,
+            room,
+            limit,
+            t,
+            out,
+        );
     }
-    let first = resume(book, shape, d.with_on(r), last, pass, room, limit, t, out);
-    walk(book, shape, d.with_off(r), pass, room, limit, first, out)
+    let first = resume(book, shape, d.choose_on(r), last, pass, room, limit, t, out);
+    walk(book, shape, d.choose_off(r), pass, room, limit, first, out)
 }

@@ -2,6 +2,7 @@
 // stops at the limit makes no further closing.
 ghost use mathlib.Core.Path.{_≡_};
 ghost use Rattle.book.specs.Format.{bookIn, ReadAs};
+ghost use Rattle.closing.specs.Left.{Shallow};
 ghost use Rattle.walk.specs.Events.{events};
 ghost use Rattle.walk.specs.Run.{State, run};
 ghost use Rattle.walk.specs.Room.{Room};
@@ -29,7 +30,8 @@ pub fn walk(
     out: &mut [u8],
 ) -> Tally
     requires { ⌜ ReadAs (now book) shape
-        × Room (bookIn (now book)) pass room (record { tally = t; out = now out }) ⌝ }
+        × Room (bookIn (now book)) pass room (record { tally = t; out = now out })
+        × Shallow (bookIn (now book)) c ⌝ }
     ensures { λ r. ⌜ _≡_ {A = State} (record { tally = r; out = now (out .exit) })
         (run (bookIn (now (book .entry))) (record { pass = pass; room = room; limit = limit })
         (record { tally = t; out = now (out .entry) }) (events (bookIn (now (book .entry))) c)) ⌝ }
@@ -57,7 +59,7 @@ pub fn walk(
         return meet(book, shape, &d.on, pass, room, limit, t, out);
     };
     let forked = t.tried(t.sets, Halt::Going);
-    let chosen = d.with_on(r);
+    let chosen = d.choose_on(r);
     let first = walk(book, shape, chosen, pass, room, limit, forked, out);
-    walk(book, shape, d.with_off(r), pass, room, limit, first, out)
+    walk(book, shape, d.choose_off(r), pass, room, limit, first, out)
 }

@@ -7,6 +7,7 @@ use Prim.Native.Nat.{ℕ, _≤_, _<_}
 use native.Mathlib.Omega.{arith}
 use lib.ListN.{length, set, length-set}
 use Rattle.meaning.specs.declared.RuleNo.{RuleNo}
+use Rattle.meaning.specs.declared.colouring.Colouring.{Colouring}
 use Rattle.meaning.specs.Books.{Book, count}
 use Rattle.meaning.specs.Colours.{Pair, onSide, offSide, plus, put}
 use Rattle.meaning.specs.declared.kind.Claim.{Claim}
@@ -39,6 +40,10 @@ step-drop (does-drop w) = rw (w .listed) (refl, w .counted)
 
 -- ---- the branch so far
 
+-- two sets as a colouring: nothing else of it counts
+abbrev plain : List Bool → List Bool → Colouring
+plain on off = record { on = on; off = off; marks = on; level = 0; levels = [] }
+
 module _ (b : Book) (k : Claim) (c : Pair) (at : ℕ) (before : List ℕ) where
   pub record Ahead (on off : List Bool) (n : ℕ) (out : List ℕ) : Type 0 where
     pub on-long : length on ≡ 255
@@ -70,7 +75,7 @@ module _ {b : Book} {k : Claim} (fits : count b ≤ 255) {c : Pair} {at n : ℕ}
     on-below = let (h, m, n, f) = next-puts-on b k (lent on off) r (step-on d) in omega arith
 
     on-pair : lent (set on i true) off ≡ put onSide (r ∷ []) (lent on off)
-    on-pair = rw e (pair-on (record { on = on; off = off; marks = on }) r (omega (arith, a .on-long, on-below)))
+    on-pair = rw e (pair-on (plain on off) r (omega (arith, a .on-long, on-below)))
 
     pub ahead-on : {m : ℕ} {out' : List ℕ} → Writes (codeOn ∷ (r .0 ∷ [])) n out m out' → Ahead b k c at before (set on i true) off m out'
     ahead-on w = ahead-by _ (length-set on i true ∙ a .on-long) (a .off-long) (branch-on b k fits _ r (step-on d) ∙ rw on-pair) w
@@ -85,7 +90,7 @@ module _ {b : Book} {k : Claim} (fits : count b ≤ 255) {c : Pair} {at n : ℕ}
     off-below = let (h, m, n, f) = next-puts-off b k (lent on off) r (step-off d) in omega arith
 
     off-pair : lent on (set off i true) ≡ put offSide (r ∷ []) (lent on off)
-    off-pair = rw e (pair-off (record { on = on; off = off; marks = on }) r (omega (arith, a .off-long, off-below)))
+    off-pair = rw e (pair-off (plain on off) r (omega (arith, a .off-long, off-below)))
 
     pub ahead-off : {m : ℕ} {out' : List ℕ} → Writes (codeOff ∷ (r .0 ∷ [])) n out m out' → Ahead b k c at before on (set off i true) m out'
     ahead-off w = ahead-by _ (a .on-long) (length-set off i true ∙ a .off-long) (branch-off b k fits _ r (step-off d) ∙ rw off-pair) w
@@ -118,9 +123,13 @@ module _ {b : Book} {k : Claim} (fits : count b ≤ 255) {c : Pair} {at n : ℕ}
   stops-by (does-split {r = r}) e = branch-splits b k fits _ r e
   stops-by does-nothing e = branch-stuck b k fits _ e
 
-  pub ahead-stops : {l marks : List Bool} {t : Tip} → Does b l (Stops t) (next b k (lent on off)) → {m : ℕ} {out' : List ℕ}
+  pub ahead-stops : {l marks : List Bool} {level : ℕ} {levels : List ℕ} {t : Tip} → Does b l (Stops t) (next b k (lent on off)) → {m : ℕ} {out' : List ℕ}
       → Writes (tipBytes t) n out m out'
-      → Wrote (branch b k c) at before (record { colours = record { on = on; off = off; marks = marks }; length = m; tip = t }) out'
+      → Wrote (branch b k c) at before (record {
+        colours = record { on = on; off = off; marks = marks; level = level; levels = levels };
+        length = m;
+        tip = t;
+      }) out'
   unfolding behind
   ahead-stops d w = let e = a .whole ∙ ap (behind (a .bytes)) (stops-by d refl) in record {
     bytes = rw (ap (λ t. t .bytes) e) (writes-then (a .written) w);

@@ -12,7 +12,7 @@ use Rattle.meaning.specs.Colours.{put, heads, allIn, mayOn, blocked, starved, c
 use Rattle.meaning.specs.Claim.{claimed, markOf, mark, shownBy, shown, ended}
 use Rattle.meaning.specs.Paper.{trailer}
 use Rattle.meaning.specs.Written.{of, addFrom, added}
-use Rattle.meaning.specs.Computed.{iterate, upheld, supportMore, support, goesOff, closeMore, marked, close}
+use Rattle.meaning.specs.Computed.{iterate, upheld, supportMore, support, goesOff, closeMore, marked, stamped, close}
 use Rattle.meaning.specs.Lowest.{onPick, oneOr, lowestFrom, lowest, clashed, listedIf, rulesFrom, rulesIn}
 use Rattle.meaning.specs.Engine.{firstOf, unsupported, next, listable, listing, witnessOf}
 use Rattle.meaning.specs.Choice.{ifb, ifLt, ifEq}
@@ -79,7 +79,7 @@ pub worked :
     × (clearOf choice (atomNo 0) 1000 (sevens 12) ≡ record { told = refused 18; buffer = sevens 12 })
 unfolding every some everyBelow someBelow sameAtom sameRule count rule everyRule someRule generates generating put heads allIn
     mayOn blocked starved clashing uncoloured claimed markOf mark shownBy shown ended trailer of addFrom added iterate upheld supportMore support
-    goesOff closeMore marked close onPick oneOr lowestFrom lowest clashed listedIf rulesFrom rulesIn
+    goesOff closeMore marked stamped close onPick oneOr lowestFrom lowest clashed listedIf rulesFrom rulesIn
     firstOf unsupported next listable listing witnessOf ifb ifLt ifEq u16At partOf andThen bytesOf recordOf lengthOf ruleOf
     recordsOf rulesOf ifFine bodyOf readOf after eventsIn events rowFrom rowOf writeAt readingMet tried eventMet run setIn
     behind branchBy branchIn branch below branchesIn branches courseAt met scan firstWalk paperWalk wholePaper handOver

@@ -55,6 +55,8 @@ pub fn write_branch(
     let mut on = c.on;
     let mut off = c.off;
     let marks = c.marks;
+    let level = c.level;
+    let levels = c.levels;
     let mut dropped = [false; Colouring::RULES];
     let mut n = at;
     loop {
@@ -74,7 +76,13 @@ pub fn write_branch(
             }
             Step::Stops(tip) => {
                 return Written {
-                    colours: Colouring { on, off, marks },
+                    colours: Colouring {
+                        on,
+                        off,
+                        marks,
+                        level,
+                        levels,
+                    },
                     length: write_tip(draft, n, tip),
                     tip,
                 };

@@ -19,15 +19,15 @@ use Rattle.closing.proofs.close.Statement.{statement}
 use Rattle.closing.proofs.close.Tie as tie
 
 abbrev Inv-loop : tie.InvT-loop
-Inv-loop book shape on₀ off₀ marks₀ headed₀ lost₀ on off marks headed lost = Closes (bookIn book) on₀ off₀ on off marks headed lost
+Inv-loop book shape c on₀ off₀ marks₀ headed₀ lost₀ on off marks headed lost = Closes (bookIn book) on₀ off₀ on off marks headed lost
 
 abbrev μ-loop : tie.MeasureT-loop
-μ-loop book shape on₀ off₀ marks₀ headed₀ lost₀ on off marks headed lost = room (bookIn book) on + room (bookIn book) off
+μ-loop book shape c on₀ off₀ marks₀ headed₀ lost₀ on off marks headed lost = room (bookIn book) on + room (bookIn book) off
 
 -- ---- the places on the way, with what is known there
 
 -- the book is good, and each array of the colouring has 255 elements
-start-good : (s : tie.Start Inv-loop μ-loop) → Good (s .args .book .now) (s .args .shape) × Sized (s .args .c)
+start-good : (s : tie.Start Inv-loop μ-loop) → Good (s .args .book .now) (s .args .shape) × Sized (s .args .t3)
 start-good s = (search needs, search needs)
 
 -- where the loop begins: behind lost_in, before it heads_of, before that support
@@ -63,6 +63,13 @@ module _ (d : tie.After-grow-off Inv-loop μ-loop) where
   asks : Asks (bookIn (entry .args .book .now))
   asks = good-asks (start-good entry .0)
 
+-- behind the search for a contradiction, the stamping; and before it, the tests that nothing was added
+abbrev stamping : tie.After-lowest-clash Inv-loop μ-loop → tie.After-stamp Inv-loop μ-loop
+stamping c = c .before .before .before
+
+abbrev tests : tie.After-levels2 Inv-loop μ-loop → tie.Then2 Inv-loop μ-loop
+tests c = c .before .before .before .before .before .before .before
+
 -- ---- the needs
 
 -- what a pass tells, by the test that was made on it
@@ -82,17 +89,22 @@ grow-off-requires c κs =
     let l = turn (passed c .before) in
     (start (l .before) .pre, l .loop .inv .off-long, l .loop .inv .lost-table, l .loop .inv .supported)
 
+stamp-requires : tie.Need-stamp-requires Inv-loop μ-loop
+stamp-requires c κs = start-good (entry (tests c .before .before)) .1 .levels
+
 returns : tie.Need-returns Inv-loop μ-loop
 returns c =
-    let t = c .before .before .before in
+    let m = stamping c in
+    let t = tests (m .before) in
     let d = t .before .before in
     let p = first d .pass-on .ensures in
     let q = d .grow-off .ensures in
     let x = not-true (first d .pass-on .result) (t .before .if1 .taken) in
     let y = not-true (d .grow-off .result) (t .if2 .taken) in
-    let e = closes-end _ (asks d) (entry d .args .c) (start-good (entry d) .1) (begun d .loop .inv) (tested x (p .0)) (p .1) (tested y (q .0))
-    (q .1) (q .2) in
-    (e, clash-end _ _ (shape-count _ _ (entry d .pre)) e (c .lowest-clash .ensures))
+    let n = shape-count _ _ (entry d .pre) in
+    let e = closes-end _ (asks d) (entry d .args .t3) (start-good (entry d) .1) (begun d .loop .inv) (tested x (p .0)) (p .1) (tested y (q .0))
+    (q .1) (q .2) n (m .stamp .ensures) in
+    (e, clash-end _ _ n e (c .lowest-clash .ensures))
 
 -- a pass that adds a rule leaves fewer, and the other pass no more
 loop-less : tie.Need-loop-less Inv-loop μ-loop
@@ -124,4 +136,4 @@ loop-again-2 c =
 pub close-spec : {M : Type 1} → statement M
 close-spec =
     tie.close (tie.spec Inv-loop μ-loop (λ c κs. search needs) (λ c κs. search needs) (λ c κs. search needs) loop-holds
-    pass-on-requires grow-off-requires (λ c κs. search needs) returns loop-less loop-again loop-less-2 loop-again-2)
+    pass-on-requires grow-off-requires stamp-requires (λ c κs. search needs) returns loop-less loop-again loop-less-2 loop-again-2)

@@ -1,16 +1,23 @@
 -- The walk to the k-th reading, from its start: there is room for one row, and the colouring is empty.
-use Prim.Native.Nat.{_-_}
+use Prim.Native.Nat.{_-_, _<_}
 use native.Mathlib.Omega.{arith}
 use borrow.Author.Needs.{needs}
-use Rattle.walk.proofs.Answering.{room-start, one-row, walk-from}
+use Rattle.walk.proofs.Answering.{room-start, one-row, shallow-start, walk-from}
 use Rattle.walk.proofs.kth.kth.Statement.{statement}
 use Rattle.walk.proofs.kth.kth.Tie as tie
+
+-- the book's rules are counted by a byte
+few-rules : (s : tie.Start) → s .args .shape .rules < 256
+few-rules s = search needs
 
 walk-requires : tie.Need-walk-requires
 walk-requires c κs =
     let s = c .before .before .before .before in
-    let a = s .args in
-    (s .pre .0, room-start _ (a .k - 1) 1 0 _ (omega arith) (one-row _ _ (s .pre .0) (a .answer .now) (s .pre .2)))
+    let a = s .args in (
+      s .pre .0,
+      room-start _ (a .k - 1) 1 0 _ (omega arith) (one-row _ _ (s .pre .0) (a .answer .now) (s .pre .2)),
+      shallow-start _ _ (s .pre .0) (few-rules s) (c .before .empty .ensures),
+    )
 
 returns : tie.Need-returns
 returns c =

@@ -1,4 +1,5 @@
 -- The next page of a good book: no room, the first page by the walk, or a later one by resuming it. Both start with room for their rows.
+use Prim.Native.Nat.{_<_}
 use borrow.Author.Needs.{needs}
 use Rattle.walk.proofs.Answering.{page-no-room, page-room, page-first, page-later}
 use Rattle.walk.proofs.pages.page_in.Statement.{statement}
@@ -8,11 +9,17 @@ use Rattle.walk.proofs.pages.page_in.Tie as tie
 abbrev start : tie.After-rows-in → tie.Start
 start c = c .before .before .before .before .before .before
 
+-- the book's rules are counted by a byte
+few-rules : (s : tie.Start) → s .args .shape .rules < 256
+few-rules s = search needs
+
 returns : tie.Need-returns
 returns c = page-no-room _ _ (c .before .before .before .before .before .pre) _ _ _ _ (c .if1 .taken)
 
 walk-requires : tie.Need-walk-requires
-walk-requires c κs = let r = c .before .before .before in page-room _ _ (start r .pre) _ _ (r .before .if1 .left) (r .rows-in .ensures)
+walk-requires c κs =
+    let r = c .before .before .before in
+    page-room _ _ (start r .pre) _ _ (r .before .if1 .left) (r .rows-in .ensures) (few-rules (start r)) (c .before .empty .ensures)
 
 returns-2 : tie.Need-returns-2
 returns-2 c =
@@ -22,7 +29,9 @@ returns-2 c =
     (e .before .if2 .taken) (c .before .before .before .walk .ensures)
 
 resume-requires : tie.Need-resume-requires
-resume-requires c κs = let r = c .before .before .before in page-room _ _ (start r .pre) _ _ (r .before .if1 .left) (r .rows-in .ensures)
+resume-requires c κs =
+    let r = c .before .before .before in
+    page-room _ _ (start r .pre) _ _ (r .before .if1 .left) (r .rows-in .ensures) (few-rules (start r)) (c .before .empty2 .ensures)
 
 returns-3 : tie.Need-returns-3
 returns-3 c =

@@ -13,15 +13,15 @@ use Rattle.meaning.proofs.Written.{Sized}
 use Rattle.book.specs.Format.{bookIn}
 use Rattle.book.proofs.Places.{in-shape}
 use Rattle.closing.specs.Left.{left}
-use Rattle.walk.proofs.Events.{Closes, Forks, fork-in-book, fork-low}
-use Rattle.walk.proofs.Walking.{few, clash-told, lowest-told, forks-told, side-falls, room-run}
+use Rattle.walk.proofs.Events.{Closes, Forks, fork-in-book, fork-low, fork-level}
+use Rattle.walk.proofs.Walking.{few, clash-told, lowest-told, forks-told, side-falls, side-shallow, room-run}
 use Rattle.walk.proofs.Walking.{resume-clash, resume-reading, resume-off, resume-on}
 use Rattle.walk.proofs.resume.resume.Reads as resume
 use Rattle.walk.proofs.resume.resume.Kinds as kinds
 use Rattle.walk.proofs.resume.+resume.Lts-resume as lts
 use Rattle.closing.proofs.close.Reads as close-reads
-use Rattle.meaning.proofs.colouring.Colouring.with_off.Reads as with-off-reads
-use Rattle.meaning.proofs.colouring.Colouring.with_on.Reads as with-on-reads
+use Rattle.meaning.proofs.colouring.Colouring.choose_off.Reads as choose-off-reads
+use Rattle.meaning.proofs.colouring.Colouring.choose_on.Reads as choose-on-reads
 use Rattle.walk.proofs.colours.lowest_uncoloured.Reads as lowest-uncoloured-reads
 use Rattle.walk.proofs.resume.generates.Reads as generates-reads
 use Rattle.walk.proofs.walk.walk.Reads as walk-reads
@@ -47,12 +47,12 @@ module _ (t : ℕ) where
     lowest-uncoloured-reads.Learnt,
     generates-reads.Asked,
     generates-reads.Learnt,
-    with-off-reads.Asked,
-    with-off-reads.Learnt,
+    choose-off-reads.Asked,
+    choose-off-reads.Learnt,
     below,
     resume.Post,
-    with-on-reads.Asked,
-    with-on-reads.Learnt,
+    choose-on-reads.Asked,
+    choose-on-reads.Learnt,
     walk-reads.Asked,
     walk-reads.Learnt,
   )
@@ -96,16 +96,20 @@ module _ (t : ℕ) where
     forks =
         forks-told _ _ (first .pre .1 .0) (closes closed) (calm searched) (searched .lowest-uncoloured .ensures) (c .before .r .given .1)
 
+    -- so it may be chosen
+    low : (c .before .r .given .0 .0 .0 < 255) × (closed .close .result .colours .level < 255)
+    low = (fork-low forks, fork-level forks (first .pre .1 .2))
+
   -- after the way with that rule on
   module _ (c : lts.After-resume2 calls here resume.Post) where
-    abbrev chosen-on : lts.After-with-on calls here resume.Post
+    abbrev chosen-on : lts.After-choose-on calls here resume.Post
     chosen-on = c .before .before
 
     abbrev forked : lts.After-known-told calls here resume.Post
     forked = chosen-on .before .before .before
 
   -- and with it put off
-  abbrev resumed : lts.After-with-off2 calls here resume.Post → lts.After-resume2 calls here resume.Post
+  abbrev resumed : lts.After-choose-off2 calls here resume.Post → lts.After-resume2 calls here resume.Post
   resumed c = c .before .before .before
 
   -- ---- the needs
@@ -125,37 +129,42 @@ module _ (t : ℕ) where
   generates-requires : lts.Need-generates-requires calls here resume.Post
   generates-requires c κs = let s = first c .pre .1 .0 in (s, in-shape _ _ s _ (fork-in-book (forks c)))
 
-  with-off-requires : lts.Need-with-off-requires calls here resume.Post
-  with-off-requires c κs = fork-low (forks (c .before .before))
+  choose-off-requires : lts.Need-choose-off-requires calls here resume.Post
+  choose-off-requires c κs = low (c .before .before)
 
   resume-requires : lts.Need-resume-requires calls here resume.Post
   resume-requires c κs =
       let f = c .before .before .before .before in
-      (side-falls (forks f) (first f .pre .0) offSide (c .before .with-off .ensures), first f .pre .1)
+      let s = first f .pre .1 in
+      let e = c .before .choose-off .ensures in
+      (side-falls (forks f) (first f .pre .0) offSide e, (s .0, s .1, side-shallow (forks f) (s .2) offSide e))
 
   returns-3 : lts.Need-returns-3 calls here resume.Post
   returns-3 c =
       let y = c .before .before .before .before in
       let g = y .before .before in
-      resume-off _ _ _ _ _ (forks (g .before)) (g .generates .ensures) (not-true _ (y .before .if1 .taken)) (y .with-off .ensures)
+      resume-off _ _ _ _ _ (forks (g .before)) (g .generates .ensures) (not-true _ (y .before .if1 .taken)) (y .choose-off .ensures)
       (c .before .before .resume .ensures)
 
-  with-on-requires : lts.Need-with-on-requires calls here resume.Post
-  with-on-requires c κs = fork-low (forks (c .before .before))
+  choose-on-requires : lts.Need-choose-on-requires calls here resume.Post
+  choose-on-requires c κs = low (c .before .before)
 
   resume-requires-2 : lts.Need-resume-requires-2 calls here resume.Post
   resume-requires-2 c κs =
       let f = c .before .before .before .before in
-      (side-falls (forks f) (first f .pre .0) onSide (c .before .with-on .ensures), first f .pre .1)
+      let s = first f .pre .1 in
+      let e = c .before .choose-on .ensures in
+      (side-falls (forks f) (first f .pre .0) onSide e, (s .0, s .1, side-shallow (forks f) (s .2) onSide e))
 
-  with-off-requires-2 : lts.Need-with-off-requires-2 calls here resume.Post
-  with-off-requires-2 c κs = fork-low (forks (forked (c .before .before)))
+  choose-off-requires-2 : lts.Need-choose-off-requires-2 calls here resume.Post
+  choose-off-requires-2 c κs = low (forked (c .before .before))
 
   walk-requires : lts.Need-walk-requires calls here resume.Post
   walk-requires c κs =
       let w = resumed (c .before) in
-      let s = first (forked w) .pre .1 in
-      (s .0, room-run (s .1) _ _ (w .resume2 .ensures))
+      let f = forked w in
+      let s = first f .pre .1 in
+      (s .0, room-run (s .1) _ _ (w .resume2 .ensures), side-shallow (forks f) (s .2) offSide (c .before .choose-off2 .ensures))
 
   returns-4 : lts.Need-returns-4 calls here resume.Post
   returns-4 c =
@@ -163,10 +172,10 @@ module _ (t : ℕ) where
       let w = resumed z in
       let y = chosen-on w in
       resume-on _ _ _ _ _ (forks (forked w)) (y .before .before .generates .ensures) (not-false _ (y .before .if1 .left))
-      (y .with-on .ensures) (w .resume2 .ensures) (z .with-off2 .ensures) (c .before .before .walk .ensures)
+      (y .choose-on .ensures) (w .resume2 .ensures) (z .choose-off2 .ensures) (c .before .before .walk .ensures)
 
 pub +resume-spec : {M : Type 1} → statement M
 +resume-spec = close μ-resume λ t. lts.spec (calls t) (here t) resume.Post
     (λ c κs. search needs) (λ c. search needs) (returns t) (λ c. search needs) (λ c κs. search needs) (λ c. search needs)
-    (λ c. search needs) (returns-2 t) (generates-requires t) (with-off-requires t) (resume-requires t) (λ c. search needs) (returns-3 t)
-    (with-on-requires t) (resume-requires-2 t) (with-off-requires-2 t) (walk-requires t) (λ c. search needs) (returns-4 t)
+    (λ c. search needs) (returns-2 t) (generates-requires t) (choose-off-requires t) (resume-requires t) (λ c. search needs) (returns-3 t)
+    (choose-on-requires t) (resume-requires-2 t) (choose-off-requires-2 t) (walk-requires t) (λ c. search needs) (returns-4 t)

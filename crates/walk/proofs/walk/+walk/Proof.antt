@@ -12,15 +12,15 @@ use Rattle.meaning.proofs.Written.{Sized}
 use Rattle.book.specs.Format.{bookIn}
 use Rattle.closing.specs.Left.{left}
 use Rattle.walk.specs.declared.tally.Halt.the-variants.{Going}
-use Rattle.walk.proofs.Events.{Closes, Forks, fork-low}
-use Rattle.walk.proofs.Walking.{few, clash-told, lowest-told, forks-told, side-falls, room-tried, room-run, halted-told}
-use Rattle.walk.proofs.Walking.{walk-ended, walk-stops, walk-clash, walk-reading, walk-fork}
+use Rattle.walk.proofs.Events.{Closes, Forks, fork-low, fork-level}
+use Rattle.walk.proofs.Walking.{few, clash-told, lowest-told, forks-told, side-falls, side-shallow, room-tried, room-run}
+use Rattle.walk.proofs.Walking.{halted-told, walk-ended, walk-stops, walk-clash, walk-reading, walk-fork}
 use Rattle.walk.proofs.walk.walk.Reads as walk
 use Rattle.walk.proofs.walk.walk.Kinds as kinds
 use Rattle.walk.proofs.walk.+walk.Lts-walk as lts
 use Rattle.closing.proofs.close.Reads as close-reads
-use Rattle.meaning.proofs.colouring.Colouring.with_off.Reads as with-off-reads
-use Rattle.meaning.proofs.colouring.Colouring.with_on.Reads as with-on-reads
+use Rattle.meaning.proofs.colouring.Colouring.choose_off.Reads as choose-off-reads
+use Rattle.meaning.proofs.colouring.Colouring.choose_on.Reads as choose-on-reads
 use Rattle.walk.proofs.colours.lowest_uncoloured.Reads as lowest-uncoloured-reads
 use Rattle.walk.proofs.meet.meet.Reads as meet-reads
 use Rattle.walk.proofs.tally.Tally.clashed.Reads as clashed-reads
@@ -51,12 +51,12 @@ module _ (t : ℕ) where
     meet-reads.Learnt,
     tried-reads.Asked,
     tried-reads.Learnt,
-    with-on-reads.Asked,
-    with-on-reads.Learnt,
+    choose-on-reads.Asked,
+    choose-on-reads.Learnt,
     below,
     walk.Post,
-    with-off-reads.Asked,
-    with-off-reads.Learnt,
+    choose-off-reads.Asked,
+    choose-off-reads.Learnt,
   )
 
   -- ---- the places on the way, with what is known there
@@ -110,7 +110,7 @@ module _ (t : ℕ) where
     forked = tried .before
 
   -- and with it put off
-  abbrev walked : lts.After-with-off calls here walk.Post → lts.After-walk calls here walk.Post
+  abbrev walked : lts.After-choose-off calls here walk.Post → lts.After-walk calls here walk.Post
   walked c = c .before .before .before
 
   -- ---- the needs
@@ -136,20 +136,20 @@ module _ (t : ℕ) where
       walk-reading _ _ _ _ (going k) (k .before .if1 .left) (closes k) (calm p)
       (lowest-told _ _ (start k .pre .1 .0) _ _ (p .lowest-uncoloured .ensures) (n .enum-told3 .given .1)) (m .meet .ensures)
 
-  with-on-requires : lts.Need-with-on-requires calls here walk.Post
-  with-on-requires c κs = fork-low (forks (c .before))
+  choose-on-requires : lts.Need-choose-on-requires calls here walk.Post
+  choose-on-requires c κs = let f = c .before in (fork-low (forks f), fork-level (forks f) (first f .pre .1 .2))
 
   walk-requires : lts.Need-walk-requires calls here walk.Post
   walk-requires c κs =
       let u = c .before .before in
       let f = u .before in
       let s = first f .pre .1 in (
-        side-falls (forks f) (first f .pre .0) onSide (c .before .with-on .ensures),
-        (s .0, room-tried (s .1) (going (closed f)) (u .tried .ensures)),
+        side-falls (forks f) (first f .pre .0) onSide (c .before .choose-on .ensures),
+        (s .0, room-tried (s .1) (going (closed f)) (u .tried .ensures), side-shallow (forks f) (s .2) onSide (c .before .choose-on .ensures)),
       )
 
-  with-off-requires : lts.Need-with-off-requires calls here walk.Post
-  with-off-requires c κs = fork-low (forks (forked (c .before .before)))
+  choose-off-requires : lts.Need-choose-off-requires calls here walk.Post
+  choose-off-requires c κs = let f = forked (c .before .before) in (fork-low (forks f), fork-level (forks f) (first f .pre .1 .2))
 
   walk-requires-2 : lts.Need-walk-requires-2 calls here walk.Post
   walk-requires-2 c κs =
@@ -157,8 +157,12 @@ module _ (t : ℕ) where
       let w = walked v in
       let f = forked w in
       let s = first f .pre .1 in (
-        side-falls (forks f) (first f .pre .0) offSide (v .with-off .ensures),
-        (s .0, room-run (room-tried (s .1) (going (closed f)) (tried w .tried .ensures)) _ _ (w .walk .ensures)),
+        side-falls (forks f) (first f .pre .0) offSide (v .choose-off .ensures),
+        (
+          s .0,
+          room-run (room-tried (s .1) (going (closed f)) (tried w .tried .ensures)) _ _ (w .walk .ensures),
+          side-shallow (forks f) (s .2) offSide (v .choose-off .ensures),
+        ),
       )
 
   returns-5 : lts.Need-returns-5 calls here walk.Post
@@ -167,12 +171,12 @@ module _ (t : ℕ) where
       let w = walked v in
       let f = forked w in
       let k = closed f in
-      walk-fork _ _ _ _ (going k) (k .before .if1 .left) (forks f) (tried w .tried .ensures) (w .before .before .with-on .ensures)
-      (w .walk .ensures) (v .with-off .ensures) (c .before .before .walk2 .ensures)
+      walk-fork _ _ _ _ (going k) (k .before .if1 .left) (forks f) (tried w .tried .ensures) (w .before .before .choose-on .ensures)
+      (w .walk .ensures) (v .choose-off .ensures) (c .before .before .walk2 .ensures)
 
 pub +walk-spec : {M : Type 1} → statement M
 +walk-spec = close μ-walk λ t. lts.spec (calls t) (here t) walk.Post
     (λ c. search needs) (returns t) (returns-2 t) (λ c κs. search needs) (λ c. search needs) (λ c κs. search needs)
     (returns-3 t) (λ c. search needs) (λ c κs. search needs) (λ c. search needs) (λ c. search needs) (λ c κs. search needs) (λ c. search needs)
-    (returns-4 t) (λ c κs. search needs) (with-on-requires t) (walk-requires t) (with-off-requires t) (walk-requires-2 t)
+    (returns-4 t) (λ c κs. search needs) (choose-on-requires t) (walk-requires t) (choose-off-requires t) (walk-requires-2 t)
     (λ c. search needs) (returns-5 t)
