@@ -1,10 +1,9 @@
 -- A good book whose numbers are bytes, as every function of this crate is handed one, and what it says of the book's rules.
-use mathlib.Core.Path.{_≡_, refl, ap}
+use mathlib.Core.Path.{_≡_}
 use mathlib.Core.Bool.{Bool}
-use mathlib.Core.List.{List, [], _∷_}
-use Prim.Native.Nat.{ℕ, suc, _≤_, _<_}
+use mathlib.Core.List.{List}
+use Prim.Native.Nat.{ℕ, _≤_, _<_}
 use native.Mathlib.Omega.{arith}
-use lib.ListN.{length}
 use Rattle.meaning.specs.declared.AtomNo.{AtomNo}
 use Rattle.meaning.specs.declared.RuleNo.{RuleNo}
 use Rattle.meaning.specs.Sets.{every, some}
@@ -22,11 +21,6 @@ pub record Good (s : List ℕ) (h : Shape) : Type 0 where
   pub atoms : h .atoms < 256
   pub rules : h .rules < 256
 
--- bytes of atoms are as many as the atoms
-pub bytes-length : (l : List AtomNo) → length (atomBytes l) ≡ length l
-bytes-length [] = refl
-bytes-length (a ∷ l) = ap suc (bytes-length l)
-
 module _ {s : List ℕ} {h : Shape} (g : Good s h) where
   pub good-count : count (bookIn s) ≡ h .rules
   good-count = shape-count s h (g .read)
@@ -43,10 +37,6 @@ module _ {s : List ℕ} {h : Shape} (g : Good s h) where
 
     pub pos-low : (part : List ℕ) → part ≡ atomBytes (rule (bookIn s) r .pos) → Below 255 part
     pos-low part e = pos-below s h (g .read) r (in-shape s h (g .read) r l) (g .atoms) part e
-
-    -- the positive atoms are at most 16
-    pub pos-few : (part : List ℕ) → part ≡ atomBytes (rule (bookIn s) r .pos) → length part ≤ 16
-    pos-few part e = rw (e, bytes-length) (rule-keeps s h (g .read) r (in-shape s h (g .read) r l) .pos .short)
 
 -- what a table answers, asked for the atoms of a rule of the book
 pub record Asks (b : Book) : Type 0 where

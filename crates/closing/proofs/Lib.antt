@@ -3,7 +3,6 @@ pub mod Good
 pub mod Headed
 pub mod Growing
 pub mod Turns
-pub mod Counters
 pub mod Supporting
 pub mod Searches
 pub mod Stamping

@@ -1,5 +1,5 @@
 -- The marks at rest are the support set: they were grown from nothing, so they are in every upheld set, and a pass that adds nothing has
--- found an upheld one (document 01, "Support"; blueprint, "Counters for V": "at the end marked = V").
+-- found an upheld one (document 01, "Support"; blueprint, "Marks for V").
 use mathlib.Core.Path.{_≡_, refl, sym, _∙_, ap}
 use mathlib.Core.Bool.{Bool, false, not}
 use mathlib.Core.List.{List}

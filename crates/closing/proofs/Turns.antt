@@ -3,11 +3,12 @@
 use mathlib.Core.Path.{_≡_, _∙_, ap}
 use mathlib.Core.Logic.{⊎-elim}
 use mathlib.Core.Bool.{Bool, true, false, not, _&&_}
-use mathlib.Core.List.{List}
+use mathlib.Core.List.{List, map}
+use Prim.Native.Nat.{ℕ}
 use lib.ListN.{getD, set}
 use Rattle.meaning.specs.declared.RuleNo.{RuleNo}
 use Rattle.meaning.specs.Sets.{_∈_, _∉_, every, some}
-use Rattle.meaning.specs.Books.{Rules, Book, rule, InBook}
+use Rattle.meaning.specs.Books.{Rules, atomNo, Book, rule, InBook}
 use Rattle.meaning.specs.Colours.{heads, allIn}
 use Rattle.meaning.specs.Written.{of}
 use Rattle.meaning.specs.Computed.{upheld}
@@ -15,6 +16,8 @@ use Rattle.meaning.proofs.Tests.{both, left, right, not-first, not-second, eith
 use Rattle.meaning.proofs.Sets.{every-mono, some-mono}
 use Rattle.meaning.proofs.Rules.{heads-mono, allIn-mono}
 use Rattle.book.specs.Tables.{atomTable, atomsIn}
+use Rattle.book.specs.Writing.{atomBytes}
+use Rattle.book.proofs.Bodies.{every-part}
 use Rattle.closing.specs.Growing.{Condition, Turn, stays, added}
 use Rattle.closing.specs.Conditions.{marking, onWith, goingOn, offByTables, goingOff}
 use Rattle.closing.proofs.Good.{Asks}
@@ -82,12 +85,19 @@ module _ (r : RuleNo) (l : List Bool) (more : Bool) where
       unfolding goingOff
       off-starved n e = off-added n (other (offByTables b headed marks r) e)
 
--- what goes_on answers by the table of the heads of the set
-pub on-asked : (b : Book) → Asks b → (l : List Bool) (r : RuleNo) → InBook b r → (headed : List Bool) → headed ≡ atomTable (heads b (of l))
-    → (lost : List Bool) {t : Bool} → t ≡ (every (atomsIn headed) (rule b r .pos) && every (atomsIn lost) (rule b r .neg))
-    → t ≡ onWith b lost (of l) r
-unfolding onWith
-on-asked b asks l r h headed e lost f = f ∙ rw (e, asks .pos r h (heads b (of l)))
+-- what the table of the heads of the set answers: to every_in, asked of the rule's positive atoms as the book's bytes, and to goes_on
+module _ (b : Book) (asks : Asks b) (l headed : List Bool) (e : headed ≡ atomTable (heads b (of l))) (r : RuleNo) (h : InBook b r) where
+  by-heads : every (atomsIn headed) (rule b r .pos) ≡ every (heads b (of l)) (rule b r .pos)
+  by-heads = rw (e, asks .pos r h (heads b (of l)))
+
+  pub mark-asked : (part : List ℕ) → part ≡ atomBytes (rule b r .pos) → {t : Bool} → t ≡ every (atomsIn headed) (map atomNo part)
+      → t ≡ every (heads b (of l)) (rule b r .pos)
+  mark-asked part z f = f ∙ every-part (atomsIn headed) part _ z ∙ by-heads
+
+  pub on-asked : (lost : List Bool) {t : Bool} → t ≡ (every (atomsIn headed) (rule b r .pos) && every (atomsIn lost) (rule b r .neg))
+      → t ≡ onWith b lost (of l) r
+  unfolding onWith
+  on-asked lost f = f ∙ rw by-heads
 
 -- ---- the conditions only grow
 

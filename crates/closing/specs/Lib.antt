@@ -1,6 +1,5 @@
 -- Closing. Read in this order.
 pub mod Growing
 pub mod Conditions
-pub mod Counters
 pub mod Left
 pub mod Picked

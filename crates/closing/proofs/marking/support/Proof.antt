@@ -1,36 +1,39 @@
 -- The marks are grown from nothing, and the rules without a mark become fewer; a sweep that marks none has found the support set.
-use mathlib.Core.Path.{_∙_}
+use mathlib.Core.Path.{_≡_, _∙_}
 use mathlib.Core.Bool.{false}
 use lib.ListN.{replicate, length-replicate}
 use borrow.Author.Tests.{not-true, not-false}
 use borrow.Author.Needs.{needs}
+use Rattle.meaning.specs.Colours.{heads}
 use Rattle.meaning.specs.Written.{of}
+use Rattle.book.specs.Tables.{atomTable}
 use Rattle.book.specs.Format.{bookIn}
 use Rattle.closing.specs.Growing.{Grown}
 use Rattle.closing.specs.Conditions.{marking}
-use Rattle.closing.specs.Counters.{Counted}
 use Rattle.closing.proofs.Growing.{room, grown-start, grown-more, pass-less}
 use Rattle.closing.proofs.Good.{Good, good-few}
+use Rattle.closing.proofs.Headed.{headed-none}
 use Rattle.closing.proofs.Supporting.{marks-support}
 use Rattle.closing.proofs.marking.support.Statement.{statement}
 use Rattle.closing.proofs.marking.support.Tie as tie
 
 abbrev Inv-loop : tie.InvT-loop
-Inv-loop book shape off marks₀ missing₀ supported₀ marks missing supported =
-    Grown (bookIn book) (marking (bookIn book) (of off)) (replicate 255 false) marks × Counted (bookIn book) (of marks) missing supported
+Inv-loop book shape off marks₀ supported₀ marks supported =
+    Grown (bookIn book) (marking (bookIn book) (of off)) (replicate 255 false) marks
+    × (supported ≡ atomTable (heads (bookIn book) (of marks)))
 
 abbrev μ-loop : tie.MeasureT-loop
-μ-loop book shape off marks₀ missing₀ supported₀ marks missing supported = room (bookIn book) marks
+μ-loop book shape off marks₀ supported₀ marks supported = room (bookIn book) marks
 
 -- where a sweep begins: the turn of the loop, and the start
 abbrev turn : tie.After-supported Inv-loop μ-loop → tie.At-loop Inv-loop μ-loop
-turn c = c .before .before .before
+turn c = c .before .before
 
 abbrev start : tie.At-loop Inv-loop μ-loop → tie.Start Inv-loop μ-loop
-start l = l .before .before .before .before .before
+start l = l .before .before .before
 
 loop-holds : tie.Need-loop-holds Inv-loop μ-loop
-loop-holds c = (grown-start _, c .all-missing .ensures)
+loop-holds c = (grown-start _, headed-none _)
 
 sweep-requires : tie.Need-sweep-requires Inv-loop μ-loop
 sweep-requires c κs =
@@ -55,4 +58,4 @@ loop-again c =
 
 pub support-spec : {M : Type 1} → statement M
 support-spec =
-    tie.close (tie.spec Inv-loop μ-loop (λ c κs. search needs) loop-holds sweep-requires returns loop-less loop-again)
+    tie.close (tie.spec Inv-loop μ-loop loop-holds sweep-requires returns loop-less loop-again)

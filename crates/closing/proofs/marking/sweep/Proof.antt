@@ -1,32 +1,34 @@
--- One turn after another makes a pass; the counters and the table go with the marks throughout.
+-- One turn after another makes a pass, and the table of heads goes with the marks.
+use mathlib.Core.Path.{_≡_}
 use Prim.Native.Nat.{_≤_, _-_}
 use native.Mathlib.Omega.{arith}
 use borrow.Author.Needs.{needs}
+use Rattle.meaning.specs.Colours.{heads}
 use Rattle.meaning.specs.Written.{of}
+use Rattle.book.specs.Tables.{atomTable}
 use Rattle.book.specs.Format.{bookIn}
 use Rattle.book.proofs.Places.{shape-count}
 use Rattle.closing.specs.Growing.{Pass}
 use Rattle.closing.specs.Conditions.{marking}
-use Rattle.closing.specs.Counters.{Counted}
 use Rattle.closing.proofs.Growing.{pass-start, pass-turn, pass-end}
 use Rattle.closing.proofs.Turns.{marking-mono}
 use Rattle.closing.proofs.marking.sweep.Statement.{statement}
 use Rattle.closing.proofs.marking.sweep.Tie as tie
 
 abbrev Inv-loop : tie.InvT-loop
-Inv-loop book shape off marks₀ missing₀ supported₀ more₀ r₀ marks missing supported more r =
+Inv-loop book shape off marks₀ supported₀ more₀ r₀ marks supported more r =
     (r ≤ shape .rules) × Pass (bookIn book) (marking (bookIn book) (of off)) r marks₀ marks more
-    × Counted (bookIn book) (of marks) missing supported
+    × (supported ≡ atomTable (heads (bookIn book) (of marks)))
 
 abbrev μ-loop : tie.MeasureT-loop
-μ-loop book shape off marks₀ missing₀ supported₀ more₀ r₀ marks missing supported more r = shape .rules - r
+μ-loop book shape off marks₀ supported₀ more₀ r₀ marks supported more r = shape .rules - r
 
 loop-holds : tie.Need-loop-holds Inv-loop μ-loop
 loop-holds c = (search needs, pass-start _, c .before .pre .2)
 
 loop-again : tie.Need-loop-again Inv-loop μ-loop
 loop-again c =
-    let k = c .before .before .before .before .before .before in
+    let k = c .before .before .before .before .before in
     let e = shape-count _ (k .before .before .args .shape) (k .before .before .pre .0) in
     let f = k .loop .inv .1 .grown .long in (
       search needs,

@@ -1,11 +1,14 @@
--- Each way out leaves the turn that the condition says, and counters and a table that go with the marks.
+-- The table has the heads of the marked rules, so what every_in answers by it is whether the rule is held up; a rule that is marked adds
+-- its head.
+use mathlib.Core.Path.{sym, _∙_}
 use native.Mathlib.Omega.{arith}
+use borrow.Author.Tests.{not-true, not-false}
 use borrow.Author.Needs.{needs}
 use Rattle.meaning.specs.Books.{InBook}
 use Rattle.book.specs.Format.{bookIn}
-use Rattle.closing.proofs.Good.{Good, good-in, head-low, pos-low}
-use Rattle.closing.proofs.Turns.{turn-in, mark-off, mark-waits, mark-added}
-use Rattle.closing.proofs.Counters.{counted-room, counted-done, counted-waits, counted-lower, counted-mark}
+use Rattle.closing.proofs.Good.{Good, good-in, good-asks, head-low, pos-low}
+use Rattle.closing.proofs.Headed.{headed-set}
+use Rattle.closing.proofs.Turns.{turn-in, mark-asked, mark-off, mark-waits, mark-added}
 use Rattle.closing.proofs.marking.try_rule.Statement.{statement}
 use Rattle.closing.proofs.marking.try_rule.Tie as tie
 
@@ -29,13 +32,13 @@ unmarked c = marked (c .before .before)
 abbrev start : tie.After-positives → tie.Start
 start c = unmarked (c .before .before)
 
--- behind what is still missing
-abbrev body : tie.After-still-missing → tie.After-positives
-body c = c .before .before .before
+-- behind the table's answer
+abbrev body : tie.After-every-in → tie.After-positives
+body c = c .before .before
 
 -- behind its head
-abbrev counted : tie.After-struct-known2 → tie.After-still-missing
-counted c = c .before .before .before
+abbrev asked : tie.After-struct-known2 → tie.After-every-in
+asked c = c .before .before .before
 
 -- ---- the needs
 
@@ -45,47 +48,36 @@ returns c = (turn-in _ _ _ _ (c .if1 .taken), marked (c .before) .pre .3)
 returns-2 : tie.Need-returns-2
 returns-2 c = (mark-off _ _ _ _ _ (c .if2 .taken), unmarked (c .before) .pre .3)
 
-still-missing-requires : tie.Need-still-missing-requires
-still-missing-requires c κs =
-    let p = c .before .before in
-    let k = start p in
-    let z = p .positives .ensures in
-    (counted-room _ (k .pre .3) (k .args .r) (inside k) _ z, pos-low (good k) (k .args .r) (inside k) _ z)
+every-in-requires : tie.Need-every-in-requires
+every-in-requires c κs =
+    let k = start (c .before) in pos-low (good k) (k .args .r) (inside k) _ (c .before .positives .ensures)
 
 returns-3 : tie.Need-returns-3
 returns-3 c =
     let p = body (c .before) in
     let k = start p in
-    let i = inside k in
     let z = p .positives .ensures in
-    let w = pos-low (good k) (k .args .r) i _ z in
-    let m = c .before .still-missing .ensures in (
-      mark-waits _ _ _ _ _ (counted-waits _ (k .pre .3) (k .args .r) i z w m (c .if3 .taken)),
-      counted-lower _ (k .pre .3) (k .args .r) i z w m (omega arith),
-    )
+    let e = mark-asked _ (good-asks (good k)) _ _ (k .pre .3) (k .args .r) (inside k) _ z (c .before .every-in .ensures) in
+    (mark-waits _ _ _ _ _ (sym e ∙ not-true _ (c .if3 .taken)), k .pre .3)
 
 element-write-supported : tie.Need-element-write-supported
 element-write-supported c =
-    let k = start (body (counted c)) in head-low (good k) (k .args .r) (inside k) _ (c .before .head .ensures)
+    let k = start (body (asked c)) in head-low (good k) (k .args .r) (inside k) _ (c .before .head .ensures)
 
 returns-4 : tie.Need-returns-4
 returns-4 c =
-    let p = body (counted c) in
+    let p = body (asked c) in
     let k = start p in
     let i = inside k in
     let z = p .positives .ensures in
-    let w = pos-low (good k) (k .args .r) i _ z in
-    let m = counted c .still-missing .ensures in
-    let d = counted-done _ (k .pre .3) (k .args .r) i z w m (c .before .before .if3 .left) in
-    let o = counted-lower _ (k .pre .3) (k .args .r) i z w m (omega arith) in
+    let e = mark-asked _ (good-asks (good k)) _ _ (k .pre .3) (k .args .r) i _ z (asked c .every-in .ensures) in
     let h = c .before .head .ensures in
     let f = p .before in (
-      mark-added _ _ _ _ _ (f .before .before .if1 .left) (f .if2 .left) d,
-      counted-mark _ _ o (k .args .r) i (omega arith) _ h (head-low (good k) (k .args .r) i _ h),
+      mark-added _ _ _ _ _ (f .before .before .if1 .left) (f .if2 .left) (sym e ∙ not-false _ (c .before .before .if3 .left)),
+      headed-set _ _ (k .pre .3) (k .args .r) i (omega arith) _ h (head-low (good k) (k .args .r) i _ h),
     )
 
 pub try-rule-spec : {M : Type 1} → statement M
 try-rule-spec =
-    tie.close (tie.spec (λ c. search needs) (λ c. search needs) returns (λ c. search needs) returns-2 (λ c κs. search needs) (λ
-    c. search needs) still-missing-requires (λ c. search needs) returns-3 (λ c. search needs) (λ c κs. search needs)
-    (λ c. search needs) element-write-supported returns-4)
+    tie.close (tie.spec (λ c. search needs) (λ c. search needs) returns (λ c. search needs) returns-2 (λ c κs. search needs)
+    every-in-requires returns-3 (λ c. search needs) (λ c κs. search needs) (λ c. search needs) element-write-supported returns-4)

@@ -43,7 +43,7 @@ returns c = (turn-in _ _ _ _ (c .if1 .taken), entered (c .before) .pre .3)
 returns-2 : tie.Need-returns-2
 returns-2 c =
     let k = start (c .before) in
-    let e = on-asked _ (good-asks (good k)) _ (k .args .r) (inside k) _ (k .pre .3) _ (c .before .goes-on .ensures) in
+    let e = on-asked _ (good-asks (good k)) _ _ (k .pre .3) (k .args .r) (inside k) _ (c .before .goes-on .ensures) in
     (on-stays _ _ _ _ _ (sym e ∙ not-true _ (c .if2 .taken)), k .pre .3)
 
 element-write-headed : tie.Need-element-write-headed
@@ -55,7 +55,7 @@ returns-3 c =
     let p = asked c in
     let k = start p in
     let i = inside k in
-    let e = on-asked _ (good-asks (good k)) _ (k .args .r) i _ (k .pre .3) _ (p .goes-on .ensures) in
+    let e = on-asked _ (good-asks (good k)) _ _ (k .pre .3) (k .args .r) i _ (p .goes-on .ensures) in
     let h = c .before .head .ensures in (
       on-added _ _ _ _ _ (other p .if1 .left) (sym e ∙ not-false _ (c .before .before .if2 .left)),
       headed-set _ _ (k .pre .3) (k .args .r) i (omega arith) _ h (head-low (good k) (k .args .r) i _ h),
