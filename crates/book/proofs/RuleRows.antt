@@ -1,7 +1,7 @@
 -- What is asked by the table of rows (specs/RuleRows): an atom is the head of a rule of a set just if its row meets the set, and all its
 -- rules are in the set just if its row lies within it.
-use mathlib.Core.Path.{_≡_, sym, ap, _∙_}
-use mathlib.Core.Bool.{true, not, _||_, _&&_}
+use mathlib.Core.Path.{_≡_, sym, ap, ap₂, _∙_}
+use mathlib.Core.Bool.{Bool, true, not, _||_, _&&_}
 use mathlib.Core.List.{List}
 use Prim.Native.Nat.{ℕ, _<_}
 use lib.Dec.{ltb}
@@ -55,3 +55,9 @@ module _ (b : Book) (t : List ℕ) (k : RuleRows b t) (a : AtomNo) (low : a .0 <
       (λ e. below-all 256 _ (λ i l. implied (sets t (a .0) i) (members s i) (λ n.
       let (h, q) = of-row i n in
       sym (asked i) ∙ implies (sameAtom (rule b (ruleNo i) .head) a) (of (listed s) (ruleNo i)) (below-at (count b) _ e i h) q)))
+
+  -- as the code asks: the row and the set by value
+  pub row-asked : {x : Bool} (w v : List ℕ) → w ≡ row t (a .0) → v ≡ s → x ≡ everyBelow 256 (implied-in (members w) (members v))
+      → x ≡ allIn b (of (listed s)) a
+  unfolding sets
+  row-asked w v f g e = e ∙ ap₂ (λ (p q : List ℕ). everyBelow 256 (implied-in (members p) (members q))) f g ∙ row-lost

@@ -26,6 +26,7 @@ pub use rules::head;
 pub use rules::negatives;
 pub use rules::positives;
 pub use standing::head_row;
+pub use standing::is_starved_by;
 pub use standing::make_rows;
 pub use standing::neg_row;
 pub use standing::pos_row;

@@ -1,5 +1,6 @@
 -- Closing. Read in this order.
 pub mod Growing
 pub mod Conditions
+pub mod Ended
 pub mod Left
 pub mod Picked

@@ -7,7 +7,7 @@ use Prim.Native.Nat.{_≤_}
 use lib.Dec.{ltb}
 use borrow.Author.Tests.{not-true, lt-ltb, le-ltb}
 use Rattle.meaning.specs.declared.RuleNo.{RuleNo}
-use Rattle.meaning.specs.declared.colouring.Colouring.{Colouring}
+use Rattle.meaning.specs.Written.{Tables}
 use Rattle.meaning.specs.Books.{Rules, Book, count, InBook}
 use Rattle.meaning.specs.Colours.{Pair, Support, Closed}
 use Rattle.meaning.specs.Written.{of, pair}
@@ -34,6 +34,6 @@ module _ (b : Book) where
         (λ h. support-outside b (c .off) fits r h ∙ sym (not-first _ (le-ltb (r .0) (count b) h)))
         (in-book-or-not b r)
 
-    pub close-marks-live : (c : Colouring) → Sized c → (r : RuleNo)
+    pub close-marks-live : (c : Tables) → Sized c → (r : RuleNo)
         → of (close b c .marks) r ≡ (ltb (r .0) (count b) && not (of (close b c .off) r))
     close-marks-live c s r = rw (close-marks b c) (closed-support (pair (close b c)) (close-is b fits c s .good .closed) r)

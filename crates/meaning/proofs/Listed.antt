@@ -14,10 +14,11 @@ use Rattle.meaning.specs.declared.RuleNo.{RuleNo}
 use Rattle.meaning.specs.Sets.{Set}
 use Rattle.meaning.specs.Books.{Rules, ruleNo}
 use Rattle.meaning.specs.Bits.{none, one, plus, members, tableFrom, listed}
-use Rattle.meaning.specs.Written.{of}
+use Rattle.meaning.specs.declared.colouring.Colouring.{Colouring}
+use Rattle.meaning.specs.Written.{of, written}
 use Rattle.meaning.proofs.Tests.{other}
 use Rattle.meaning.proofs.Four.{Words, members-out, members-nothing, words-one}
-use Rattle.meaning.proofs.Written.{of-none}
+use Rattle.meaning.proofs.Written.{of-none, Sized}
 
 -- ---- tests written out
 
@@ -55,6 +56,10 @@ pub of-listed : (w : List ℕ) → of (listed w) ≡ (λ r. members w (r .0))
 unfolding of
 of-listed w = fun-ext (λ r. listed-at w (r .0))
 
+pub listed-members : (w : List ℕ) → _≡_ {A = Set ℕ} (λ i. of (listed w) (ruleNo i)) (members w)
+unfolding of
+listed-members w = fun-ext (listed-at w)
+
 -- a list of 256 places that says what the set says
 pub listed-is : (w : List ℕ) (l : List Bool) → length l ≡ 256 → ((r : RuleNo) → of (listed w) r ≡ of l r) → listed w ≡ l
 unfolding of
@@ -71,6 +76,11 @@ pub listed-empty : (w : List ℕ) → members w ≡ none → listed w ≡ replic
 listed-empty w e =
     listed-is w (replicate 256 false) (length-replicate 256 false)
     (λ r. ap (λ (s : Rules). s r) (of-listed w) ∙ ap (λ (s : Set ℕ). s (r .0)) e ∙ sym (of-none 256 r))
+
+-- tables of a colouring have their length
+pub sized-written : (c : Colouring) → length (c .levels) ≡ 255 → Sized (written c)
+sized-written c e =
+    record { on = listed-long (c .on .w); off = listed-long (c .off .w); marks = listed-long (c .marks .w); levels = e }
 
 pub listed-put : (w v : List ℕ) (i : ℕ) → i < 256 → members w ≡ plus (members v) (one i) → listed w ≡ set (listed v) i true
 listed-put w v i h e = ext-getD false (listed w) (set (listed v) i true) (listed-long w ∙ sym (length-set (listed v) i true ∙ listed-long v)) (λ j l.

@@ -24,6 +24,10 @@ next-one s from m n p q = elim (decLt m n) [
   ]
 ]
 
+-- the search goes on
+pub next-further : (s : Set ℕ) (r m : ℕ) → NextIn s (r + 1) m → r < 256 → r < m
+next-further s r m p h = elim (decLt r m) [ yes l ↦ l | no l ↦ let (g, k) = p .within (omega arith) in absurd (omega arith) ]
+
 -- ---- the search through the words
 
 -- no number from `from` on and below n is in the set

@@ -3,7 +3,7 @@
 use mathlib.Core.Path.{_≡_, refl}
 use mathlib.Core.Logic.{⊎-elim}
 use Prim.Native.Nat.{_≤_}
-use Rattle.meaning.specs.declared.colouring.Colouring.{Colouring}
+use Rattle.meaning.specs.Written.{Tables}
 use Rattle.meaning.specs.Sets.{_⊆_}
 use Rattle.meaning.specs.Books.{Book, count}
 use Rattle.meaning.specs.Colours.{Pair, mayOn, blocked, Within, ClosedAbove}
@@ -13,7 +13,7 @@ use Rattle.meaning.proofs.Tests.{either, first, other}
 use Rattle.meaning.proofs.Least.{smallest-same}
 use Rattle.meaning.proofs.Rules.{mayOn-mono, blocked-mono, starved-mono}
 use Rattle.meaning.proofs.Written.{Sized, Untouched}
-use Rattle.meaning.proofs.Rounds.{RestsAbove, Growing, rounds-smallest, rounds-sized, rounds-untouched, rounds-marks}
+use Rattle.meaning.proofs.Rounds.{RestsAbove, Growing, rounds-smallest, rounds-sized, rounds-untouched, rounds-rest}
 use Rattle.meaning.proofs.Rounds.{rounds-computed}
 use Rattle.meaning.proofs.Propagation.{propagation-mono, propagated-propagation, propagation-within-closed}
 
@@ -46,7 +46,7 @@ module _ (b : Book) where
   }
 
   module _ (fits : count b ≤ 255) where
-    module _ (c : Colouring) (sized : Sized c) where
+    module _ (c : Tables) (sized : Sized c) where
       pub propagate-is : Propagation b (pair c) (pair (propagate b c))
       unfolding propagate propagateMore
       propagate-is = smallest-same (rests-propagated (pair c)) (propagated-rests (pair c))
@@ -60,29 +60,30 @@ module _ (b : Book) where
       unfolding propagate propagateMore
       propagate-untouched = rounds-untouched b (mayOn b) (mayOff b) growing fits c sized
 
-      pub propagate-marks : propagate b c .marks ≡ c .marks
+      -- the marks and the levels stay
+      pub propagate-rest : (propagate b c .marks ≡ c .marks) × (propagate b c .level ≡ c .level) × (propagate b c .levels ≡ c .levels)
       unfolding propagate propagateMore
-      propagate-marks = rounds-marks b (mayOn b) (mayOff b) growing fits c sized
+      propagate-rest = rounds-rest b (mayOn b) (mayOff b) growing fits c sized
 
       -- it is within every closed pair above
       pub propagate-within-closed : (e : Pair) → ClosedAbove b (pair c) e → Within b (pair (propagate b c)) e
       propagate-within-closed = propagation-within-closed b propagate-is
 
       -- a colouring that is a propagation of c, in whatever order it was made, is the computed one
-      pub propagation-computed : (d : Colouring) → Sized d → Propagation b (pair c) (pair d) → d .marks ≡ c .marks → Untouched b c d
-          → d ≡ propagate b c
+      pub propagation-computed : (d : Tables) → Sized d → Propagation b (pair c) (pair d) → d .marks ≡ c .marks → d .level ≡ c .level
+          → d .levels ≡ c .levels → Untouched b c d → d ≡ propagate b c
       unfolding propagate propagateMore
-      propagation-computed d t p m u = rounds-computed b (mayOn b) (mayOff b) growing fits c sized d t
-          (smallest-same (propagated-rests (pair c)) (rests-propagated (pair c)) p) m u
+      propagation-computed d t p m v l u = rounds-computed b (mayOn b) (mayOff b) growing fits c sized d t
+          (smallest-same (propagated-rests (pair c)) (rests-propagated (pair c)) p) m v l u
 
-    pub propagate-mono : (c d : Colouring) → Sized c → Sized d → Within b (pair c) (pair d)
+    pub propagate-mono : (c d : Tables) → Sized c → Sized d → Within b (pair c) (pair d)
         → Within b (pair (propagate b c)) (pair (propagate b d))
     propagate-mono c d s t w = propagation-mono b w (propagate-is c s) (propagate-is d t)
 
     -- to a propagated pair nothing is added
-    pub propagated-propagate : (c : Colouring) → Sized c → Propagated b (pair c) → c ≡ propagate b c
-    propagated-propagate c s k = propagation-computed c s c s (propagated-propagation b k) refl
+    pub propagated-propagate : (c : Tables) → Sized c → Propagated b (pair c) → c ≡ propagate b c
+    propagated-propagate c s k = propagation-computed c s c s (propagated-propagation b k) refl refl refl
         (record { on = λ r h. refl; off = λ r h. refl })
 
-    pub propagate-idempotent : (c : Colouring) → Sized c → propagate b c ≡ propagate b (propagate b c)
+    pub propagate-idempotent : (c : Tables) → Sized c → propagate b c ≡ propagate b (propagate b c)
     propagate-idempotent c s = propagated-propagate (propagate b c) (propagate-sized c s) (propagate-is c s .good .propagated)

@@ -7,7 +7,7 @@ use Rattle.meaning.specs.Sets.{every, some, everyBelow, someBelow}
 use Rattle.meaning.specs.Books.{Book, sameAtom, count, rule, everyRule, someRule}
 use Rattle.meaning.specs.Colours.{heads, allIn, mayOn, blocked, starved}
 use Rattle.meaning.specs.Written.{of, addFrom, added, nothing}
-use Rattle.meaning.specs.Computed.{iterate, upheld, supportMore, support, goesOff, closeMore, marked, close}
+use Rattle.meaning.specs.Computed.{iterate, upheld, supportMore, support, goesOff, closeMore, marked, stamped, close}
 use Rattle.meaning.specs.Propagation.{mayOff, propagateMore, propagate}
 use Rattle.meaning.proofs.Cases.{six, circular}
 
@@ -19,5 +19,5 @@ After b on off = (take (count b) (propagate b nothing .on) ≡ on) × (take (cou
 left-alone : After six (true ∷ true ∷ false ∷ false ∷ false ∷ false ∷ []) (false ∷ false ∷ false ∷ false ∷ true ∷ false ∷ [])
     × After circular (false ∷ false ∷ []) (false ∷ false ∷ []) × (take 2 (close circular nothing .off) ≡ true ∷ true ∷ [])
 unfolding every some everyBelow someBelow sameAtom count rule everyRule someRule heads allIn mayOn blocked starved of addFrom added
-    iterate upheld supportMore support goesOff closeMore marked close mayOff propagateMore propagate
+    iterate upheld supportMore support goesOff closeMore marked stamped close mayOff propagateMore propagate
 left-alone = ((refl, refl), (refl, refl), refl)

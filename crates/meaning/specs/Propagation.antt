@@ -3,10 +3,10 @@
 --   Propagated b c         no rule that may go on is left that is not on, and none that is blocked or starved is left that is not off
 --   PropagatedAbove b c d  d is such a pair and holds c
 --   Propagation b c d      d is the smallest propagated pair that holds c
---   propagate b c          it, computed from a colouring: by rounds, as closing is; the marks stay
+--   propagate b c          it, computed from a colouring: by rounds, as closing is; the marks and the levels stay
 use mathlib.Core.Bool.{_||_}
 use Prim.Native.Nat.{_+_}
-use Rattle.meaning.specs.declared.colouring.Colouring.{Colouring}
+use Rattle.meaning.specs.Written.{Tables}
 use Rattle.meaning.specs.Sets.{Smallest}
 use Rattle.meaning.specs.Books.{Rules, Book, count}
 use Rattle.meaning.specs.Colours.{Pair, mayOn, blocked, starved, Under, Within}
@@ -29,10 +29,16 @@ Propagation b c d = Smallest (Within b) (PropagatedAbove b c) d
 unfoldable pub mayOff : Book → Pair → Rules
 mayOff b c r = blocked b c r || starved b c r
 
-unfoldable pub propagateMore : Book → Colouring → Colouring
+unfoldable pub propagateMore : Book → Tables → Tables
 propagateMore b c =
-    record { on = added b (mayOn b (pair c)) (c .on); off = added b (mayOff b (pair c)) (c .off); marks = c .marks }
+    record {
+      on = added b (mayOn b (pair c)) (c .on);
+      off = added b (mayOff b (pair c)) (c .off);
+      marks = c .marks;
+      level = c .level;
+      levels = c .levels;
+    }
 
 -- no more additions can be made than there are rules and sides
-unfoldable pub propagate : Book → Colouring → Colouring
+unfoldable pub propagate : Book → Tables → Tables
 propagate b c = iterate (propagateMore b) (count b + count b) c

@@ -1,8 +1,12 @@
 // Sets of 256 bits that are lent: a place that is a variable is read and stored without a copy of
 // the set. All else is asked of the set by value, `whole(s)`.
 ghost use mathlib.Core.Path.{_≡_};
+ghost use mathlib.Core.Bool.{true};
 ghost use Prim.Native.Nat.{_*_};
-ghost use Rattle.meaning.specs.Bits.{one, plus, members, NextIn};
+ghost use lib.ListN.{set};
+ghost use Rattle.meaning.specs.Books.{ruleNo};
+ghost use Rattle.meaning.specs.Bits.{plus, members, listed, NextIn};
+ghost use Rattle.meaning.specs.Written.{of};
 use crate::bitset::Bits;
 use crate::bitset::trailing;
 
@@ -14,14 +18,14 @@ pub fn whole(s: &[u64; 4]) -> Bits
 }
 
 pub fn has(s: &[u64; 4], i: u8) -> bool
-    ensures { λ b. ⌜ b ≡ members (now (s .entry)) i ⌝ }
+    ensures { λ b. ⌜ b ≡ of (listed (now (s .entry))) (ruleNo i) ⌝ }
 {
     let at = i as usize;
     (s[at / 64] >> (at % 64)) % 2 == 1
 }
 
 pub fn put(s: &mut [u64; 4], i: u8)
-    ensures { λ _. ⌜ members (now (s .exit)) ≡ plus (members (now (s .entry))) (one i) ⌝ }
+    ensures { λ _. ⌜ listed (now (s .exit)) ≡ set (listed (now (s .entry))) i true ⌝ }
 {
     let _old = whole(s);
     let at = i as usize;
