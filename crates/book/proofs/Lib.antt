@@ -9,6 +9,7 @@ pub mod Writing
 pub mod ReadBack
 pub mod Written
 pub mod Told
+pub mod Verdict
 pub mod Cases
 pub mod Turns
 pub mod AtomSets

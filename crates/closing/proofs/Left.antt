@@ -14,8 +14,8 @@ use Rattle.meaning.specs.Books.{Book, count, InBook}
 use Rattle.meaning.specs.Colours.{Pair, Side, onSide, offSide, side, put, Under, Within, uncoloured}
 use Rattle.meaning.specs.Written.{nothing, chosen, pair}
 use Rattle.meaning.specs.Computed.{close}
-use Rattle.meaning.proofs.Tests.{first, other, clash, proved}
-use Rattle.meaning.proofs.Rules.{one-among, one-under, put-above, put-within, uncoloured-no}
+use Rattle.meaning.proofs.Tests.{first, other, either, clash, proved}
+use Rattle.meaning.proofs.Rules.{among-one, one-among, one-under, put-above, put-within, uncoloured-no}
 use Rattle.meaning.proofs.RulesIn.{rules-length, rules-more, rules-fewer}
 use Rattle.meaning.proofs.Written.{Sized, pair-on, pair-off}
 use Rattle.meaning.proofs.Closing.{close-is, close-level}
@@ -27,10 +27,19 @@ unfolding side put
 put-in onSide r c = other (c .on r) (one-among r)
 put-in offSide r c = other (c .off r) (one-among r)
 
-coloured : (x : Side) (c : Pair) (r : RuleNo) → r ∈ side x c → r ∉ uncoloured c
+pub coloured : (x : Side) (c : Pair) (r : RuleNo) → r ∈ side x c → r ∉ uncoloured c
 unfolding side uncoloured
 coloured onSide c r m = ap not (first _ m)
 coloured offSide c r m = ap not (other (c .on r) m)
+
+put-new : (b : Book) (x : Side) (r : RuleNo) (c : Pair) (q : RuleNo) → q ∈ uncoloured c → q ∉ uncoloured (put x (r ∷ []) c) → q ≡ r
+unfolding side put
+put-new b onSide r c q m n = ⊎-elim
+    (λ p. ⊎-elim (λ e. clash m (coloured onSide c q e)) among-one (either (c .on q) _ p)) (λ p. clash m (coloured offSide c q p))
+    (uncoloured-no b (put onSide (r ∷ []) c) q n)
+put-new b offSide r c q m n = ⊎-elim
+    (λ p. clash m (coloured onSide c q p)) (λ p. ⊎-elim (λ e. clash m (coloured offSide c q e)) among-one (either (c .off q) _ p))
+    (uncoloured-no b (put offSide (r ∷ []) c) q n)
 
 module _ (b : Book) where
   -- ---- a rule chosen
@@ -49,9 +58,13 @@ module _ (b : Book) where
     pub chosen-in : r ∈ side x (pair (chosen x r d))
     chosen-in = rw (pair-chosen x) (put-in x r (pair d))
 
+    -- only the chosen rule has a colour that it had not
+    pub chosen-other : (q : RuleNo) → q ∈ uncoloured (pair d) → q ∉ uncoloured (pair (chosen x r d)) → q ≡ r
+    chosen-other q m n = put-new b x r (pair d) q m (rw (pair-chosen x) at n)
+
   -- ---- the number of rules left
 
-  uncoloured-mono : {c d : Pair} → Within b c d → Under b (uncoloured d) (uncoloured c)
+  pub uncoloured-mono : {c d : Pair} → Within b c d → Under b (uncoloured d) (uncoloured c)
   unfolding side
   uncoloured-mono {c} {d} w r h m = proved (λ n. ⊎-elim
       (λ p. clash m (coloured onSide d r (w .each onSide r h p))) (λ p. clash m (coloured offSide d r (w .each offSide r h p)))

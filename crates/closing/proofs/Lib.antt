@@ -10,3 +10,6 @@ pub mod Picked
 pub mod Closed
 pub mod Left
 pub mod Laws
+pub mod Settling
+pub mod Settled
+pub mod SettledCases

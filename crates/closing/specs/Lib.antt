@@ -4,3 +4,4 @@ pub mod Conditions
 pub mod Ended
 pub mod Left
 pub mod Picked
+pub mod Settle

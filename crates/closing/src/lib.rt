@@ -22,6 +22,7 @@ use passes::grow_off;
 use passes::pass_on;
 
 mod clash;
+mod first;
 mod levels;
 mod marking;
 mod passes;
@@ -29,6 +30,8 @@ mod passes;
 pub use clash::Picked;
 pub use clash::lowest_clash;
 pub use clash::lowest_in;
+pub use first::Settled;
+pub use first::settle;
 pub use marking::support;
 
 // What a closing comes to: the colouring, and of a contradiction the lowest rule in both sets.

@@ -1,7 +1,7 @@
 -- Two results that meet a promise are equal: the answer, and every byte of lent memory afterwards. Document 01, "What the promises say".
 --
 -- Where a promise is an equation of the result itself, or of a buffer afterwards, there is nothing more to it than `equal-determined`. The
--- answers of read_book, find, page, name, clear and check are enums, and their promises speak of document 01's numbers and values; what is told
+-- answers of read_book, find, page, settle, levels, name, clear and check are enums, and their promises speak of document 01's numbers and values; what is told
 -- of an answer tells all of it, so these are determined too. In a promise, r is the result and `after` the buffer afterwards.
 use mathlib.Core.Path.{_≡_, sym, _∙_}
 use mathlib.Core.List.{List}
@@ -16,8 +16,13 @@ use Rattle.book.specs.Format.{readOf, toldOf}
 use Rattle.book.specs.Numbers.{told as readTold}
 use Rattle.book.specs.declared.reader.Read.{Read}
 use Rattle.book.proofs.Told.{told-one as read-one}
+use Rattle.closing.specs.Settle.{settleOf}
+use Rattle.closing.specs.Settle.{told as settleTold}
+use Rattle.closing.specs.declared.first.Settled.{Settled}
+use Rattle.closing.proofs.Settled.{settled-one}
 use Rattle.walk.specs.Find.{findOf}
 use Rattle.walk.specs.Find.{told as findTold}
+use Rattle.walk.specs.Levels.{levelsOf}
 use Rattle.walk.specs.Page.{PageEnd, pageOf}
 use Rattle.walk.specs.Page.{told as pageTold}
 use Rattle.walk.specs.declared.kth.Found.{Found as FoundAnswer}
@@ -52,6 +57,21 @@ module _ (book : List ℕ) (limit tries : ℕ) (last out : List ℕ) where
 
   pub page-determined : (r q : Page) (after other : List ℕ) → PagePromise r after → PagePromise q other → (r ≡ q) × (after ≡ other)
   page-determined r q after other p s = answered-one pageTold page-one r q after other (equal-determined p s)
+
+module _ (book out : List ℕ) where
+  abbrev SettlePromise : Settled → List ℕ → Type 0
+  SettlePromise r after = _≡_ {A = Answered (Unit {0})} (record { told = settleTold r; buffer = after }) (settleOf book out)
+
+  pub settle-determined : (r q : Settled) (after other : List ℕ) → SettlePromise r after → SettlePromise q other → (r ≡ q) × (after ≡ other)
+  settle-determined r q after other p s = answered-one settleTold settled-one r q after other (equal-determined p s)
+
+module _ (book : List ℕ) (k limit : ℕ) (out : List ℕ) where
+  abbrev LevelsPromise : FoundAnswer → List ℕ → Type 0
+  LevelsPromise r after = _≡_ {A = Answered ℕ} (record { told = findTold r; buffer = after }) (levelsOf book k limit out)
+
+  pub levels-determined : (r q : FoundAnswer) (after other : List ℕ) → LevelsPromise r after → LevelsPromise q other
+      → (r ≡ q) × (after ≡ other)
+  levels-determined r q after other p s = answered-one findTold found-one r q after other (equal-determined p s)
 
 -- name is the promise for the claim `named atom`, clear that for `cleared atom`
 module _ (book : List ℕ) (k : Claim) (limit : ℕ) (paper : List ℕ) where

@@ -8,6 +8,7 @@ pub mod Once
 pub mod Ours3
 pub mod Only
 pub mod Worked
+pub mod WorkedLevels
 pub mod Sentences
 pub mod Slips
 pub mod Useless

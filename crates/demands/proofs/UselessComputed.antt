@@ -20,7 +20,8 @@ use Rattle.meaning.specs.Told.{Told, refusedAt, Answered}
 use Rattle.meaning.proofs.Claim.{not-both}
 use Rattle.book.specs.Format.{u16At, partOf, bytesOf, recordOf, lengthOf, ruleOf, recordsOf, rulesOf, ifFine, bodyOf, readOf}
 use Rattle.book.specs.Format.{andThen as recordsThen, bookOf, bookIn}
-use Rattle.walk.specs.Run.{rowFrom, rowOf, writeAt}
+use Rattle.meaning.specs.Buffers.{writeAt}
+use Rattle.walk.specs.Run.{rowFrom, rowOf}
 use Rattle.walk.specs.Find.{set}
 use Rattle.writer.specs.Write.{Handed, paper, clearOf}
 use Rattle.checker.specs.Numbers.{certain, clear}

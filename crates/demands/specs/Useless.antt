@@ -36,7 +36,8 @@ use Rattle.meaning.specs.Choice.{ifb, ifLt, ifEq}
 use Rattle.meaning.specs.Told.{Told, success, refusedWith, refusedAt, refused, fewer, stopped, Answered}
 use Rattle.book.specs.Format.{BookRead, good, bad, readOf, bookIn}
 use Rattle.walk.specs.Readings.{readingOf}
-use Rattle.walk.specs.Run.{rowOf, writeAt}
+use Rattle.meaning.specs.Buffers.{writeAt}
+use Rattle.walk.specs.Run.{rowOf}
 use Rattle.walk.specs.Find.{set, findOf}
 use Rattle.writer.specs.Write.{Handed, paper, nameOf, clearOf}
 use Rattle.checker.specs.Numbers.{accepted}

@@ -26,16 +26,12 @@ fn put_answer(book: &[u8], answer: &[u8], out: &mut [u8], held: usize) -> usize
     put_set(first_bytes(answer, shape.atoms as usize), out, held)
 }
 
-// Asks the engine, and puts what it answers at the start of out.
-fn tell_found(book: &[u8], k: u32, limit: u32, answer: &mut [u8], out: &mut [u8]) -> usize
+// Puts what is answered where no reading is given, at the start of out; nothing where one is.
+pub fn put_unfound(answer: Found, out: &mut [u8]) -> usize
     ensures { λ r. ⌜ Counts r (now (out .exit)) ⌝ }
 {
-    match find(book, k, limit, answer) {
-        Found::Set(tries) => {
-            let held = put_text(b"set ", out, 0);
-            let held = put_number(tries as u64, out, held);
-            put_answer(book, answer, out, held)
-        }
+    match answer {
+        Found::Set(_) => 0,
         Found::Fewer(tries, sets, rule) => put_fewer(tries, sets, rule, out),
         Found::Stopped(tries) => {
             let held = put_text(b"limit ", out, 0);
@@ -44,6 +40,21 @@ fn tell_found(book: &[u8], k: u32, limit: u32, answer: &mut [u8], out: &mut [u8]
         Found::Book(why) => put_refused(refused_book(why), out, 0),
         Found::NoRoom => put_refused(Refused::Plain(8), out, 0),
         Found::NoNumber => put_refused(Refused::Plain(15), out, 0),
+    }
+}
+
+// Asks the engine, and puts what it answers at the start of out.
+fn tell_found(book: &[u8], k: u32, limit: u32, answer: &mut [u8], out: &mut [u8]) -> usize
+    ensures { λ r. ⌜ Counts r (now (out .exit)) ⌝ }
+{
+    let told = find(book, k, limit, answer);
+    match told {
+        Found::Set(tries) => {
+            let held = put_text(b"set ", out, 0);
+            let held = put_number(tries as u64, out, held);
+            put_answer(book, answer, out, held)
+        }
+        _ => put_unfound(told, out),
     }
 }
 

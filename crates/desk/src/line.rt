@@ -1,9 +1,11 @@
 // One line: a command and its words, which are parted by one space.
 ghost use Rattle.io.specs.Counts.{Counts};
 use crate::find::answer_find;
+use crate::levelsk::answer_levels;
 use crate::paper_check::answer_check;
 use crate::paper_name::answer_name;
 use crate::readings::answer_readings;
+use crate::settled::answer_settled;
 use check::same;
 use meaning::Kind;
 use talk::first_word;
@@ -29,6 +31,12 @@ fn answer_command(line: &[u8], book: &mut [u8], room: &mut [u8], out: &mut [u8])
     }
     if same(command, b"check") {
         return answer_check(words, book, room, out);
+    }
+    if same(command, b"levels") {
+        return answer_settled(words, book, room, out);
+    }
+    if same(command, b"levelsk") {
+        return answer_levels(words, book, room, out);
     }
     0
 }

@@ -8,11 +8,13 @@ mod call;
 mod fewer;
 mod find;
 mod input;
+mod levelsk;
 mod line;
 mod numbers;
 mod paper_check;
 mod paper_name;
 mod readings;
+mod settled;
 
 fn main() {
     if os::arg_count() != 1 {

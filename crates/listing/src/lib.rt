@@ -7,5 +7,6 @@ mod piece;
 mod rows;
 mod whole;
 
+pub use rows::put_places;
 pub use rows::put_set;
 pub use whole::list;

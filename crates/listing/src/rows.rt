@@ -7,16 +7,30 @@ use crate::piece::put_number;
 use crate::piece::write_full;
 use talk::print;
 
-// A space and the atom's number, where its byte says that it is in the set.
-fn put_atom(a: usize, byte: u8, piece: &mut [u8], held: usize) -> usize
+// A space and the place's number, where its byte is the one that is asked for.
+fn put_place(a: usize, byte: u8, asked: u8, piece: &mut [u8], held: usize) -> usize
     requires { ⌜ Counts held (now piece) ⌝ }
     ensures { λ r. ⌜ Counts r (now (piece .exit)) ⌝ }
 {
-    if byte != 1 {
+    if byte != asked {
         return held;
     }
     let space = put(b' ', piece, held);
     put_number(a as u64, piece, space)
+}
+
+// A space and its number for each place of the row that has the byte asked for.
+pub fn put_places(row: &[u8], asked: u8, piece: &mut [u8], held: usize) -> usize
+    requires { ⌜ Counts held (now piece) ⌝ }
+    ensures { λ r. ⌜ Counts r (now (piece .exit)) ⌝ }
+{
+    let mut end = held;
+    let mut a = 0;
+    while a < row.len() {
+        end = put_place(a, row[a], asked, piece, end);
+        a += 1;
+    }
+    end
 }
 
 // A space and its number for each atom of the row.
@@ -24,13 +38,7 @@ pub fn put_set(row: &[u8], piece: &mut [u8], held: usize) -> usize
     requires { ⌜ Counts held (now piece) ⌝ }
     ensures { λ r. ⌜ Counts r (now (piece .exit)) ⌝ }
 {
-    let mut end = held;
-    let mut a = 0;
-    while a < row.len() {
-        end = put_atom(a, row[a], piece, end);
-        a += 1;
-    }
-    end
+    put_places(row, 1, piece, held)
 }
 
 // The line of a reading: its number, a colon and its atoms.

@@ -1,6 +1,7 @@
 -- The laws of the meaning that need no code. Read in this order.
 pub mod Choice
 pub mod Told
+pub mod Buffers
 pub mod Tests
 pub mod Sets
 pub mod Least

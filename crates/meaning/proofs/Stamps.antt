@@ -1,18 +1,19 @@
 -- Laws of levels written out (specs/Written, specs/Computed): what is read from a list of levels after stamping, how it is stamped place by
 -- place, and that stamping changes nothing where no rule gets a colour.
 use mathlib.Core.Path.{_≡_, refl, _∙_, ap}
-use mathlib.Core.Bool.{false, not, _&&_}
 use mathlib.Core.List.{List, [], _∷_}
-use Prim.Native.Nat.{ℕ, zero, suc, _+_, _≤_, _<_}
+use Prim.Native.Nat.{ℕ, zero, suc, _+_, _<_}
 use native.Mathlib.Nat.{not-suc-le-zero, le-of-suc-le-suc, zero-add, add-suc, suc-add, add-zero}
 use borrow.Author.Tests.{not-true}
 use lib.ListN.{length, getD, set}
+use lib.Seq.{getD-set-same, getD-set-other}
 use Rattle.meaning.specs.declared.RuleNo.{RuleNo}
+use Rattle.meaning.specs.Written.{Tables}
 use Rattle.meaning.specs.Sets.{_∉_}
 use Rattle.meaning.specs.Books.{Rules, ruleNo}
 use Rattle.meaning.specs.Choice.{ifb}
-use Rattle.meaning.specs.Colours.{Pair, uncoloured}
-use Rattle.meaning.specs.Written.{stampFrom}
+use Rattle.meaning.specs.Colours.{Pair, Side, onSide, offSide, uncoloured}
+use Rattle.meaning.specs.Written.{stampFrom, levelOf, chosen}
 use Rattle.meaning.specs.Computed.{newly}
 use Rattle.meaning.proofs.Choice.{b-no}
 use Rattle.meaning.proofs.Tests.{refuted, left, right, clash}
@@ -57,3 +58,17 @@ stamp-rests i (suc n) s v (x ∷ l) f = rw (stamp-rests (suc i) n s v l f, b-no 
 pub newly-same : (c : Pair) (r : RuleNo) → r ∉ newly c c
 unfolding newly
 newly-same c r = refuted (λ m. clash (left (uncoloured c r) _ m) (not-true _ (right (uncoloured c r) _ m)))
+
+-- ---- a choice
+
+-- the chosen rule has the level of its choice, and every other rule the one that it had
+module _ (r : RuleNo) (c : Tables) where
+  pub level-of-chosen : (x : Side) → r .0 < length (c .levels) → levelOf (chosen x r c) r ≡ c .level + 1
+  unfolding levelOf
+  level-of-chosen onSide h = getD-set-same (c .levels) (r .0) (c .level + 1) 0 h
+  level-of-chosen offSide h = getD-set-same (c .levels) (r .0) (c .level + 1) 0 h
+
+  pub level-of-other : (x : Side) (q : RuleNo) → (q ≡ r → ⊥) → levelOf (chosen x r c) q ≡ levelOf c q
+  unfolding levelOf
+  level-of-other onSide q n = getD-set-other (c .levels) (r .0) (q .0) (c .level + 1) 0 (λ e. n (λ i. record { 0 = e i }))
+  level-of-other offSide q n = getD-set-other (c .levels) (r .0) (q .0) (c .level + 1) 0 (λ e. n (λ i. record { 0 = e i }))

@@ -164,8 +164,8 @@ module _ (b : Book) where
     first-closing : Closing b start (pair (close b nothing))
     first-closing = subst (λ (c : Pair). Closing b c (pair (close b nothing))) pair-nothing (close-is b fits nothing sized-nothing)
 
-    pub first-closing-well-founded
-        : WellFounded b (heads b (of (close b nothing .on))) (λ a. not (allIn b (of (close b nothing .off)) a))
+    pub first-closing-well-founded : WellFounded b (heads b (of (close b nothing .on)))
+        (λ a. not (allIn b (of (close b nothing .off)) a))
     first-closing-well-founded = first-pair-well-founded _ first-closing
 
     pub first-consistent : Consistent b (pair (close b nothing))

@@ -14,3 +14,4 @@ pub mod Propagation
 pub mod Lowest
 pub mod Engine
 pub mod Told
+pub mod Buffers

@@ -66,11 +66,11 @@ impl Colouring {
         requires { ⌜ (r .0 < 255) × (self .level < 255) ⌝ }
         ensures { λ c. ⌜ written c ≡ chosen onSide r (written self) ⌝ }
     {
-        let on = with_rule(self.on, r);
-        self.on = on;
-        let i = r.0 as usize;
+        let chosen = with_rule(self.on, r);
+        self.on = chosen;
+        let at = r.0 as usize;
         self.level += 1;
-        self.levels[i] = self.level;
+        self.levels[at] = self.level;
         self
     }
 
@@ -79,11 +79,11 @@ impl Colouring {
         requires { ⌜ (r .0 < 255) × (self .level < 255) ⌝ }
         ensures { λ c. ⌜ written c ≡ chosen offSide r (written self) ⌝ }
     {
-        let off = with_rule(self.off, r);
-        self.off = off;
-        let i = r.0 as usize;
+        let chosen = with_rule(self.off, r);
+        self.off = chosen;
+        let at = r.0 as usize;
         self.level += 1;
-        self.levels[i] = self.level;
+        self.levels[at] = self.level;
         self
     }
 }

@@ -5,7 +5,6 @@
 //     showing BOOKFILE
 
 mod atoms;
-mod rule;
 
 ghost use Rattle.book.specs.Format.{ReadAs};
 use atoms::show_atoms;
@@ -13,11 +12,11 @@ use book::Read;
 use book::Shape;
 use book::read_book;
 use meaning::RuleNo;
-use rule::show_rule;
 use talk::BOOK_ROOM;
 use talk::explain_book;
 use talk::open_call;
 use talk::print;
+use talk::show_rule;
 
 // Writes a line for each rule, or that there is none.
 fn show_rules(book: &[u8], shape: Shape)
@@ -29,7 +28,7 @@ fn show_rules(book: &[u8], shape: Shape)
     }
     let mut r: u8 = 0;
     while r < shape.rules {
-        show_rule(book, shape, RuleNo(r));
+        show_rule(book, shape, RuleNo(r), b"");
         r += 1;
     }
 }

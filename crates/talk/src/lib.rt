@@ -1,5 +1,5 @@
 // What the programs share: words, numbers and bytes taken from a line, files read, and words,
-// numbers, bytes and refusals written to standard output, a line at once. Stands on the answers of
+// numbers, bytes, rules and refusals written to standard output, a line at once. Stands on the answers of
 // book, checker and writer.
 //
 // Functions that give a value promise which. Of those that read or write a file no contract can say
@@ -13,6 +13,7 @@ mod line;
 mod output;
 mod part;
 mod refusals;
+mod rule;
 mod sentences;
 mod words;
 
@@ -38,6 +39,7 @@ pub use refusals::Refused;
 pub use refusals::refused_book;
 pub use refusals::refused_name;
 pub use refusals::refused_paper;
+pub use rule::show_rule;
 pub use sentences::explain;
 pub use sentences::explain_book;
 pub use sentences::explain_paper;

@@ -17,8 +17,9 @@ use Rattle.book.specs.declared.reader.Shape.{Shape}
 use Rattle.book.specs.declared.reader.Read.{Read}
 use Rattle.book.specs.declared.reader.Read.the-variants.{Good, Refused}
 use Rattle.book.specs.Numbers.{numberOf, placeOf, told as bookTold}
-use Rattle.book.specs.Format.{BookRead, good, bad, readOf, toldOf, bookOf, bookIn, ReadAs}
+use Rattle.book.specs.Format.{readOf, toldOf, bookOf, bookIn, ReadAs}
 use Rattle.book.proofs.Shape.{told-good}
+use Rattle.book.proofs.Verdict.{read-as, read-bad}
 use Rattle.book.proofs.Places.{shape-atoms}
 use Rattle.walk.specs.Events.{events, rest}
 use Rattle.walk.specs.Run.{Wanted, State, run}
@@ -30,7 +31,6 @@ use Rattle.walk.specs.declared.tally.Halt.the-variants.{Going, Full, Lim
 use Rattle.walk.specs.declared.tally.Tally.{Tally}
 use Rattle.closing.specs.Left.{Shallow}
 use Rattle.closing.proofs.Left.{shallow-nothing}
-use Rattle.walk.proofs.Run.{apart}
 use Rattle.walk.proofs.Demand.{find-bad-book, find-good-book}
 use Rattle.walk.proofs.Paging.{room-some, rooms-fit}
 use Rattle.walk.proofs.Listing.{later-events}
@@ -38,31 +38,20 @@ use Rattle.walk.proofs.Walking.{few}
 
 -- ---- the book
 
-told-refused : (x : BookRead) (i at : ℕ) → toldOf x ≡ refusedAt i at → x ≡ bad i at
-unfolding toldOf
-told-refused (good n k index l) i at e = apart (cc)
-told-refused (bad j to) i at e = let p : j ≡ i = cc in let q : to ≡ at = cc in λ m. bad (p m) (q m)
-
 module _ (s : List ℕ) {x : Read} (e : bookTold x ≡ toldOf (readOf s)) where
-  pub read-as : {h : Shape} → x ≡ Good h → ReadAs s h
-  read-as f = sym e ∙ ap bookTold f
-
-  read-bad : {f : Refusal} → x ≡ Refused f → readOf s ≡ bad (numberOf f) (placeOf f)
-  read-bad f = told-refused (readOf s) _ _ (sym e ∙ ap bookTold f)
-
   pub find-refused : (k limit : ℕ) (answer : List ℕ) {f : Refusal} → x ≡ Refused f
       → record { told = refusedAt (numberOf f) (placeOf f); buffer = answer } ≡ findOf s k limit answer
-  find-refused k limit answer f = sym (find-bad-book s k limit answer _ _ (read-bad f))
+  find-refused k limit answer f = sym (find-bad-book s k limit answer _ _ (read-bad s e f))
 
   pub page-refused : (limit tries : ℕ) (row out : List ℕ) {f : Refusal} → x ≡ Refused f
       → record { told = refusedAt (numberOf f) (placeOf f); buffer = out } ≡ pageOf s limit tries row out
   unfolding pageOf pageRead
-  page-refused limit tries row out f = sym (rw (read-bad f))
+  page-refused limit tries row out f = sym (rw (read-bad s e f))
 
   pub page-read : (limit tries : ℕ) (row out : List ℕ) {h : Shape} {p : Answered PageEnd} → x ≡ Good h
       → p ≡ pageIn (bookIn s) limit tries row out → p ≡ pageOf s limit tries row out
   unfolding pageOf pageRead bookIn bookOf
-  page-read limit tries row out f g = g ∙ rw (told-good (readOf s) _ _ _ (read-as f))
+  page-read limit tries row out f g = g ∙ rw (told-good (readOf s) _ _ _ (read-as s e f))
 
 -- ---- the start of a walk
 
@@ -79,7 +68,7 @@ walk-from b w s e f = f ∙ ap (λ (x : Tables). run b w s (events b x)) e
 
 -- ---- find
 
-any-buffer : (h : Halt) (t : Tally) (limit : ℕ) (o p : List ℕ) → toldBy h (record { tally = t; out = o }) limit
+pub any-buffer : (h : Halt) (t : Tally) (limit : ℕ) (o p : List ℕ) → toldBy h (record { tally = t; out = o }) limit
     ≡ toldBy h (record { tally = t; out = p }) limit
 unfolding toldBy
 any-buffer Going t limit o p = refl

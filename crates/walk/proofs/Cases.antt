@@ -14,7 +14,8 @@ use Rattle.meaning.specs.Computed.{iterate, upheld, supportMore, support, goesO
 use Rattle.meaning.specs.Lowest.{oneOr, lowestFrom, lowest, clashed}
 use Rattle.book.specs.Format.{u16At, partOf, andThen, bytesOf, recordOf, lengthOf, ruleOf, recordsOf, rulesOf, ifFine, bodyOf, readOf}
 use Rattle.walk.specs.Events.{after, eventsIn, events, beside, afterPast, restIn, rest}
-use Rattle.walk.specs.Run.{rowFrom, rowOf, writeAt, readingMet, tried, met, run}
+use Rattle.meaning.specs.Buffers.{writeAt}
+use Rattle.walk.specs.Run.{rowFrom, rowOf, readingMet, tried, met, run}
 use Rattle.walk.specs.Find.{set, toldBy, findIn, findRead, findOf}
 use Rattle.walk.specs.Page.{whole, last, cut, setIn, eventsFrom, roomIn, endedBy, pageIn, pageRead, pageOf}
 

@@ -39,13 +39,13 @@ past-same b d x none (one r) f g h = let k = h onSide r refl in let l = h offSid
 module _ (b : Book) (fits : count b ≤ 255) where
   -- one level down
   module _ (c : Tables) (s : Sized c) (x : Side) (r : RuleNo) (e : lowest b (uncoloured (pair (close b c))) ≡ one r) where
-    below-sized : Sized (chosen x r (close b c))
+    pub below-sized : Sized (chosen x r (close b c))
     below-sized = sized-chosen x r (close-sized b fits c s)
 
     below-fewer : left b (chosen x r (close b c)) < left b (close b c)
     below-fewer = let (h, m, f) = lowest-one b _ r e in left-chosen b fits (close b c) (close-sized b fits c s) x r h m
 
-    below-left : left b (chosen x r (close b c)) < left b c
+    pub below-left : left b (chosen x r (close b c)) < left b c
     below-left = omega (arith, below-fewer, left-close b fits c s)
 
   -- ---- enough levels are as good as more

@@ -18,7 +18,8 @@ use Rattle.walk.specs.Readings.{readingOf, readings}
 use Rattle.walk.specs.Tries.{Kth, Needs, to-reading, to-end, clashIn, lastClash}
 use Rattle.walk.specs.Run.{rowOf, Wanted, State}
 use Rattle.walk.specs.Find.{set, startOf, toldBy, answeredBy, findIn}
-use Rattle.walk.proofs.Rows.{row-length, write-front}
+use Rattle.meaning.proofs.Buffers.{write-front}
+use Rattle.walk.proofs.Rows.{row-length}
 use Rattle.walk.proofs.Way.{step, gone, gone-tries, gone-sets, gone-clash, gone-passes, Way, to-full, to-limit, way}
 use Rattle.walk.proofs.Way.{to-end as all-met}
 use Rattle.walk.proofs.Needs.{amount, parted-more, kth-or-fewer}

@@ -8,6 +8,7 @@ pub mod Readings
 pub mod Tries
 pub mod Clashes
 pub mod FirstTry
+pub mod Nodes
 pub mod Way
 pub mod Needs
 pub mod Finding
@@ -25,4 +26,6 @@ pub mod RowBytes
 pub mod HeadTables
 pub mod Meeting
 pub mod Walking
+pub mod Descending
 pub mod Answering
+pub mod Leveled

@@ -14,7 +14,8 @@ use Rattle.book.specs.declared.reader.Shape.{Shape}
 use Rattle.book.specs.Format.{bookIn, ReadAs}
 use Rattle.book.specs.Tables.{atomTable, atomsIn}
 use Rattle.book.proofs.Places.{shape-atoms}
-use Rattle.walk.specs.Run.{rowFrom, rowOf, writeAt, Wanted, State, counted, readingMet}
+use Rattle.meaning.specs.Buffers.{writeAt}
+use Rattle.walk.specs.Run.{rowFrom, rowOf, Wanted, State, counted, readingMet}
 use Rattle.walk.specs.Room.{Room}
 use Rattle.walk.specs.declared.tally.Halt.{Halt}
 use Rattle.walk.specs.declared.tally.Halt.the-variants.{Going, Full}

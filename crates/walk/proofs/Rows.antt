@@ -4,17 +4,17 @@ use mathlib.Core.Path.{_≡_, refl, sym, _∙_, ap, fun-ext}
 use mathlib.Core.Logic.{⊎-elim}
 use mathlib.Core.Bool.{Bool, true, false}
 use mathlib.Core.List.{List, [], _∷_, _++_, append-nil, append-assoc}
-use Prim.Native.Nat.{ℕ, zero, suc, _+_, _*_, _≤_, _<_}
+use Prim.Native.Nat.{ℕ, zero, suc, _+_, _*_, _<_}
 use native.Mathlib.Nat.{zero-add, add-zero, add-suc, suc-add, suc-mul, zero-mul, le-of-suc-le-suc}
 use native.Mathlib.Omega.{arith}
 use lib.Dec.{eqb}
-use lib.ListN.{length, getD, take, drop, length-append, length-drop, take-append-drop, List·getD-eq-default}
-use lib.Seq.{length-take-le, take-at, drop-at, drop-drop, drop-append-add}
+use lib.ListN.{length, getD, take, drop, length-append, List·getD-eq-default}
+use lib.Seq.{take-at, drop-at}
 use Rattle.meaning.specs.Books.{Atoms, atomNo, Book}
 use Rattle.meaning.specs.Choice.{ifb}
 use Rattle.meaning.proofs.Tests.{lt-or-le, refuted}
 use Rattle.meaning.proofs.LeastModel.{Inside}
-use Rattle.walk.specs.Run.{rowFrom, rowOf, writeAt}
+use Rattle.walk.specs.Run.{rowFrom, rowOf}
 use Rattle.walk.specs.Page.{setIn}
 
 -- ---- one row
@@ -74,29 +74,3 @@ pub last-row : (b : Book) (l : List Atoms) (x : Atoms) (bytes : List ℕ)
 last-row b l x bytes =
     rw (rows-last b l x, append-assoc (rowsOf b l) (rowOf b x) bytes, drop-at (rowsOf b l) (rowOf b x ++ bytes) _ (rows-length b l))
     (take-at (rowOf b x) bytes _ (row-length b x))
-
-pub write-length : (at : ℕ) (row out : List ℕ) → at + length row ≤ length out → length (writeAt at row out) ≡ length out
-unfolding writeAt
-write-length at row out h = simp (length-append, length-drop) (omega (arith, length-take-le at out (omega arith)))
-
-pub write-none : (at : ℕ) (out : List ℕ) → writeAt at [] out ≡ out
-unfolding writeAt
-write-none at out = rw add-zero (take-append-drop at out)
-
-pub write-front : (row out : List ℕ) → writeAt 0 row out ≡ row ++ drop (length row) out
-unfolding writeAt
-write-front row out = rw zero-add
-
-pub write-next : (at : ℕ) (xs ys out : List ℕ) → at ≤ length out
-    → writeAt (at + length xs) ys (writeAt at xs out) ≡ writeAt at (xs ++ ys) out
-unfolding writeAt
-write-next at xs ys out h =
-    let p = take at out in let n = at + length xs in let rest = drop n out in let m = n + length ys in
-    let e : length (p ++ xs) ≡ n = omega (arith, length-append p xs, length-take-le at out h) in
-    let whole = sym (append-assoc p xs rest) in
-    let t : take n (p ++ (xs ++ rest)) ≡ p ++ xs = ap (take n) whole ∙ take-at (p ++ xs) rest n e in
-    let d : drop m (p ++ (xs ++ rest)) ≡ drop m out =
-    ap (drop m) whole ∙ ap (λ (i : ℕ). drop (i + length ys) (p ++ xs ++ rest)) (sym e)
-    ∙ drop-append-add (p ++ xs) rest (length ys) ∙ drop-drop (length ys) n out in
-    let z : at + length (xs ++ ys) ≡ m = omega (arith, length-append xs ys) in
-    rw (t, d, z, append-assoc p xs (ys ++ drop m out), append-assoc xs ys (drop m out))

@@ -12,10 +12,12 @@ use Rattle.meaning.specs.Choice.{ifEq}
 use Rattle.meaning.proofs.Choice.{lt-yes, lt-no, lt-either, eq-either}
 use Rattle.walk.specs.Events.{Event, clash, fork, reading}
 use Rattle.walk.specs.Readings.{readingOf}
-use Rattle.walk.specs.Run.{rowOf, writeAt, Wanted, State, counted, clashedAt, halting, readingMet, tried, met, run}
+use Rattle.meaning.specs.Buffers.{writeAt}
+use Rattle.walk.specs.Run.{rowOf, Wanted, State, counted, clashedAt, halting, readingMet, tried, met, run}
 use Rattle.walk.specs.declared.tally.Halt.{Halt}
 use Rattle.walk.specs.declared.tally.Halt.the-variants.{Going, Full, Limit}
-use Rattle.walk.proofs.Rows.{row-length, write-length}
+use Rattle.meaning.proofs.Buffers.{write-length}
+use Rattle.walk.proofs.Rows.{row-length}
 
 -- two cases of one answer are never equal: cc proves this of them
 pub apart : {A : Type 0} → _≡_ {A = ℕ} 0 1 → A

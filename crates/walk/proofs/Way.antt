@@ -16,10 +16,12 @@ use Rattle.meaning.proofs.Choice.{lt-yes, lt-no, eq-yes, eq-no}
 use Rattle.walk.specs.Events.{Event, clash, fork, reading}
 use Rattle.walk.specs.Readings.{readingOf, readingsIn}
 use Rattle.walk.specs.Tries.{clashIn}
-use Rattle.walk.specs.Run.{rowOf, writeAt, Wanted, State, counted, clashedAt, halting, readingMet, tried, run}
+use Rattle.meaning.specs.Buffers.{writeAt}
+use Rattle.walk.specs.Run.{rowOf, Wanted, State, counted, clashedAt, halting, readingMet, tried, run}
 use Rattle.walk.specs.declared.tally.Halt.{Halt}
 use Rattle.walk.specs.declared.tally.Halt.the-variants.{Going, Full, Limit}
-use Rattle.walk.proofs.Rows.{row-length, rowsOf, write-length, write-none, write-next}
+use Rattle.meaning.proofs.Buffers.{write-length, write-none, write-next}
+use Rattle.walk.proofs.Rows.{row-length, rowsOf}
 use Rattle.walk.proofs.Run.{apart, run-ended, run-try, run-stops}
 
 module _ (b : Book) (w : Wanted) where

@@ -7,3 +7,4 @@ pub mod Find
 pub mod Page
 pub mod Listing
 pub mod Room
+pub mod Levels

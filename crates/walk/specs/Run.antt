@@ -5,12 +5,12 @@
 --   Wanted           how many readings to pass over, how many rows there is room for, the limit L
 --   State            the tries and readings so far, the rule of the last contradictory try, why the way has ended; and the buffer
 --   run b w s es     the state after the events, from the state s
-use mathlib.Core.List.{List, [], _∷_, _++_}
+use mathlib.Core.List.{List, [], _∷_}
 use Prim.Native.Nat.{ℕ, zero, suc, _+_, _*_, _-_}
-use lib.ListN.{length, take, drop}
 use Rattle.meaning.specs.declared.RuleNo.{RuleNo}
 use Rattle.meaning.specs.Books.{Atoms, atomNo, Book}
 use Rattle.meaning.specs.Choice.{ifb, ifLt, ifEq}
+use Rattle.meaning.specs.Buffers.{writeAt}
 use Rattle.walk.specs.Events.{Event, clash, fork, reading}
 use Rattle.walk.specs.Readings.{readingOf}
 use Rattle.walk.specs.declared.tally.Tally.{Tally}
@@ -24,10 +24,6 @@ rowFrom i (suc n) x = ifb (x (atomNo i)) 1 0 ∷ rowFrom (suc i) n x
 
 unfoldable pub rowOf : Book → Atoms → List ℕ
 rowOf b x = rowFrom 0 (b .atoms) x
-
--- the bytes of a buffer from place `at` on, overwritten by a row
-unfoldable pub writeAt : ℕ → List ℕ → List ℕ → List ℕ
-writeAt at row out = take at out ++ (row ++ drop (at + length row) out)
 
 pub record Wanted : Type 0 where
   pub pass : ℕ

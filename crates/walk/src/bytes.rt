@@ -4,7 +4,8 @@ ghost use Prim.Native.Nat.{_+_, _≤_};
 ghost use lib.ListN.{length};
 ghost use Rattle.meaning.specs.Choice.{ifb};
 ghost use Rattle.book.specs.Tables.{atomsIn};
-ghost use Rattle.walk.specs.Run.{rowFrom, writeAt};
+ghost use Rattle.meaning.specs.Buffers.{writeAt};
+ghost use Rattle.walk.specs.Run.{rowFrom};
 ghost use Rattle.walk.specs.Page.{setIn};
 use meaning::AtomNo;
 

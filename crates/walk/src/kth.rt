@@ -37,7 +37,7 @@ pub enum Found {
 }
 
 // Walks to the k-th reading of a good book and writes it.
-fn kth(book: &[u8], shape: Shape, k: u32, limit: u32, answer: &mut [u8]) -> Tally
+pub fn kth(book: &[u8], shape: Shape, k: u32, limit: u32, answer: &mut [u8]) -> Tally
     requires { ⌜ ReadAs (now book) shape × (0 < k) × (shape .atoms ≤ length (now answer)) ⌝ }
     ensures { λ t. ⌜ _≡_ {A = State} (record { tally = t; out = now (answer .exit) })
         (run (bookIn (now (book .entry))) (record { pass = k - 1; room = 1; limit = limit })
@@ -76,7 +76,7 @@ pub fn first(book: &[u8], shape: Shape, limit: u32, row: &mut [u8; 255]) -> Tall
 }
 
 // What a call's tally tells.
-fn tell(t: Tally, limit: u32) -> Found
+pub fn tell(t: Tally, limit: u32) -> Found
     ensures { λ r. ⌜ told r ≡ toldBy (t .halt) (record { tally = t; out = [] }) limit ⌝ }
 {
     let halt = t.halt;

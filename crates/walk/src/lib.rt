@@ -3,6 +3,7 @@
 
 mod bytes;
 mod colours;
+mod descent;
 mod kth;
 mod meet;
 mod page_answer;
@@ -12,6 +13,7 @@ mod tally;
 mod walk;
 
 pub use colours::lowest_uncoloured;
+pub use descent::levels;
 pub use kth::Found;
 pub use kth::find;
 pub use kth::first;

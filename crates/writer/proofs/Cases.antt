@@ -19,7 +19,8 @@ use Rattle.meaning.specs.Choice.{ifb, ifLt, ifEq}
 use Rattle.meaning.specs.Told.{refused, fewer, stopped}
 use Rattle.book.specs.Format.{u16At, partOf, andThen, bytesOf, recordOf, lengthOf, ruleOf, recordsOf, rulesOf, ifFine, bodyOf, readOf}
 use Rattle.walk.specs.Events.{after, eventsIn, events}
-use Rattle.walk.specs.Run.{rowFrom, rowOf, writeAt, readingMet, tried, met as eventMet, run}
+use Rattle.meaning.specs.Buffers.{writeAt}
+use Rattle.walk.specs.Run.{rowFrom, rowOf, readingMet, tried, met as eventMet, run}
 use Rattle.walk.specs.Page.{setIn}
 use Rattle.writer.specs.Branches.{behind, branchBy, branchIn, branch, below, branchesIn, branches}
 use Rattle.writer.specs.Scan.{courseAt, met, scan}

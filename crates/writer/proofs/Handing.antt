@@ -13,7 +13,7 @@ use Rattle.meaning.specs.declared.kind.Claim.{Claim}
 use Rattle.meaning.specs.Paper.{numbers, trailer}
 use Rattle.meaning.specs.Engine.{witnessOf}
 use Rattle.meaning.specs.Told.{refused}
-use Rattle.walk.specs.Run.{writeAt}
+use Rattle.meaning.specs.Buffers.{writeAt}
 use Rattle.writer.specs.Needs.{wholePaper}
 use Rattle.writer.specs.Write.{paper, handOver}
 use Rattle.writer.specs.Draft.{Stands, whole, passed, Writes}

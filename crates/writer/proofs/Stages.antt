@@ -12,7 +12,8 @@ use Rattle.meaning.specs.Claim.{claimed}
 use Rattle.meaning.specs.Told.{Told, refusedAt, refused, Answered}
 use Rattle.meaning.proofs.Choice.{lt-yes, lt-no, lt-either}
 use Rattle.book.specs.Format.{BookRead, good, bad, readOf}
-use Rattle.walk.specs.Run.{State, writeAt}
+use Rattle.meaning.specs.Buffers.{writeAt}
+use Rattle.walk.specs.Run.{State}
 use Rattle.walk.specs.declared.tally.Halt.{Halt}
 use Rattle.walk.specs.declared.tally.Halt.the-variants.{Going, Full, Limit}
 use Rattle.writer.specs.Scan.{Course, writing, limited, refuted, Progress}

@@ -22,7 +22,8 @@ use Rattle.meaning.specs.Told.{Told, success, refusedAt, refused, fewer, stoppe
 use Rattle.book.specs.Numbers.{numberOf, placeOf}
 use Rattle.book.specs.Format.{BookRead, good, bad, readOf}
 use Rattle.walk.specs.Events.{events}
-use Rattle.walk.specs.Run.{State, run, writeAt}
+use Rattle.meaning.specs.Buffers.{writeAt}
+use Rattle.walk.specs.Run.{State, run}
 use Rattle.walk.specs.Find.{startOf}
 use Rattle.walk.specs.Page.{setIn}
 use Rattle.walk.specs.declared.tally.Halt.{Halt}

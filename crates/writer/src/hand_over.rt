@@ -5,7 +5,7 @@ ghost use Prim.Native.Nat.{ℕ, _<_, _≤_};
 ghost use lib.ListN.{length, take};
 ghost use Rattle.meaning.specs.Told.{Answered};
 ghost use Rattle.book.specs.Format.{bookIn, ReadAs};
-ghost use Rattle.walk.specs.Run.{writeAt};
+ghost use Rattle.meaning.specs.Buffers.{writeAt};
 ghost use Rattle.walk.specs.Page.{setIn};
 ghost use Rattle.writer.specs.Draft.{Stands};
 ghost use Rattle.writer.specs.Needs.{wholePaper};

@@ -2,7 +2,8 @@
 use native.Mathlib.Omega.{arith}
 use borrow.Author.Needs.{needs}
 use Rattle.book.specs.Format.{ReadAs}
-use Rattle.walk.proofs.Answering.{read-as, find-no-number, find-no-room, find-refused, find-walked}
+use Rattle.book.proofs.Verdict.{read-as}
+use Rattle.walk.proofs.Answering.{find-no-number, find-no-room, find-refused, find-walked}
 use Rattle.walk.proofs.kth.find.Statement.{statement}
 use Rattle.walk.proofs.kth.find.Tie as tie
 

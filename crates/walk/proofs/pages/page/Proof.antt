@@ -1,6 +1,7 @@
 -- page keeps its promise: the book refused, or the next page of a good one.
 use borrow.Author.Needs.{needs}
-use Rattle.walk.proofs.Answering.{read-as, page-refused, page-read}
+use Rattle.book.proofs.Verdict.{read-as}
+use Rattle.walk.proofs.Answering.{page-refused, page-read}
 use Rattle.walk.proofs.pages.page.Statement.{statement}
 use Rattle.walk.proofs.pages.page.Tie as tie
 

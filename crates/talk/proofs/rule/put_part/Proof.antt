@@ -4,8 +4,8 @@ use Prim.Native.Nat.{_-_, _≤_}
 use lib.ListN.{length}
 use borrow.Author.Needs.{needs}
 use Rattle.io.specs.Counts.{Counts}
-use Rattle.showing.proofs.rule.put_part.Statement.{statement}
-use Rattle.showing.proofs.rule.put_part.Tie as tie
+use Rattle.talk.proofs.rule.put_part.Statement.{statement}
+use Rattle.talk.proofs.rule.put_part.Tie as tie
 
 abbrev Inv-loop : tie.InvT-loop
 Inv-loop part is-first word line₀ held end₀ i₀ line end i =

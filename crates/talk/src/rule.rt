@@ -1,16 +1,17 @@
-// One rule in words, as `rule 2: 0 if 3 and not 1`.
+// One rule in words, as `rule 2: 0 if 3 and not 1`, or with a word for it, as `rule 2 off: 0 if 3 and
+// not 1`.
 ghost use Prim.Native.Nat.{_<_};
 ghost use Rattle.book.specs.Format.{ReadAs};
 ghost use Rattle.io.specs.Counts.{Counts};
+use crate::line::put_number;
+use crate::line::put_text;
+use crate::output::print;
 use book::Shape;
 use book::head;
 use book::negatives;
 use book::positives;
 use meaning::AtomNo;
 use meaning::RuleNo;
-use talk::print;
-use talk::put_number;
-use talk::put_text;
 
 // `if` before the first atom of a body and `and` before every other.
 fn put_joint(is_first: bool, line: &mut [u8], held: usize) -> usize
@@ -48,13 +49,15 @@ fn put_part(part: &[u8], is_first: bool, word: &[u8], line: &mut [u8], held: usi
     end
 }
 
-// Writes the rule and the line end. The longest line has 33 atoms, under 14 bytes each.
-pub fn show_rule(book: &[u8], shape: Shape, r: RuleNo)
+// Writes the rule, with the word behind its number, and the line end. The longest line has 33 atoms,
+// under 14 bytes each.
+pub fn show_rule(book: &[u8], shape: Shape, r: RuleNo, word: &[u8])
     requires { ⌜ ReadAs (now book) shape × (r .0 < shape .rules) ⌝ }
 {
     let mut line = [0u8; 512];
     let held = put_text(b"rule ", &mut line, 0);
     let held = put_number(r.0 as u64, &mut line, held);
+    let held = put_text(word, &mut line, held);
     let held = put_text(b": ", &mut line, held);
     let held = put_number(head(book, shape, r).0 as u64, &mut line, held);
     let body = positives(book, shape, r);
