@@ -17,7 +17,7 @@ use Rattle.meaning.specs.Buffers.{writeAt}
 use Rattle.meaning.specs.Written.{of, nothing}
 use Rattle.meaning.specs.Computed.{close}
 use Rattle.meaning.proofs.Choice.{lt-yes, lt-no}
-use Rattle.meaning.proofs.Buffers.{write-turn, write-done, write-next, write-front}
+use Rattle.meaning.proofs.Buffers.{write-length, write-turn, write-done, write-next, write-front}
 use Rattle.book.specs.declared.refusal.Refusal.{Refusal}
 use Rattle.book.specs.declared.reader.Shape.{Shape}
 use Rattle.book.specs.declared.reader.Read.{Read}
@@ -65,6 +65,12 @@ module _ (holds fails : List Bool) (n at : ℕ) (out : List ℕ) where
   pub settled-written : {i : ℕ} {w : List ℕ} → i ≤ n → n ≤ i → w ≡ paste out at (settledRow n holds fails) i
       → w ≡ writeAt at (settledRow n holds fails) out
   settled-written h k e = write-done at (settledRow n holds fails) out (le-antisymm h k ∙ sym (settled-length 0 n _ _)) e
+
+-- the buffer keeps its length
+pub settled-kept : (n : ℕ) (holds fails : List Bool) (out u : List ℕ) → n ≤ length out → u ≡ writeAt 0 (settledRow n holds fails) out
+    → length u ≡ length out
+settled-kept n holds fails out u h e =
+    ap length e ∙ write-length 0 (settledRow n holds fails) out (omega (arith, settled-length 0 n (λ j. getD holds j false) (λ j. getD fails j false)))
 
 -- ---- both rows
 

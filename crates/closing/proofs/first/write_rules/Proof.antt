@@ -20,10 +20,19 @@ abbrev μ-loop : tie.MeasureT-loop
 
 loop-again : tie.Need-loop-again Inv-loop μ-loop
 unfolding of
-loop-again c = ?
+loop-again c =
+    let second = c .before in
+    let l = second .before .before .before in
+    let s = l .before .before in
+    let a = s .args in (
+      omega arith,
+      length-set (l .loop .out) _ _ ∙ l .loop .inv .1,
+      settled-turn (listed (a .on .now)) (listed (a .off .now)) (a .n) (a .at) (a .out .now) (s .pre) (omega arith)
+          (c .settled-byte .ensures ∙ ap₂ settledByte (second .before .has .ensures) (second .has2 .ensures)) (l .loop .inv .2),
+    )
 
 pub write-rules-spec : {M : Type 1} → statement M
 write-rules-spec =
-    tie.close (tie.spec Inv-loop μ-loop (λ c. search (needs, paste-zero)) (λ c κs. search needs) (λ c κs. search needs)
+    tie.close (tie.spec Inv-loop μ-loop (λ c. search (needs, paste-zero)) (λ c. search needs) (λ c κs. search needs) (λ c κs. search needs)
     (λ c κs. search needs) (λ c. search needs) (λ c. search needs) (λ c. search needs) (λ c. search needs)
     loop-again (λ c. search needs) (λ c. search (needs, settled-written)))
