@@ -41,7 +41,7 @@ module _ (c : tie.After-close Inv-loop μ-loop) where
 -- behind the search for a rule to choose: there was no contradiction
 module _ (c : tie.After-lowest-uncoloured Inv-loop μ-loop) where
   abbrev quiet : tie.After-enum-told2 Inv-loop μ-loop
-  quiet = c .before .before
+  quiet = c .before
 
   abbrev closing : tie.After-close Inv-loop μ-loop
   closing = quiet .before .before .before

@@ -45,5 +45,6 @@ returns-4 c =
 pub levels-in-spec : {M : Type 1} → statement M
 levels-in-spec =
     tie.close (tie.spec returns (λ c. search needs) returns-2 (λ c. search needs) (λ c κs. search needs) (λ c. search needs)
-    (λ c κs. search needs) returns-3 (λ c. search needs) (λ c κs. search needs) (λ c κs. search needs) (λ c κs. search needs) (λ c κs. search needs)
+    (λ c κs. search needs) returns-3 (λ c κs. search needs) (λ c. search needs) (λ c κs. search needs) (λ c κs. search needs)
+    (λ c κs. search needs)
     (λ c. search needs) returns-4)
