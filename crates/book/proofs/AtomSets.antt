@@ -3,57 +3,48 @@
 use mathlib.Core.Path.{_≡_, refl, sym, _∙_, ap}
 use mathlib.Core.Bool.{Bool, true, false, not, _&&_, _||_}
 use mathlib.Core.List.{List}
-use Prim.Native.Nat.{ℕ, zero, suc, _+_, _<_}
-use native.Mathlib.Nat.{add-zero, zero-add, add-suc, suc-add, not-suc-le-zero, le-of-suc-le-suc}
+use Prim.Native.Nat.{ℕ, _+_, _<_}
+use native.Mathlib.Nat.{zero-add}
 use native.Mathlib.Decide.{ℕ-discrete}
 use native.Mathlib.Numerals.{add-one}
 use lib.ListN.{length, getD, set, replicate, length-set}
 use lib.Seq.{ext-getD, getD-set-same, getD-set-other}
 use borrow.Author.Tests.{ne-eqb}
 use Rattle.meaning.specs.declared.AtomNo.{AtomNo}
-use Rattle.meaning.specs.Sets.{Set, everyBelow, someBelow}
+use Rattle.meaning.specs.Sets.{everyBelow, someBelow}
 use Rattle.meaning.specs.Books.{Atoms, Rules, atomNo, ruleNo, sameAtom, Book, count, rule, everyRule, someRule}
+use Rattle.meaning.specs.Bits.{tableFrom}
 use Rattle.meaning.specs.Written.{of}
 use Rattle.meaning.specs.Colours.{heads, allIn}
 use Rattle.meaning.proofs.Tests.{or-left, or-right}
 use Rattle.meaning.proofs.Sets.{all-next}
 use Rattle.meaning.proofs.Rules.{atom-same}
-use Rattle.book.specs.Tables.{tableFrom, atomTable, atomsIn}
+use Rattle.meaning.proofs.Listed.{table-long, table-at}
+use Rattle.book.specs.Tables.{atomTable, atomsIn}
 
 -- ---- reading
 
-length-from : (i n : ℕ) (s : Set ℕ) → length (tableFrom i n s) ≡ n
-unfolding tableFrom
-length-from i zero s = refl
-length-from i (suc n) s = ap suc (length-from (suc i) n s)
-
-from-at : (i n : ℕ) (s : Set ℕ) (j : ℕ) → j < n → getD (tableFrom i n s) j false ≡ s (i + j)
-unfolding tableFrom
-from-at i zero s j h = absurd (not-suc-le-zero h)
-from-at i (suc n) s zero h = rw add-zero
-from-at i (suc n) s (suc j) h = rw (add-suc, ← suc-add i j) (from-at (suc i) n s j (le-of-suc-le-suc h))
-
 pub table-length : (x : Atoms) → length (atomTable x) ≡ 255
 unfolding atomTable
-table-length x = length-from 0 255 (λ n. x (atomNo n))
+table-length x = table-long 0 255 (λ n. x (atomNo n))
 
-table-at : (x : Atoms) (n : ℕ) → n < 255 → getD (atomTable x) n false ≡ x (atomNo n)
+place-at : (x : Atoms) (n : ℕ) → n < 255 → getD (atomTable x) n false ≡ x (atomNo n)
 unfolding atomTable
-table-at x n h = rw zero-add at (from-at 0 255 (λ i. x (atomNo i)) n h)
+place-at x n h = rw zero-add at (table-at 0 255 (λ i. x (atomNo i)) n h)
 
 pub table-in : (x : Atoms) (a : AtomNo) → a .0 < 255 → atomsIn (atomTable x) a ≡ x a
 unfolding atomsIn
-table-in x a h = table-at x (a .0) h
+table-in x a h = place-at x (a .0) h
 
 -- ---- writing
 
 -- a list of 255 places is the table of what it says
 table-of : (l : List Bool) (x : Atoms) → length l ≡ 255 → ((n : ℕ) → n < 255 → getD l n false ≡ x (atomNo n)) → l ≡ atomTable x
 table-of l x e f =
-    ext-getD false l (atomTable x) (e ∙ sym (table-length x)) (λ n h. f n (rw e at h) ∙ sym (table-at x n (rw e at h)))
+    ext-getD false l (atomTable x) (e ∙ sym (table-length x)) (λ n h. f n (rw e at h) ∙ sym (place-at x n (rw e at h)))
 
 pub table-same : (x y : Atoms) → ((a : AtomNo) → x a ≡ y a) → atomTable x ≡ atomTable y
-table-same x y f = table-of (atomTable x) y (table-length x) (λ n h. table-at x n h ∙ f (atomNo n))
+table-same x y f = table-of (atomTable x) y (table-length x) (λ n h. place-at x n h ∙ f (atomNo n))
 
 pub table-filled : (v : Bool) → replicate 255 v ≡ atomTable (λ a. v)
 unfolding atomTable tableFrom
@@ -67,7 +58,7 @@ table-set x y a v h e f =
   where
     stored : (n : ℕ) → n < 255 → Dec (n ≡ a .0) → getD (set (atomTable x) (a .0) v) n false ≡ y (atomNo n)
     stored n k (yes p) = rw p (getD-set-same (atomTable x) (a .0) v false (rw table-length h) ∙ sym e)
-    stored n k (no q) = getD-set-other (atomTable x) (a .0) n v false q ∙ table-at x n k ∙ f (atomNo n) q
+    stored n k (no q) = getD-set-other (atomTable x) (a .0) n v false q ∙ place-at x n k ∙ f (atomNo n) q
 
 pub other-atom : (a c : AtomNo) → (c .0 ≡ a .0 → ⊥) → sameAtom a c ≡ false
 unfolding sameAtom

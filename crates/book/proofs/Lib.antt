@@ -19,3 +19,5 @@ pub mod Asked
 pub mod AtomsFrom
 pub mod Made
 pub mod Joined
+pub mod RowStores
+pub mod RuleRows

@@ -7,3 +7,4 @@ pub mod Rows
 pub mod Places
 pub mod Tables
 pub mod Making
+pub mod RuleRows

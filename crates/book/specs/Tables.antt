@@ -4,16 +4,11 @@
 --   atomTable x      the set, written out
 --   atomsIn l        the set that a table stands for
 use mathlib.Core.Bool.{Bool, false}
-use mathlib.Core.List.{List, [], _∷_}
-use Prim.Native.Nat.{ℕ, zero, suc, _<_}
+use mathlib.Core.List.{List}
+use Prim.Native.Nat.{ℕ, _<_}
 use lib.ListN.{length, getD}
-use Rattle.meaning.specs.Sets.{Set}
 use Rattle.meaning.specs.Books.{Atoms, atomNo}
-
--- n places, of which the first is place i
-unfoldable pub tableFrom : ℕ → ℕ → Set ℕ → List Bool
-tableFrom i zero s = []
-tableFrom i (suc n) s = s i ∷ tableFrom (suc i) n s
+use Rattle.meaning.specs.Bits.{tableFrom}
 
 unfoldable pub atomTable : Atoms → List Bool
 atomTable x = tableFrom 0 255 (λ n. x (atomNo n))

@@ -6,6 +6,7 @@ ghost use mathlib.Core.List.{map};
 ghost use Prim.Native.Nat.{_<_};
 ghost use Rattle.meaning.specs.Sets.{every, some};
 ghost use Rattle.meaning.specs.Books.{rule, atomNo};
+ghost use Rattle.meaning.specs.Bits.{listed};
 ghost use Rattle.meaning.specs.Written.{of};
 ghost use Rattle.meaning.specs.Colours.{allIn};
 ghost use Rattle.book.specs.Format.{bookIn, ReadAs};
@@ -17,6 +18,7 @@ use crate::rules::negatives;
 use crate::rules::positives;
 use meaning::Colouring;
 use meaning::RuleNo;
+use meaning::has;
 
 // Every atom of the part is in the table.
 pub fn every_in(part: &[u8], table: &[bool; Colouring::ATOMS]) -> bool
@@ -78,10 +80,10 @@ pub fn is_blocked(book: &[u8], shape: Shape, r: RuleNo, headed: &[bool; Colourin
 }
 
 // The rule goes off: some positive atom has all its rules off.
-pub fn is_starved(book: &[u8], shape: Shape, r: RuleNo, off: &[bool; Colouring::RULES]) -> bool
+pub fn is_starved(book: &[u8], shape: Shape, r: RuleNo, off: &[u64; 4]) -> bool
     requires { ⌜ ReadAs (now book) shape × (r .0 < shape .rules) ⌝ }
     ensures { λ b. ⌜ b ≡
-        some (allIn (bookIn (now (book .entry))) (of (now (off .entry))))
+        some (allIn (bookIn (now (book .entry))) (of (listed (now (off .entry)))))
         (rule (bookIn (now (book .entry))) r .pos) ⌝ }
 {
     let body = positives(book, shape, r);
@@ -92,7 +94,7 @@ pub fn is_starved(book: &[u8], shape: Shape, r: RuleNo, off: &[bool; Colouring::
         i += 1;
         let mut q: u8 = 0;
         while q < shape.rules {
-            if !off[wide(q)] {
+            if !has(off, q) {
                 if head(book, shape, RuleNo(q)).0 == a {
                     continue 'atoms;
                 }

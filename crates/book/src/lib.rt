@@ -9,6 +9,7 @@ mod reader;
 mod record;
 mod refusal;
 mod rules;
+mod standing;
 mod tables;
 
 pub use conditions::every_in;
@@ -29,6 +30,11 @@ pub use refusal::Refusal;
 pub use rules::head;
 pub use rules::negatives;
 pub use rules::positives;
+pub use standing::head_row;
+pub use standing::is_starved_by;
+pub use standing::make_rows;
+pub use standing::neg_row;
+pub use standing::pos_row;
 pub use tables::heads_of;
 pub use tables::lost_in;
 

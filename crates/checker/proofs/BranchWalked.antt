@@ -6,11 +6,10 @@ use Prim.Native.Nat.{ℕ, zero, suc, _+_, _-_, _≤_, _<_}
 use native.Mathlib.Omega.{arith}
 use lib.ListN.{length}
 use Rattle.meaning.specs.declared.RuleNo.{RuleNo}
-use Rattle.meaning.specs.declared.colouring.Colouring.{Colouring}
 use Rattle.meaning.specs.Books.{Book, count}
 use Rattle.meaning.specs.Colours.{Pair, onSide, offSide, put}
 use Rattle.meaning.specs.declared.kind.Claim.{Claim}
-use Rattle.meaning.specs.Written.{colourOn, colourOff, pair}
+use Rattle.meaning.specs.Written.{Tables, written, colourOn, colourOff, pair}
 use Rattle.meaning.proofs.Written.{pair-on, pair-off}
 use Rattle.checker.specs.Steps.{Stepped, goes, parts, ends, fails, stepOf}
 use Rattle.checker.specs.Branches.{Walked, done, wrongAt, andThen, afterStep, branchOf, BranchTo}
@@ -84,7 +83,7 @@ Branches b k s from at c w = BranchTo b k s from at c w × Ends at from w
 -- ---- after the steps
 
 module _ {b : Book} {k : Claim} {s : List ℕ} {from at : ℕ} {c : Pair} {ran : Ran} (r : Runs b k s from at c ran) where
-  step-is : {x : Stop} → ran .stop ≡ x → stepOf b k s from (ran .at) (pair (ran .colours)) ≡ stoppedBy (ran .at) x
+  step-is : {x : Stop} → ran .stop ≡ x → stepOf b k s from (ran .at) (pair (written (ran .colours))) ≡ stoppedBy (ran .at) x
   step-is e = r .stops ∙ ap (stoppedBy (ran .at)) e
 
   within-is : {x : Stop} → ran .stop ≡ x → StopWithin b from (ran .at) x
@@ -93,7 +92,7 @@ module _ {b : Book} {k : Claim} {s : List ℕ} {from at : ℕ} {c : Pair} {ran :
   pub run-from : at ≤ ran .at
   run-from = leads-from b k s from at c (r .leads)
 
-  pub run-leads : {w : Walked} → Branches b k s from (ran .at) (pair (ran .colours)) w → Branches b k s from at c w
+  pub run-leads : {w : Walked} → Branches b k s from (ran .at) (pair (written (ran .colours))) w → Branches b k s from at c w
   run-leads {w} (p, q) = (leads-branch b k s from at c (r .leads) w p, ends-from run-from q)
 
   pub run-room : ran .stop ≡ End → ran .at + 1 ≤ from
@@ -107,22 +106,22 @@ module _ {b : Book} {k : Claim} {s : List ℕ} {from at : ℕ} {c : Pair} {ran :
   run-refused i e q = run-leads (branch-fails b k s from _ _ _ (step-is e ∙ q), refused)
 
   pub run-splits : {q : RuleNo} → ran .stop ≡ Split q
-      → RuleWithin b from (ran .at) q × (stepOf b k s from (ran .at) (pair (ran .colours)) ≡ parts (ran .at + 2) q)
+      → RuleWithin b from (ran .at) q × (stepOf b k s from (ran .at) (pair (written (ran .colours))) ≡ parts (ran .at + 2) q)
   run-splits e = (within-is e, step-is e)
 
 -- ---- after a split
 
 -- the split on r at byte `at` with the colouring c; its first branch starts with `first` and has come to w
-pub record Parted (b : Book) (k : Claim) (s : List ℕ) (from at : ℕ) (r : RuleNo) (c first : Colouring) (w : Branched) : Type 0 where
+pub record Parted (b : Book) (k : Claim) (s : List ℕ) (from at : ℕ) (r : RuleNo) (c first : Tables) (w : Branched) : Type 0 where
   pub within : RuleWithin b from at r
   pub splits : stepOf b k s from at (pair c) ≡ parts (at + 2) r
   pub few : count b ≤ 255
-  pub on-long : length (c .on) ≡ 255
-  pub off-long : length (c .off) ≡ 255
+  pub on-long : length (c .on) ≡ 256
+  pub off-long : length (c .off) ≡ 256
   pub on : first ≡ colourOn r c
   pub comes : Branches b k s from (at + 2) (pair first) (walked w)
 
-module _ {b : Book} {k : Claim} {s : List ℕ} {from at : ℕ} {r : RuleNo} {c first : Colouring} {w : Branched}
+module _ {b : Book} {k : Claim} {s : List ℕ} {from at : ℕ} {r : RuleNo} {c first : Tables} {w : Branched}
     (p : Parted b k s from at r c first w) where
   first-branch : BranchTo b k s from (at + 2) (put onSide (r ∷ []) (pair c)) (walked w)
   first-branch = rw (ap pair (p .on) ∙ pair-on c r (omega (arith, p .within .0, p .few, p .on-long))) at (p .comes .0)
@@ -132,7 +131,7 @@ module _ {b : Book} {k : Claim} {s : List ℕ} {from at : ℕ} {r : RuleNo} {c f
       (split-first b k s from at _ _ r _ (omega arith) (p .within .1) (p .splits) first-branch i place q, refused)
 
   -- the second branch starts with `second`
-  pub split-done : (m : ℕ) → w ≡ Done m → (second : Colouring) → second ≡ colourOff r c → (v : Walked)
+  pub split-done : (m : ℕ) → w ≡ Done m → (second : Tables) → second ≡ colourOff r c → (v : Walked)
       → Branches b k s from m (pair second) v → Branches b k s from at (pair c) v
   split-done m q second off v (t, u) =
       let (h, g) = ends-done (p .comes .1) q in (

@@ -1,50 +1,59 @@
 -- The conditions of the steps as the code tests them, place by place: what each test says of the pair that the lent tables stand for.
 -- Document 01, "The paper": 53, 45 and 55. Each is its definition, with the place in the table put for the rule or the atom.
-use mathlib.Core.Path.{_≡_, sym, _∙_, ap}
+use mathlib.Core.Path.{_≡_, sym, _∙_, ap, ap₂}
 use mathlib.Core.Bool.{Bool, true, false, not, _&&_}
 use mathlib.Core.List.{List, map}
 use Prim.Native.Nat.{ℕ, _+_, _≤_, _<_}
+use native.Mathlib.Omega.{arith}
 use lib.ListN.{length, getD, take}
-use borrow.Author.Tests.{ne-eqb}
+use borrow.Author.Tests.{ne-eqb, ltb-true, lt-ltb}
 use Rattle.meaning.specs.declared.AtomNo.{AtomNo}
 use Rattle.meaning.specs.declared.RuleNo.{RuleNo}
-use Rattle.meaning.specs.Sets.{every, some, someBelow}
+use Rattle.meaning.specs.Sets.{Set, every, some, someBelow}
 use Rattle.meaning.specs.Books.{Atoms, Rules, atomNo, ruleNo, sameAtom, Book, count, rule, someRule}
 use Rattle.meaning.specs.Colours.{heads, allIn, plus, clashing, uncoloured}
 use Rattle.meaning.specs.declared.kind.Kind.the-variants.{Naming, Clearing}
 use Rattle.meaning.specs.declared.kind.Claim.{Claim}
 use Rattle.meaning.specs.Claim.{shownBy, shown, ended}
 use Rattle.meaning.specs.Paper.{unfounded}
+use Rattle.meaning.specs.Bits.{below, members, listed}
+use Rattle.meaning.specs.Bits.{both as both-in}
 use Rattle.meaning.specs.Written.{of, lent}
-use Rattle.meaning.proofs.Tests.{or-left, not-first, not-second}
-use Rattle.meaning.proofs.Sets.{every-here, every-all-next, every-all-end}
+use Rattle.meaning.proofs.Tests.{both, and-left, and-right, same, or-left, not-first, not-second}
+use Rattle.meaning.proofs.Sets.{every-here, every-all-next, every-all-end, below-some, below-one}
 use Rattle.meaning.proofs.Rules.{heads-of, all-in-not-heads}
+use Rattle.meaning.proofs.Listed.{listed-members}
 use Rattle.book.specs.declared.reader.Shape.{Shape}
 use Rattle.book.specs.Format.{bookIn, ReadAs}
-use Rattle.book.specs.Tables.{atomTable, atomsIn, Below}
-use Rattle.book.specs.Writing.{atomBytes}
-use Rattle.book.proofs.Bodies.{some-part}
+use Rattle.book.specs.Tables.{atomTable, atomsIn}
 use Rattle.book.proofs.Asked.{every-table, some-table, pos-small, neg-small}
-use Rattle.checker.proofs.Lists.{every-map, every-same}
+use Rattle.checker.proofs.Lists.{every-map}
 
 -- ---- 53: the rule has no colour
 
-module _ (on off : List Bool) (r : RuleNo) (i : ℕ) (e : i ≡ r .0) where
-  pub uncoloured-on : getD on i false ≡ true → uncoloured (lent on off) r ≡ false
-  unfolding uncoloured of
-  uncoloured-on h = rw (← e, h)
+module _ (on off : List Bool) (r : RuleNo) where
+  pub uncoloured-on : of on r ≡ true → uncoloured (lent on off) r ≡ false
+  unfolding uncoloured
+  uncoloured-on h = rw h
 
-  pub uncoloured-off : getD on i false ≡ false → uncoloured (lent on off) r ≡ not (getD off i false)
-  unfolding uncoloured of
-  uncoloured-off h = rw (← e, h)
+  pub uncoloured-off : of on r ≡ false → uncoloured (lent on off) r ≡ not (of off r)
+  unfolding uncoloured
+  uncoloured-off h = rw h
 
 -- ---- 45: a rule in both sets, or the claim is shown
 
--- place i of the table says whether rule r is in the set, and so whether it is in what the code asks of the set
-pub rule-says : (asked : Bool → Bool) (set : List Bool) (r i : ℕ) (v : Bool) → i ≡ r → asked (getD set i false) ≡ v
-    → asked (of set (ruleNo r)) ≡ v
-unfolding of
-rule-says asked set r i v e t = rw e at t
+-- the code asks whether what both sets have meets the numbers below n
+pub clash-asked : (n : ℕ) → n < 256 → (on off m all : List ℕ) {x : Bool} → members m ≡ both-in (members on) (members off) → members all ≡ below n
+    → x ≡ someBelow 256 (both-in (members m) (members all)) → x ≡ someBelow n (λ i. of (listed on) (ruleNo i) && of (listed off) (ruleNo i))
+clash-asked n low on off m all e f g = g ∙ same _ _
+    (λ t. let (i, l, h) = below-some 256 _ t in
+    let h1 = ap (λ (s : Set ℕ). s i) (sym e) ∙ and-left (members m i) (members all i) h in
+    below-one n _ i (ltb-true i n (ap (λ (s : Set ℕ). s i) (sym f) ∙ and-right (members m i) (members all i) h)) (in-both i ∙ h1))
+    (λ t. let (i, l, h) = below-some n _ t in
+    below-one 256 _ i (omega arith) (both (ap (λ (s : Set ℕ). s i) e ∙ sym (in-both i) ∙ h) (ap (λ (s : Set ℕ). s i) f ∙ lt-ltb i n l)))
+  where
+    in-both : (i : ℕ) → (of (listed on) (ruleNo i) && of (listed off) (ruleNo i)) ≡ (members on i && members off i)
+    in-both i = ap₂ (λ (s t : Set ℕ). s i && t i) (listed-members on) (listed-members off)
 
 -- an atom is looked for among the heads of a set's rules, one by one; the code reads h as the head of rule r
 module _ (b : Book) (s : Rules) (a : AtomNo) where
@@ -108,29 +117,25 @@ module _ (s : List ℕ) (h : Shape) (e : ReadAs s h) (n : h .atoms < 256) (r : R
 
 -- ---- 55: a positive atom all of whose rules are off or listed
 
--- the code asks of the part of the book that holds a body's atoms
-pub some-by : (x : Atoms) (part : List ℕ) (l : List AtomNo) (v : Bool) → part ≡ atomBytes l → v ≡ some x (map atomNo part) → v ≡ some x l
-some-by x part l v e q = q ∙ some-part x part l e
+-- rule n has a positive atom all of whose rules are in the set
+abbrev pub starvedBy : Book → Rules → ℕ → Bool
+starvedBy b gone n = some (allIn b gone) (rule b (ruleNo n) .pos)
 
--- rule n has a positive atom in the table
-abbrev pub hasIn : Book → List Bool → ℕ → Bool
-hasIn b t n = some (atomsIn t) (rule b (ruleNo n) .pos)
+module _ (b : Book) (gone : Rules) (l : List ℕ) (i : ℕ) where
+  pub starved-stops : i < length l → starvedBy b gone (getD l i 0) ≡ false
+      → every (λ r. some (allIn b gone) (rule b r .pos)) (map ruleNo l) ≡ false
+  starved-stops h z = every-map _ ruleNo l ∙ every-here _ l i 0 h z
 
-module _ (b : Book) (t : List Bool) (l : List ℕ) (i : ℕ) where
-  pub has-stops : i < length l → hasIn b t (getD l i 0) ≡ false → every (λ r. some (atomsIn t) (rule b r .pos)) (map ruleNo l) ≡ false
-  has-stops h z = every-map _ ruleNo l ∙ every-here _ l i 0 h z
+  pub starved-next : i < length l → starvedBy b gone (getD l i 0) ≡ true → every (starvedBy b gone) (take i l) ≡ true
+      → every (starvedBy b gone) (take (i + 1) l) ≡ true
+  starved-next h z w = every-all-next _ l i 0 h z w
 
-  pub has-next : i < length l → hasIn b t (getD l i 0) ≡ true → every (hasIn b t) (take i l) ≡ true
-      → every (hasIn b t) (take (i + 1) l) ≡ true
-  has-next h z w = every-all-next _ l i 0 h z w
+  pub starved-end : length l ≤ i → every (starvedBy b gone) (take i l) ≡ true
+      → every (λ r. some (allIn b gone) (rule b r .pos)) (map ruleNo l) ≡ true
+  starved-end h w = every-map _ ruleNo l ∙ every-all-end _ l i h w
 
-  pub has-end : length l ≤ i → every (hasIn b t) (take i l) ≡ true → every (λ r. some (atomsIn t) (rule b r .pos)) (map ruleNo l) ≡ true
-  has-end h w = every-map _ ruleNo l ∙ every-all-end _ l i h w
-
--- gone holds the rules that are off and those of the list, and lost the atoms all of whose rules it holds
-pub unfounded-by : (s : List ℕ) (h : Shape) → ReadAs s h → h .atoms < 256 → (off : Rules) (gone lost : List Bool) (l : List ℕ)
-    → of gone ≡ plus off (map ruleNo l) → lost ≡ atomTable (allIn (bookIn s) (of gone)) → Below (h .rules) l
-    → every (λ r. some (atomsIn lost) (rule (bookIn s) r .pos)) (map ruleNo l) ≡ unfounded (bookIn s) off (map ruleNo l)
+-- gone holds the rules that are off and those of the list
+pub unfounded-by : (b : Book) (off gone : Rules) (l : List ℕ) → gone ≡ plus off (map ruleNo l)
+    → every (λ r. some (allIn b gone) (rule b r .pos)) (map ruleNo l) ≡ unfounded b off (map ruleNo l)
 unfolding unfounded
-unfounded-by s h e n off gone lost l p q below =
-    rw (← p) (every-same (h .rules) _ _ (λ r g. positive-some s h e n r g _ lost q) l below)
+unfounded-by b off gone l p = rw p

@@ -107,6 +107,11 @@ pub add-next : (s : Rules) (t : List Bool) (l : List ℕ) (i n : ℕ) → i < le
     → of t ≡ plus s (map ruleNo (take i l)) → of (set t n true) ≡ plus s (map ruleNo (take (i + 1) l))
 add-next s t l i n h e g p = of-set t (ruleNo n) g ∙ rw (p, e) (plus-next s l i h)
 
+-- as the code puts it in
+pub add-put : (s : Rules) (t u : List Bool) (l : List ℕ) (i : ℕ) → i < length l → getD l i 0 < length t → u ≡ set t (getD l i 0) true
+    → of t ≡ plus s (map ruleNo (take i l)) → of u ≡ plus s (map ruleNo (take (i + 1) l))
+add-put s t u l i h g e p = rw e (add-next s t l i _ h refl g p)
+
 pub add-end : (s : Rules) (t : List Bool) (l : List ℕ) (i : ℕ) → length l ≤ i → of t ≡ plus s (map ruleNo (take i l))
     → of t ≡ plus s (map ruleNo l)
 add-end s t l i h p = rw (take-all i l h) at p

@@ -5,7 +5,7 @@ use mathlib.Core.List.{List}
 use Prim.Native.Nat.{ℕ, suc, _+_, _-_, _≤_, _<_}
 use native.Mathlib.Omega.{arith}
 use lib.ListN.{length, getD}
-use Rattle.meaning.specs.declared.colouring.Colouring.{Colouring}
+use Rattle.meaning.specs.Written.{Tables}
 use Rattle.meaning.specs.Books.{atomNo, Book}
 use Rattle.meaning.specs.declared.kind.Kind.{Kind}
 use Rattle.meaning.specs.declared.kind.Claim.{Claim}
@@ -30,7 +30,7 @@ use Rattle.checker.proofs.Marked.{markIn}
 
 -- ---- the steps and the witness, where the first branch, from the empty colouring, has come to x
 
-pub steps-are : (b : Book) (k : Claim) (s : List ℕ) (w from : ℕ) {c : Colouring} {x y : Walked} → c ≡ nothing
+pub steps-are : (b : Book) (k : Claim) (s : List ℕ) (w from : ℕ) {c : Tables} {x y : Walked} → c ≡ nothing
     → BranchTo b k s from 0 (pair c) x → x ≡ y → branchTold b k s w from y ≡ stepsTold b k s w from
 unfolding stepsTold
 steps-are b k s w from e p q =

@@ -7,7 +7,7 @@ use Prim.Native.Nat.{ℕ, _+_, _-_, _≤_, _<_}
 use native.Mathlib.Omega.{arith}
 use lib.ListN.{length, take, drop, length-set}
 use Rattle.meaning.specs.declared.RuleNo.{RuleNo}
-use Rattle.meaning.specs.declared.colouring.Colouring.{Colouring}
+use Rattle.meaning.specs.Written.{Tables}
 use Rattle.meaning.specs.Books.{ruleNo, Book, count}
 use Rattle.meaning.specs.Colours.{Pair, put, plus}
 use Rattle.meaning.specs.declared.kind.Claim.{Claim}
@@ -36,16 +36,16 @@ module _ {b : Book} {k : Claim} {s : List ℕ} {from at : ℕ} {c : Pair} {x : S
 
 -- ---- the colouring at byte i, to which the steps have led
 
-pub record Led (b : Book) (k : Claim) (s : List ℕ) (from at : ℕ) (c : Pair) (i : ℕ) (d : Colouring) : Type 0 where
+pub record Led (b : Book) (k : Claim) (s : List ℕ) (from at : ℕ) (c : Pair) (i : ℕ) (d : Tables) : Type 0 where
   pub leads : Leads b k s from at c i (pair d)
-  pub on-long : length (d .on) ≡ 255
-  pub off-long : length (d .off) ≡ 255
+  pub on-long : length (d .on) ≡ 256
+  pub off-long : length (d .off) ≡ 256
 
-module _ {b : Book} {k : Claim} {s : List ℕ} {from at : ℕ} {c : Pair} {i : ℕ} {d : Colouring} (l : Led b k s from at c i d)
+module _ {b : Book} {k : Claim} {s : List ℕ} {from at : ℕ} {c : Pair} {i : ℕ} {d : Tables} (l : Led b k s from at c i d)
     (small : count b ≤ 255) (x : Step) (f : Finds b k s from i (pair d) x) where
   -- a step that goes on leads on, to the colouring of its pair
-  led-by : {y : Step} (j : ℕ) (n : Colouring) → x ≡ y → stepped s i (pair d) y ≡ goes j (pair n) → i < j → j ≤ from
-      → length (n .on) ≡ 255 → length (n .off) ≡ 255 → Led b k s from at c j n
+  led-by : {y : Step} (j : ℕ) (n : Tables) → x ≡ y → stepped s i (pair d) y ≡ goes j (pair n) → i < j → j ≤ from
+      → length (n .on) ≡ 256 → length (n .off) ≡ 256 → Led b k s from at c j n
   led-by j n e q h g on off = record { leads = further {j = j} (l .leads) h g (step-is f e ∙ q); on-long = on; off-long = off }
 
   pub led-on : (r : RuleNo) → x ≡ On r → Led b k s from at c (i + 2) (colourOn r d)
@@ -60,7 +60,7 @@ module _ {b : Book} {k : Claim} {s : List ℕ} {from at : ℕ} {c : Pair} {i : �
       let q = pair-off d r (omega (arith, l .off-long)) in
       led-by (i + 2) _ e (ap (goes (i + 2)) (sym q)) (omega arith) g (l .on-long) (simp length-set (l .off-long))
 
-  pub led-list : (m : ℕ) (off : List Bool) → x ≡ Unfounded m → length off ≡ 255
+  pub led-list : (m : ℕ) (off : List Bool) → x ≡ Unfounded m → length off ≡ 256
       → of off ≡ plus (of (d .off)) (map ruleNo (take (i + 2 + m - (i + 2)) (drop (i + 2) s)))
       → Led b k s from at c (i + 2 + m) (record { on = d .on; off = off; marks = d .marks; level = d .level; levels = d .levels })
   unfolding put

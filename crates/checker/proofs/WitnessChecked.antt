@@ -9,7 +9,7 @@ use native.Mathlib.Nat.{add-zero, add-assoc, not-suc-le-zero, le-of-suc-le-suc}
 use native.Mathlib.Numerals.{add-one}
 use native.Mathlib.Omega.{arith}
 use lib.Dec.{ltb}
-use lib.ListN.{length, getD, set, take, drop, replicate, drop-of-length-le, length-set}
+use lib.ListN.{length, getD, set, take, drop, replicate, drop-of-length-le, length-replicate, length-set}
 use lib.Seq.{drop-cons}
 use borrow.Author.Tests.{ltb-true, lt-ltb, le-ltb}
 use Rattle.meaning.specs.declared.AtomNo.{AtomNo}
@@ -26,7 +26,7 @@ use Rattle.meaning.proofs.Sets.{some-of-not-every, none-of-every}
 use Rattle.meaning.proofs.Rules.{same-rule, rule-same, heads-of, heads-by, heads-mono, every-rule-at, every-rule-all}
 use Rattle.meaning.proofs.Written.{of-none, of-set}
 use Rattle.book.specs.Tables.{atomTable, atomsIn, Below}
-use Rattle.book.proofs.AtomSets.{table-same, table-filled, table-set, of-place}
+use Rattle.book.proofs.AtomSets.{table-same, table-filled, table-set}
 use Rattle.book.proofs.Asked.{every-table}
 use Rattle.book.specs.declared.reader.Shape.{Shape}
 use Rattle.book.specs.Format.{bookIn, ReadAs}
@@ -45,7 +45,7 @@ pub record Ordered (b : Book) (at : ℕ) (l : List ℕ) (i : ℕ) (listed headed
   pub before : List RuleNo
   pub short : i ≤ length l
   pub rest : orderOf b at [] l ≡ orderOf b (at + i) before (drop i l)
-  pub long : length listed ≡ 255
+  pub long : length listed ≡ 256
   pub set-is : of listed ≡ among before
   pub table-is : headed ≡ atomTable (heads b (among before))
 
@@ -85,14 +85,15 @@ unfolding some
 among-more listed r before h e =
     of-set listed r h ∙ rw e (fun-ext (λ q. or-comm (among before q) _ ∙ ap (λ t. t || among before q) (or-false (sameRule q r))))
 
-pub ordered-start : (b : Book) (at : ℕ) (l : List ℕ) → Ordered b at l 0 (replicate 255 false) (replicate 255 false)
+pub ordered-start : (b : Book) (at : ℕ) (l : List ℕ) (listed : List Bool) → listed ≡ replicate 256 false
+    → Ordered b at l 0 listed (replicate 255 false)
 unfolding some
-ordered-start b at l = record {
+ordered-start b at l listed e = record {
   before = [];
   short = omega arith;
   rest = rw add-zero;
-  long = refl;
-  set-is = fun-ext (of-none 255);
+  long = rw e (length-replicate 256 false);
+  set-is = rw e (fun-ext (of-none 256));
   table-is = table-filled false ∙ table-same _ _ (λ a. sym (no-heads b a));
 }
 
@@ -115,12 +116,11 @@ module _ {b : Book} {at : ℕ} {l : List ℕ} {i : ℕ} {listed headed : List Bo
     unfolding follows
     stops-number g = stops (not-first _ (le-ltb _ _ g))
 
-    -- the code reads place j of the set of listed rules
-    module _ (j : ℕ) (e : j ≡ getD l i 0) where
-      among-at : (v : Bool) → getD listed j false ≡ v → among (o .before) (ruleNo (getD l i 0)) ≡ v
-      among-at v t = ap (λ (s : Rules). s (ruleNo (getD l i 0))) (sym (o .set-is)) ∙ (of-place listed j (getD l i 0) v e t)
+    module _ where
+      among-at : (v : Bool) → of listed (ruleNo (getD l i 0)) ≡ v → among (o .before) (ruleNo (getD l i 0)) ≡ v
+      among-at v t = ap (λ (s : Rules). s (ruleNo (getD l i 0))) (sym (o .set-is)) ∙ t
 
-      pub stops-again : getD listed j false ≡ true → orderOf b at [] l ≡ wrong (at + i)
+      pub stops-again : of listed (ruleNo (getD l i 0)) ≡ true → orderOf b at [] l ≡ wrong (at + i)
       unfolding follows
       stops-again t = stops (not-second (ltb (getD l i 0) (count b)) (not-first _ (ap not (among-at true t))))
 
@@ -135,15 +135,15 @@ module _ {b : Book} {at : ℕ} {l : List ℕ} {i : ℕ} {listed headed : List Bo
         stops-positive t =
             stops (not-second (ltb (getD l i 0) (count b)) (not-second (not (among (o .before) (ruleNo (getD l i 0)))) (heads-at false t)))
 
-        pub ordered-next : getD l i 0 < count b → count b ≤ 255 → getD listed j false ≡ false
-            → every (atomsIn headed) (rule b (ruleNo (getD l i 0)) .pos) ≡ true → (k m : ℕ) (a : AtomNo) → k ≡ getD l i 0 → m ≡ a .0
-            → a ≡ rule b (ruleNo (getD l i 0)) .head → a .0 < 255 → Ordered b at l (i + 1) (set listed k true) (set headed m true)
+        pub ordered-next : getD l i 0 < count b → count b ≤ 255 → of listed (ruleNo (getD l i 0)) ≡ false
+            → every (atomsIn headed) (rule b (ruleNo (getD l i 0)) .pos) ≡ true → (now : List Bool) → now ≡ set listed (getD l i 0) true → (m : ℕ) (a : AtomNo)
+            → m ≡ a .0 → a ≡ rule b (ruleNo (getD l i 0)) .head → a .0 < 255 → Ordered b at l (i + 1) now (set headed m true)
         unfolding follows
-        ordered-next g few t u k m a f q p s = record {
+        ordered-next g few t u now f m a q p s = record {
           before = ruleNo (getD l i 0) ∷ o .before;
           short = omega arith;
           rest = turn ∙ b-yes _ _ _ (both (lt-ltb _ _ g) (both (ap not (among-at false t)) (heads-at true u))) ∙ rw (add-assoc at i 1);
-          long = simp length-set (o .long);
+          long = ap length f ∙ length-set listed (getD l i 0) true ∙ o .long;
           set-is = rw f (among-more listed (ruleNo (getD l i 0)) (o .before) (omega (arith, o .long)) (o .set-is));
           table-is = heads-more b (ruleNo (getD l i 0)) g (o .before) headed m a (o .table-is) q p s;
         }
@@ -237,13 +237,15 @@ pub record Tabled (s : List ℕ) (h : Shape) (paper : List ℕ) (from w : ℕ) (
   pub small : h .atoms < 256
   pub part : l ≡ take (from + w - from) (drop from paper)
   pub order : orderOf (bookIn s) from [] l ≡ fine
-  pub rules : of listed ≡ plus (of (replicate 255 false)) (map ruleNo l)
+  pub none : List Bool
+  pub empty : none ≡ replicate 256 false
+  pub rules : of listed ≡ plus (of none) (map ruleNo l)
   pub table : headed ≡ atomTable (heads (bookIn s) (of listed))
 
 module _ {s : List ℕ} {h : Shape} {paper : List ℕ} {from w : ℕ} {l : List ℕ} {listed headed : List Bool}
     (t : Tabled s h paper from w l listed headed) where
   listed-is : of listed ≡ among (map ruleNo l)
-  listed-is = t .rules ∙ fun-ext (λ r. ap (λ x. x || among (map ruleNo l) r) (of-none 255 r))
+  listed-is = t .rules ∙ ap (λ (k : List Bool). plus (of k) (map ruleNo l)) (t .empty) ∙ fun-ext (λ r. ap (λ x. x || among (map ruleNo l) r) (of-none 256 r))
 
   headed-is : headed ≡ atomTable (heads (bookIn s) (among (map ruleNo l)))
   headed-is = t .table ∙ ap (λ (x : Rules). atomTable (heads (bookIn s) x)) listed-is

@@ -16,7 +16,7 @@ use Rattle.meaning.specs.declared.RuleNo.{RuleNo}
 use Rattle.meaning.specs.Books.{ruleNo, Book, count, InBook}
 use Rattle.meaning.specs.Colours.{Pair, onSide, offSide, put}
 use Rattle.meaning.specs.declared.kind.Claim.{Claim}
-use Rattle.meaning.specs.Written.{pair}
+use Rattle.meaning.specs.Written.{written, pair}
 use Rattle.book.specs.declared.reader.Shape.{Shape}
 use Rattle.book.specs.Format.{ReadAs}
 use Rattle.book.specs.Tables.{Below}
@@ -80,8 +80,8 @@ pub data Leads (b : Book) (k : Claim) (s : List ℕ) (from at : ℕ) (c : Pair) 
       → Leads b k s from at c j e
 
 pub record Runs (b : Book) (k : Claim) (s : List ℕ) (from at : ℕ) (c : Pair) (ran : Ran) : Type 0 where
-  pub leads : Leads b k s from at c (ran .at) (pair (ran .colours))
-  pub stops : stepOf b k s from (ran .at) (pair (ran .colours)) ≡ stoppedBy (ran .at) (ran .stop)
+  pub leads : Leads b k s from at c (ran .at) (pair (written (ran .colours)))
+  pub stops : stepOf b k s from (ran .at) (pair (written (ran .colours))) ≡ stoppedBy (ran .at) (ran .stop)
   pub within : StopWithin b from (ran .at) (ran .stop)
 
 abbrev pub walked : Branched → Walked

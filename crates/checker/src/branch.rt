@@ -3,7 +3,7 @@
 // level holds is its colourings: about 5 KB, and under 1.5 MB for the deepest paper.
 ghost use mathlib.Core.Path.{_≡_};
 ghost use Prim.Native.Nat.{_+_};
-ghost use Rattle.meaning.specs.Written.{pair};
+ghost use Rattle.meaning.specs.Written.{written, pair};
 ghost use Rattle.book.specs.Format.{bookIn};
 ghost use Rattle.checker.specs.Steps.{parts, stepOf};
 ghost use Rattle.checker.specs.Branches.{BranchTo};
@@ -34,7 +34,7 @@ pub fn branch(
 ) -> Walked
     requires { ⌜ Ready (now book) shape (now paper) (trailer .from) ⌝ }
     ensures { λ w. ⌜ BranchTo (bookIn (now (book .entry))) (trailer .claim)
-        (now (paper .entry)) (trailer .from) at (pair c) (walked w)
+        (now (paper .entry)) (trailer .from) at (pair (written c)) (walked w)
         × Ends at (trailer .from) (walked w) ⌝ }
 {
     let ran = run_steps(book, shape, paper, trailer, at, c);
@@ -65,9 +65,9 @@ fn split(
     requires { ⌜ Ready (now book) shape (now paper) (trailer .from)
         × RuleWithin (bookIn (now book)) (trailer .from) at r
         × (stepOf (bookIn (now book)) (trailer .claim) (now paper) (trailer .from) at
-        (pair c) ≡ parts (at + 2) r) ⌝ }
+        (pair (written c)) ≡ parts (at + 2) r) ⌝ }
     ensures { λ w. ⌜ BranchTo (bookIn (now (book .entry))) (trailer .claim)
-        (now (paper .entry)) (trailer .from) at (pair c) (walked w)
+        (now (paper .entry)) (trailer .from) at (pair (written c)) (walked w)
         × Ends at (trailer .from) (walked w) ⌝ }
 {
     let start = at + 2;

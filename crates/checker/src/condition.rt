@@ -2,11 +2,12 @@
 // stands. Tables of atoms are made for the step, so that a condition asks of an atom in one step.
 ghost use mathlib.Core.Path.{_≡_};
 ghost use mathlib.Core.Bool.{_&&_};
-ghost use Prim.Native.Nat.{_≤_, _<_};
+ghost use Prim.Native.Nat.{_<_};
 ghost use Rattle.meaning.specs.Sets.{some, someBelow};
 ghost use Rattle.meaning.specs.Books.{ruleNo, rule};
 ghost use Rattle.meaning.specs.Colours.{heads, allIn, mayOn, uncoloured};
 ghost use Rattle.meaning.specs.Claim.{shown, ended};
+ghost use Rattle.meaning.specs.Bits.{listed};
 ghost use Rattle.meaning.specs.Written.{of, lent};
 ghost use Rattle.book.specs.Format.{bookIn, ReadAs};
 use book::Shape;
@@ -15,12 +16,14 @@ use book::head;
 use book::heads_of;
 use book::is_blocked;
 use book::lost_in;
-use book::wide;
 use meaning::AtomNo;
+use meaning::Bits;
 use meaning::Claim;
 use meaning::Colouring;
 use meaning::Kind;
 use meaning::RuleNo;
+use meaning::has;
+use meaning::whole;
 
 // 41: each positive atom is the head of an on rule, and for each negative atom all rules with that
 // head are off.
@@ -28,12 +31,12 @@ pub fn may_go_on<'a>(
     book: &[u8],
     shape: Shape,
     r: RuleNo,
-    on: &'a [bool; Colouring::RULES],
-    off: &'a [bool; Colouring::RULES],
+    on: &'a [u64; 4],
+    off: &'a [u64; 4],
 ) -> bool
     requires { ⌜ ReadAs (now book) shape × (r .0 < shape .rules) ⌝ }
     ensures { λ b. ⌜ b ≡
-        mayOn (bookIn (now (book .entry))) (lent (now (on .entry)) (now (off .entry))) r ⌝ }
+        mayOn (bookIn (now (book .entry))) (lent (listed (now (on .entry))) (listed (now (off .entry)))) r ⌝ }
 {
     let mut headed = [false; Colouring::ATOMS];
     heads_of(book, shape, on, &mut headed);
@@ -43,9 +46,9 @@ pub fn may_go_on<'a>(
 }
 
 // 42: some negative atom is the head of an on rule.
-pub fn may_go_off(book: &[u8], shape: Shape, r: RuleNo, on: &[bool; Colouring::RULES]) -> bool
+pub fn may_go_off(book: &[u8], shape: Shape, r: RuleNo, on: &[u64; 4]) -> bool
     requires { ⌜ ReadAs (now book) shape × (r .0 < shape .rules) ⌝ }
-    ensures { λ b. ⌜ b ≡ some (heads (bookIn (now (book .entry))) (of (now (on .entry))))
+    ensures { λ b. ⌜ b ≡ some (heads (bookIn (now (book .entry))) (of (listed (now (on .entry)))))
         (rule (bookIn (now (book .entry))) r .neg) ⌝ }
 {
     let mut headed = [false; Colouring::ATOMS];
@@ -54,51 +57,32 @@ pub fn may_go_off(book: &[u8], shape: Shape, r: RuleNo, on: &[bool; Colouring::R
 }
 
 // 53: the rule has no colour.
-pub fn is_uncoloured<'a>(
-    r: RuleNo,
-    on: &'a [bool; Colouring::RULES],
-    off: &'a [bool; Colouring::RULES],
-) -> bool
-    requires { ⌜ r .0 < 255 ⌝ }
-    ensures { λ b. ⌜ b ≡ uncoloured (lent (now (on .entry)) (now (off .entry))) r ⌝ }
+pub fn is_uncoloured<'a>(r: RuleNo, on: &'a [u64; 4], off: &'a [u64; 4]) -> bool
+    ensures { λ b. ⌜ b ≡ uncoloured (lent (listed (now (on .entry))) (listed (now (off .entry)))) r ⌝ }
 {
-    let i = wide(r.0);
-    if on[i] {
+    if has(on, r.0) {
         return false;
     }
-    !off[i]
+    !has(off, r.0)
 }
 
 // Some rule is in both sets.
-fn is_clashing<'a>(
-    rules: usize,
-    on: &'a [bool; Colouring::RULES],
-    off: &'a [bool; Colouring::RULES],
-) -> bool
-    requires { ⌜ rules ≤ 255 ⌝ }
-    ensures { λ b. ⌜ b ≡ someBelow rules
-        (λ n. of (now (on .entry)) (ruleNo n) && of (now (off .entry)) (ruleNo n)) ⌝ }
+fn is_clashing<'a>(rules: u8, on: &'a [u64; 4], off: &'a [u64; 4]) -> bool
+    ensures { λ b. ⌜ b ≡ someBelow rules (λ n.
+        of (listed (now (on .entry))) (ruleNo n) && of (listed (now (off .entry))) (ruleNo n)) ⌝ }
 {
-    let mut i = 0;
-    while i < rules {
-        if on[i] {
-            if off[i] {
-                return true;
-            }
-        }
-        i += 1;
-    }
-    false
+    let both = whole(on).intersection(whole(off));
+    both.meets(Bits::below(rules))
 }
 
 // The atom is the head of a rule of the set.
-fn is_head(book: &[u8], shape: Shape, a: AtomNo, set: &[bool; Colouring::RULES]) -> bool
+fn is_head(book: &[u8], shape: Shape, a: AtomNo, set: &[u64; 4]) -> bool
     requires { ⌜ ReadAs (now book) shape ⌝ }
-    ensures { λ b. ⌜ b ≡ heads (bookIn (now (book .entry))) (of (now (set .entry))) a ⌝ }
+    ensures { λ b. ⌜ b ≡ heads (bookIn (now (book .entry))) (of (listed (now (set .entry)))) a ⌝ }
 {
     let mut r: u8 = 0;
     while r < shape.rules {
-        if set[wide(r)] {
+        if has(set, r) {
             if head(book, shape, RuleNo(r)).0 == a.0 {
                 return true;
             }
@@ -109,13 +93,13 @@ fn is_head(book: &[u8], shape: Shape, a: AtomNo, set: &[bool; Colouring::RULES])
 }
 
 // All rules with the atom as head are in the set.
-fn is_lost(book: &[u8], shape: Shape, a: AtomNo, set: &[bool; Colouring::RULES]) -> bool
+fn is_lost(book: &[u8], shape: Shape, a: AtomNo, set: &[u64; 4]) -> bool
     requires { ⌜ ReadAs (now book) shape ⌝ }
-    ensures { λ b. ⌜ b ≡ allIn (bookIn (now (book .entry))) (of (now (set .entry))) a ⌝ }
+    ensures { λ b. ⌜ b ≡ allIn (bookIn (now (book .entry))) (of (listed (now (set .entry)))) a ⌝ }
 {
     let mut r: u8 = 0;
     while r < shape.rules {
-        if !set[wide(r)] {
+        if !has(set, r) {
             if head(book, shape, RuleNo(r)).0 == a.0 {
                 return false;
             }
@@ -130,12 +114,12 @@ fn is_shown<'a>(
     book: &[u8],
     shape: Shape,
     claim: Claim,
-    on: &'a [bool; Colouring::RULES],
-    off: &'a [bool; Colouring::RULES],
+    on: &'a [u64; 4],
+    off: &'a [u64; 4],
 ) -> bool
     requires { ⌜ ReadAs (now book) shape ⌝ }
     ensures { λ b. ⌜ b ≡
-        shown (bookIn (now (book .entry))) claim (lent (now (on .entry)) (now (off .entry))) ⌝ }
+        shown (bookIn (now (book .entry))) claim (lent (listed (now (on .entry))) (listed (now (off .entry)))) ⌝ }
 {
     let kind = claim.kind;
     let atom = claim.atom;
@@ -150,14 +134,14 @@ pub fn is_ended<'a>(
     book: &[u8],
     shape: Shape,
     claim: Claim,
-    on: &'a [bool; Colouring::RULES],
-    off: &'a [bool; Colouring::RULES],
+    on: &'a [u64; 4],
+    off: &'a [u64; 4],
 ) -> bool
     requires { ⌜ ReadAs (now book) shape ⌝ }
     ensures { λ b. ⌜ b ≡
-        ended (bookIn (now (book .entry))) claim (lent (now (on .entry)) (now (off .entry))) ⌝ }
+        ended (bookIn (now (book .entry))) claim (lent (listed (now (on .entry))) (listed (now (off .entry)))) ⌝ }
 {
-    if is_clashing(wide(shape.rules), on, off) {
+    if is_clashing(shape.rules, on, off) {
         return true;
     }
     is_shown(book, shape, claim, on, off)

@@ -1,5 +1,5 @@
 // The steps of a branch, one after another, up to its end or its split.
-ghost use Rattle.meaning.specs.Written.{pair};
+ghost use Rattle.meaning.specs.Written.{written, pair};
 ghost use Rattle.book.specs.Format.{bookIn};
 ghost use Rattle.checker.specs.Parts.{Ready, Runs};
 use crate::list::with_rules;
@@ -28,12 +28,16 @@ pub fn run_steps(
 ) -> Ran
     requires { ⌜ Ready (now book) shape (now paper) (trailer .from) ⌝ }
     ensures { λ ran. ⌜ Runs (bookIn (now (book .entry))) (trailer .claim)
-        (now (paper .entry)) (trailer .from) at (pair c) ran ⌝ }
+        (now (paper .entry)) (trailer .from) at (pair (written c)) ran ⌝ }
 {
     let mut colours = c;
     let mut i = at;
     loop {
-        match check_step(book, shape, paper, trailer, i, &colours.on, &colours.off) {
+        let on = colours.on;
+        let off = colours.off;
+        let on_words = on.w;
+        let off_words = off.w;
+        match check_step(book, shape, paper, trailer, i, &on_words, &off_words) {
             Step::On(r) => {
                 colours = colours.with_on(r);
                 i += 2;
@@ -45,8 +49,8 @@ pub fn run_steps(
             Step::Unfounded(m) => {
                 let first = i + 2;
                 let end = first + m;
-                let off = colours.off;
-                colours.off = with_rules(off, &paper[first..end]);
+                let more = with_rules(off, &paper[first..end]);
+                colours.off = more;
                 i = end;
             }
             Step::Stops(stop) => {

@@ -5,6 +5,7 @@ ghost use mathlib.Core.List.{List};
 ghost use Prim.Native.Nat.{_<_};
 ghost use lib.ListN.{getD};
 ghost use Rattle.meaning.specs.Paper.{codeUnfounded, codeEnd};
+ghost use Rattle.meaning.specs.Bits.{listed};
 ghost use Rattle.meaning.specs.Written.{lent};
 ghost use Rattle.book.specs.Format.{bookIn};
 ghost use Rattle.checker.specs.Parts.{Ready, Finds};
@@ -17,7 +18,6 @@ use crate::list::is_unfounded;
 use crate::trailer::Trailer;
 use book::Shape;
 use book::wide;
-use meaning::Colouring;
 use meaning::RuleNo;
 use meaning::STEP_END;
 use meaning::STEP_OFF;
@@ -54,14 +54,14 @@ fn check_rule_step<'a>(
     paper: &[u8],
     trailer: Trailer,
     at: usize,
-    on: &'a [bool; Colouring::RULES],
-    off: &'a [bool; Colouring::RULES],
+    on: &'a [u64; 4],
+    off: &'a [u64; 4],
 ) -> Step
     requires { ⌜ Ready (now book) shape (now paper) (trailer .from) × (at < trailer .from)
         × (getD (now paper) at 0 ≡ codeUnfounded → ⊥) × (getD (now paper) at 0 ≡ codeEnd → ⊥) ⌝ }
     ensures { λ x. ⌜ Finds (bookIn (now (book .entry))) (trailer .claim)
         (now (paper .entry)) (trailer .from) at
-        (lent (now (on .entry)) (now (off .entry))) x ⌝ }
+        (lent (listed (now (on .entry))) (listed (now (off .entry)))) x ⌝ }
 {
     let code = paper[at];
     if trailer.from <= at + 1 {
@@ -100,13 +100,13 @@ fn check_list_step(
     paper: &[u8],
     trailer: Trailer,
     at: usize,
-    off: &[bool; Colouring::RULES],
+    off: &[u64; 4],
 ) -> Step
     requires { ⌜ Ready (now book) shape (now paper) (trailer .from) × (at < trailer .from)
         × (getD (now paper) at 0 ≡ codeUnfounded) ⌝ }
     ensures { λ x. ⌜ ((on : List Bool) → Finds (bookIn (now (book .entry)))
         (trailer .claim) (now (paper .entry)) (trailer .from) at
-        (lent on (now (off .entry))) x) ⌝ }
+        (lent on (listed (now (off .entry)))) x) ⌝ }
 {
     if trailer.from <= at + 1 {
         return Step::Stops(Stop::Form);
@@ -136,13 +136,13 @@ pub fn check_step<'a>(
     paper: &[u8],
     trailer: Trailer,
     at: usize,
-    on: &'a [bool; Colouring::RULES],
-    off: &'a [bool; Colouring::RULES],
+    on: &'a [u64; 4],
+    off: &'a [u64; 4],
 ) -> Step
     requires { ⌜ Ready (now book) shape (now paper) (trailer .from) ⌝ }
     ensures { λ x. ⌜ Finds (bookIn (now (book .entry))) (trailer .claim)
         (now (paper .entry)) (trailer .from) at
-        (lent (now (on .entry)) (now (off .entry))) x ⌝ }
+        (lent (listed (now (on .entry))) (listed (now (off .entry)))) x ⌝ }
 {
     if trailer.from <= at {
         return Step::Stops(Stop::Form);

@@ -6,6 +6,7 @@ ghost use Prim.Native.Nat.{_+_, _<_, _≤_};
 ghost use lib.ListN.{length};
 ghost use Rattle.meaning.specs.Books.{rule, everyRule};
 ghost use Rattle.meaning.specs.Paper.{fails, paperBytes};
+ghost use Rattle.meaning.specs.Bits.{listed};
 ghost use Rattle.meaning.specs.Written.{of};
 ghost use Rattle.book.specs.Format.{bookIn, ReadAs};
 ghost use Rattle.book.specs.Tables.{atomsIn, Below};
@@ -22,8 +23,11 @@ use book::negatives;
 use book::positives;
 use book::some_in;
 use book::wide;
+use meaning::Bits;
 use meaning::Colouring;
 use meaning::RuleNo;
+use meaning::has;
+use meaning::put;
 
 pub enum Verdict {
     Right,
@@ -38,7 +42,7 @@ fn check_order(book: &[u8], shape: Shape, list: &[u8], from: usize) -> Verdict
     ensures { λ v. ⌜ verdict v ≡
         orderOf (bookIn (now (book .entry))) from [] (now (list .entry)) ⌝ }
 {
-    let mut listed = [false; Colouring::RULES];
+    let mut before = [0u64; 4];
     let mut headed = [false; Colouring::ATOMS];
     let mut i = 0;
     while i < list.len() {
@@ -46,13 +50,13 @@ fn check_order(book: &[u8], shape: Shape, list: &[u8], from: usize) -> Verdict
         if shape.rules <= n {
             return Verdict::Wrong(from + i);
         }
-        if listed[wide(n)] {
+        if has(&before, n) {
             return Verdict::Wrong(from + i);
         }
         if !every_in(positives(book, shape, RuleNo(n)), &headed) {
             return Verdict::Wrong(from + i);
         }
-        listed[wide(n)] = true;
+        put(&mut before, n);
         headed[wide(head(book, shape, RuleNo(n)).0)] = true;
         i += 1;
     }
@@ -96,20 +100,15 @@ fn fails_in(book: &[u8], shape: Shape, r: RuleNo, headed: &[bool; Colouring::ATO
 }
 
 // Every rule that is not listed fails.
-fn rest_fails<'a>(
-    book: &[u8],
-    shape: Shape,
-    listed: &'a [bool; Colouring::RULES],
-    headed: &'a [bool; Colouring::ATOMS],
-) -> bool
+fn rest_fails(book: &[u8], shape: Shape, set: &[u64; 4], headed: &[bool; Colouring::ATOMS]) -> bool
     requires { ⌜ ReadAs (now book) shape ⌝ }
     ensures { λ b. ⌜ b ≡ everyRule (bookIn (now (book .entry)))
-        (λ r. of (now (listed .entry)) r
+        (λ r. of (listed (now (set .entry))) r
         || fails (atomsIn (now (headed .entry))) (rule (bookIn (now (book .entry))) r)) ⌝ }
 {
     let mut r: u8 = 0;
     while r < shape.rules {
-        if !listed[wide(r)] {
+        if !has(set, r) {
             if !fails_in(book, shape, RuleNo(r), headed) {
                 return false;
             }
@@ -132,13 +131,14 @@ pub fn check_witness(book: &[u8], shape: Shape, paper: &[u8], trailer: Trailer) 
     if let Verdict::Wrong(at) = check_order(book, shape, &paper[from..end], from) {
         return Verdict::Wrong(at);
     }
-    let listed = with_rules([false; Colouring::RULES], &paper[from..end]);
+    let all = with_rules(Bits::empty(), &paper[from..end]);
+    let set = all.w;
     let mut headed = [false; Colouring::ATOMS];
-    heads_of(book, shape, &listed, &mut headed);
+    heads_of(book, shape, &set, &mut headed);
     if let Verdict::Wrong(at) = check_unblocked(book, shape, &paper[from..end], from, &headed) {
         return Verdict::Wrong(at);
     }
-    if !rest_fails(book, shape, &listed, &headed) {
+    if !rest_fails(book, shape, &set, &headed) {
         return Verdict::Wrong(paper.len() - 6);
     }
     Verdict::Right

@@ -8,7 +8,7 @@ use Prim.Native.Nat.{ℕ, _≤_}
 use lib.ListN.{length}
 use borrow.Author.Tests.{not-true}
 use Rattle.meaning.specs.declared.RuleNo.{RuleNo}
-use Rattle.meaning.specs.declared.colouring.Colouring.{Colouring}
+use Rattle.meaning.specs.Written.{Tables}
 use Rattle.meaning.specs.Sets.{_∈_, _∉_, every, some}
 use Rattle.meaning.specs.Books.{Book, count, rule, InBook}
 use Rattle.meaning.specs.Colours.{Pair, heads, allIn, mayOn, blocked, starved, Under, Upheld, Within, Closed}
@@ -24,6 +24,7 @@ use Rattle.meaning.proofs.Support.{support-is, outside, unsupported-any, length
 use Rattle.meaning.proofs.Additions.{Reached, reached-start, reached-more, reached-closing, closed-without-starved}
 use Rattle.meaning.proofs.Closing.{closing-computed}
 use Rattle.book.specs.Tables.{atomTable, atomsIn}
+use Rattle.closing.specs.Ended.{endedAt}
 use Rattle.closing.specs.Growing.{Pass}
 use Rattle.closing.specs.Conditions.{onWith, goingOn, offByTables, goingOff}
 use Rattle.closing.proofs.Good.{Asks}
@@ -32,8 +33,8 @@ use Rattle.closing.proofs.Searches.{lowest-in}
 -- the sets, the marks and the tables of a closing that started from two sets
 pub record UnderWay (b : Book) (on₀ off₀ on off marks headed lost : List Bool) : Type 0 where
   pub reached : Reached b (lent on₀ off₀) (lent on off)
-  pub on-long : length on ≡ 255
-  pub off-long : length off ≡ 255
+  pub on-long : length on ≡ 256
+  pub off-long : length off ≡ 256
   pub on-outside : (r : RuleNo) → count b ≤ r .0 → of on r ≡ of on₀ r
   pub off-outside : (r : RuleNo) → count b ≤ r .0 → of off r ≡ of off₀ r
   pub heads-table : headed ≡ atomTable (heads b (of on))
@@ -41,7 +42,7 @@ pub record UnderWay (b : Book) (on₀ off₀ on off marks headed lost : List Boo
   pub supported : marks ≡ support b (of off)
 
 module _ (b : Book) (asks : Asks b) {on₀ off₀ : List Bool} where
-  pub closes-start : length on₀ ≡ 255 → length off₀ ≡ 255 → {marks headed lost : List Bool} → headed ≡ atomTable (heads b (of on₀))
+  pub closes-start : length on₀ ≡ 256 → length off₀ ≡ 256 → {marks headed lost : List Bool} → headed ≡ atomTable (heads b (of on₀))
       → lost ≡ atomTable (allIn b (of off₀)) → marks ≡ support b (of off₀) → UnderWay b on₀ off₀ on₀ off₀ marks headed lost
   closes-start u v e f g = record {
     reached = reached-start b (lent on₀ off₀);
@@ -131,15 +132,14 @@ module _ (b : Book) (asks : Asks b) {on₀ off₀ : List Bool} where
 
 -- ---- the end of the closing
 
-pub closes-end : (b : Book) → Asks b → (c : Colouring) → Sized c → {on off marks headed lost : List Bool}
+pub closes-end : (b : Book) → Asks b → (c : Tables) → Sized c → {on off marks headed lost : List Bool}
     → UnderWay b (c .on) (c .off) on off marks headed lost
     → {on' headed' : List Bool} → Pass b (goingOn b lost) (count b) on on' false → headed' ≡ atomTable (heads b (of on'))
     → {off' lost' marks' : List Bool} → Pass b (goingOff b headed' marks) (count b) off off' false
     → lost' ≡ atomTable (allIn b (of off')) → marks' ≡ support b (of off')
-    → {n : ℕ} {levels : List ℕ} → count b ≡ n → levels ≡ stampFrom 0 n (newly (pair c) (lent on' off')) (c .level) (c .levels)
-    → record { on = on'; off = off'; marks = marks'; level = c .level; levels = levels } ≡ close b c
+    → {n : ℕ} → count b ≡ n → {d : Tables} → d ≡ endedAt n c on' off' marks' → d ≡ close b c
 unfolding newLevels
-closes-end b asks c sized {on} {off} s {on'} p e {off'} q f g i l =
+closes-end b asks c sized {on} {off} s {on'} p e {off'} q f g {n} i {d} z =
     let u = closes-on b asks s p e in let t = closes-off b asks u q f g in
     let x = p .none-same refl in let y = q .none-same refl in
     let closed : Closed b (lent on' off) = closed-without-starved b (record {
@@ -147,17 +147,18 @@ closes-end b asks c sized {on} {off} s {on'} p e {off'} q f g i l =
       goes-off-blocked = rests-blocked b asks u q;
       goes-off-unsupported = unsupported-any b (support-is b (of off) (asks .few)) (rests-unmarked b asks u q);
     }) in
-    closing-computed b (asks .few) c _ sized
+    z ∙ closing-computed b (asks .few) c _ sized
     (record {
       on = t .on-long;
       off = t .off-long;
       marks = rw g (length-support b (of off') (asks .few));
-      levels = rw l (length-stamp 0 _ _ (c .level) (c .levels) ∙ sized .levels);
+      levels = length-stamp 0 _ _ (c .level) (c .levels) ∙ sized .levels;
     })
-    (reached-closing b (t .reached) (rw y at closed)) g (record { on = t .on-outside; off = t .off-outside }) refl (rw i l)
+    (reached-closing b (t .reached) (rw y at closed)) g (record { on = t .on-outside; off = t .off-outside }) refl (ap (λ (m : ℕ). stampFrom 0 m (newly (pair c) (lent on' off')) (c .level) (c .levels)) (sym i))
 
 -- the rule told of a contradiction, where the search among the first rules has found it
-pub clash-end : (b : Book) (c : Colouring) {n : ℕ} → count b ≡ n → {d : Colouring} → d ≡ close b c → {p : Pick}
-    → p ≡ lowestFrom 0 n (inBoth (pair d)) → p ≡ clashed b (pair (close b c))
+pub clash-end : (b : Book) (c : Tables) {n : ℕ} → count b ≡ n → {d : Tables} → d ≡ close b c → (on off : List Bool)
+    → pair d ≡ lent on off → {p : Pick} → p ≡ lowestFrom 0 n (inBoth (lent on off)) → p ≡ clashed b (pair (close b c))
 unfolding clashed
-clash-end b c e q f = lowest-in b e _ f ∙ ap (λ (d : Colouring). lowest b (inBoth (pair d))) q
+clash-end b c e q on off g f =
+    lowest-in b e _ f ∙ sym (ap (λ (k : Pair). lowest b (inBoth k)) g) ∙ ap (λ (d : Tables). lowest b (inBoth (pair d))) q

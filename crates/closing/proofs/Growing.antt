@@ -35,6 +35,9 @@ module _ {b : Book} {k : Condition} where
   pub grown-start : (l : List Bool) → Grown b k l l
   grown-start l = record { long = refl; outside = λ r h. refl; above = λ r m. m; forced = λ w g h. h }
 
+  pub grown-none : (l m : List Bool) → m ≡ l → Grown b k l m
+  grown-none l m e = rw e (grown-start l)
+
   pub grown-more : {l m n : List Bool} → Grown b k l m → Grown b k m n → Grown b k l n
   grown-more p q = record {
     long = q .long ∙ p .long;

@@ -19,15 +19,15 @@ use Rattle.book.proofs.AtomSets.{headsTo, heads-none, heads-skip, heads-end, ta
 
 module _ (b : Book) where
   -- no rule is in the set
-  pub headed-none : replicate 255 false ≡ atomTable (heads b (of (replicate 255 false)))
-  headed-none = heads-none b none ∙ skipped (count b) ∙ heads-end b none (count b) refl
+  pub headed-none : (l : List Bool) → l ≡ replicate 256 false → replicate 255 false ≡ atomTable (heads b (of l))
+  headed-none l e = rw e (heads-none b none ∙ skipped (count b) ∙ heads-end b none (count b) refl)
     where
       none : Rules
-      none = of (replicate 255 false)
+      none = of (replicate 256 false)
 
       skipped : (k : ℕ) → atomTable (headsTo b none 0) ≡ atomTable (headsTo b none k)
       skipped zero = refl
-      skipped (suc k) = skipped k ∙ rw add-one at (heads-skip b none k (of-none 255 (ruleNo k)))
+      skipped (suc k) = skipped k ∙ rw add-one at (heads-skip b none k (of-none 256 (ruleNo k)))
 
   -- the heads of one rule more are the same but for its own head
   heads-plus : (s : Rules) (r : RuleNo) (a : AtomNo) → (a .0 ≡ rule b r .head .0 → ⊥) → heads b s a ≡ heads b (plus s (r ∷ [])) a
@@ -37,6 +37,7 @@ module _ (b : Book) where
       (λ p. let y : q ≡ r = among-one p in absurd (n (sym (ap (λ (c : AtomNo). c .0) (rw y at z))))) (either (s q) _ m))
 
   pub headed-set : (l : List Bool) {headed : List Bool} → headed ≡ atomTable (heads b (of l)) → (r : RuleNo) → InBook b r → r .0 < length l
-      → (a : AtomNo) → a ≡ rule b r .head → a .0 < 255 → set headed (a .0) true ≡ atomTable (heads b (of (set l (r .0) true)))
-  headed-set l e r h room a q low = rw (e, of-set l r room, q) (table-set _ _ (rule b r .head) true (rw q at low)
+      → (m : List Bool) → m ≡ set l (r .0) true → (a : AtomNo) → a ≡ rule b r .head → a .0 < 255
+      → set headed (a .0) true ≡ atomTable (heads b (of m))
+  headed-set l e r h room m p a q low = rw (p, e, of-set l r room, q) (table-set _ _ (rule b r .head) true (rw q at low)
       (heads-of b _ r h (or-right (of l r) (one-among r))) (λ c n. heads-plus (of l) r c n))

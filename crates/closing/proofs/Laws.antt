@@ -5,7 +5,7 @@ use mathlib.Core.Path.{_≡_}
 use Prim.Native.Nat.{_≤_}
 use Rattle.meaning.specs.declared.AtomNo.{AtomNo}
 use Rattle.meaning.specs.declared.RuleNo.{RuleNo}
-use Rattle.meaning.specs.declared.colouring.Colouring.{Colouring}
+use Rattle.meaning.specs.Written.{Tables}
 use Rattle.meaning.specs.Books.{Atoms, Book, count, InBook}
 use Rattle.meaning.specs.AnswerSet.{AnswerSet}
 use Rattle.meaning.specs.Colours.{heads, Closed, Within, Consistent, uncoloured, colouringOf}
@@ -19,7 +19,7 @@ use Rattle.meaning.proofs.Answers.{total-answer, total-stands, closing-keeps-an
 use Rattle.meaning.proofs.LeastModel.{leastModel, total-least}
 use Rattle.meaning.proofs.Closing.{close-is}
 
-module _ (b : Book) (few : count b ≤ 255) (c : Colouring) (sized : Sized c) where
+module _ (b : Book) (few : count b ≤ 255) (c : Tables) (sized : Sized c) where
   pub close-closed : Closed b (pair (close b c))
   close-closed = close-is b few c sized .good .closed
 

@@ -8,7 +8,7 @@ use mathlib.Core.List.{[], _∷_}
 use Prim.Native.Nat.{_+_, _≤_, _<_}
 use native.Mathlib.Omega.{arith}
 use Rattle.meaning.specs.declared.RuleNo.{RuleNo}
-use Rattle.meaning.specs.declared.colouring.Colouring.{Colouring}
+use Rattle.meaning.specs.Written.{Tables}
 use Rattle.meaning.specs.Sets.{_∈_, _∉_}
 use Rattle.meaning.specs.Books.{Book, count, InBook}
 use Rattle.meaning.specs.Colours.{Pair, Side, onSide, offSide, side, put, Under, Within, uncoloured}
@@ -44,7 +44,7 @@ put-new b offSide r c q m n = ⊎-elim
 module _ (b : Book) where
   -- ---- a rule chosen
 
-  module _ (d : Colouring) (s : Sized d) (x : Side) (r : RuleNo) (h : r .0 < 255) where
+  module _ (d : Tables) (s : Sized d) (x : Side) (r : RuleNo) (h : r .0 < 255) where
     pair-chosen : (x : Side) → pair (chosen x r d) ≡ put x (r ∷ []) (pair d)
     pair-chosen onSide = pair-on d r (omega (arith, s .on))
     pair-chosen offSide = pair-off d r (omega (arith, s .off))
@@ -70,11 +70,11 @@ module _ (b : Book) where
       (λ p. true-and-false m (coloured onSide d r (w .each onSide r h p))) (λ p. true-and-false m (coloured offSide d r (w .each offSide r h p)))
       (uncoloured-no b c r n))
 
-  pub left-count : (c : Colouring) → left b c ≤ count b
+  pub left-count : (c : Tables) → left b c ≤ count b
   unfolding left
   left-count c = rules-length b (uncoloured (pair c))
 
-  module _ (fits : count b ≤ 255) (c : Colouring) (s : Sized c) where
+  module _ (fits : count b ≤ 255) (c : Tables) (s : Sized c) where
     pub left-chosen : (x : Side) (r : RuleNo) → InBook b r → r ∈ uncoloured (pair c) → left b (chosen x r c) < left b c
     unfolding left
     left-chosen x r h m =
@@ -87,7 +87,7 @@ module _ (b : Book) where
 
   -- ---- levels
 
-  pub chosen-level : (x : Side) (r : RuleNo) (c : Colouring) → chosen x r c .level ≡ c .level + 1
+  pub chosen-level : (x : Side) (r : RuleNo) (c : Tables) → chosen x r c .level ≡ c .level + 1
   chosen-level onSide r c = refl
   chosen-level offSide r c = refl
 
@@ -95,7 +95,7 @@ module _ (b : Book) where
   shallow-nothing fits = omega (arith, left-count nothing)
 
   -- a choice after a closing goes one level deeper and leaves fewer rules
-  pub shallow-chosen : count b ≤ 255 → (c : Colouring) → Sized c → (x : Side) (r : RuleNo) → left b (chosen x r (close b c)) < left b (close b c)
+  pub shallow-chosen : count b ≤ 255 → (c : Tables) → Sized c → (x : Side) (r : RuleNo) → left b (chosen x r (close b c)) < left b (close b c)
       → Shallow b c → (close b c .level < 255) × Shallow b (chosen x r (close b c))
   shallow-chosen fits c s x r k h = let e = close-level b c in let f = left-close fits c s in
       (omega (arith, e, f, k, h), omega (arith, chosen-level x r (close b c), e, f, k, h))

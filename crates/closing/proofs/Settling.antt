@@ -8,7 +8,7 @@ use native.Mathlib.Nat.{zero-add, add-zero, add-suc, suc-add, le-of-suc-le-suc, 
 use native.Mathlib.Omega.{arith}
 use lib.ListN.{length, getD, set, drop, length-append}
 use lib.Seq.{paste}
-use Rattle.meaning.specs.declared.colouring.Colouring.{Colouring}
+use Rattle.meaning.specs.Written.{Tables}
 use Rattle.meaning.specs.Sets.{Set}
 use Rattle.meaning.specs.Books.{atomNo, Book, count}
 use Rattle.meaning.specs.Colours.{heads, allIn}
@@ -17,7 +17,7 @@ use Rattle.meaning.specs.Buffers.{writeAt}
 use Rattle.meaning.specs.Written.{of, nothing}
 use Rattle.meaning.specs.Computed.{close}
 use Rattle.meaning.proofs.Choice.{lt-yes, lt-no}
-use Rattle.meaning.proofs.Buffers.{write-turn, write-done, write-next, write-front}
+use Rattle.meaning.proofs.Buffers.{write-length, write-turn, write-done, write-next, write-front}
 use Rattle.book.specs.declared.refusal.Refusal.{Refusal}
 use Rattle.book.specs.declared.reader.Shape.{Shape}
 use Rattle.book.specs.declared.reader.Read.{Read}
@@ -66,6 +66,12 @@ module _ (holds fails : List Bool) (n at : ℕ) (out : List ℕ) where
       → w ≡ writeAt at (settledRow n holds fails) out
   settled-written h k e = write-done at (settledRow n holds fails) out (le-antisymm h k ∙ sym (settled-length 0 n _ _)) e
 
+-- the buffer keeps its length
+pub settled-kept : (n : ℕ) (holds fails : List Bool) (out u : List ℕ) → n ≤ length out → u ≡ writeAt 0 (settledRow n holds fails) out
+    → length u ≡ length out
+settled-kept n holds fails out u h e =
+    ap length e ∙ write-length 0 (settledRow n holds fails) out (omega (arith, settled-length 0 n (λ j. getD holds j false) (λ j. getD fails j false)))
+
 -- ---- both rows
 
 pub rule-row-length : (b : Book) → length (ruleRow b (close b nothing)) ≡ count b
@@ -83,7 +89,7 @@ module _ (s : List ℕ) (h : Shape) (e : ReadAs s h) (out : List ℕ) where
   settle-no-room l = sym (lt-yes _ _ _ _ (omega (arith, shape-count s h e, shape-atoms s h e)))
 
   -- the rules' row, and behind it the atoms' row
-  module _ (small : h .atoms < 256) (l : h .rules + h .atoms ≤ length out) {c d : Colouring} (empty : c ≡ nothing)
+  module _ (small : h .atoms < 256) (l : h .rules + h .atoms ≤ length out) {c d : Tables} (empty : c ≡ nothing)
       (closed : d ≡ close (bookIn s) c) where
     first : d ≡ close (bookIn s) nothing
     first = closed ∙ ap (close (bookIn s)) empty

@@ -25,11 +25,11 @@ module _ (b : Book) (off : Rules) where
   unfolding marking upheld
   must-upheld w f r h n p = f r h (both (ap not n) p)
 
-  pub marks-support : {l m : List Bool} → count b ≤ 255 → Grown b (marking b off) (replicate 255 false) l
+  pub marks-support : {l m : List Bool} → count b ≤ 255 → Grown b (marking b off) (replicate 256 false) l
       → Pass b (marking b off) (count b) l m false → m ≡ support b off
   marks-support {l} fits g p =
-      sym (p .none-same refl) ∙ support-computed b off l fits (g .long ∙ length-replicate 255 false) (λ r h. g .outside r h ∙ of-none 255 r)
+      sym (p .none-same refl) ∙ support-computed b off l fits (g .long ∙ length-replicate 256 false) (λ r h. g .outside r h ∙ of-none 256 r)
       (record {
         good = must-upheld (of l) (p .none-rests refl);
-        least = λ w u. g .forced w (upheld-goes w u) (λ r h m. true-and-false m (of-none 255 r));
+        least = λ w u. g .forced w (upheld-goes w u) (λ r h m. true-and-false m (of-none 256 r));
       })

@@ -5,7 +5,7 @@ use mathlib.Core.Logic.{⊎-elim}
 use mathlib.Core.Bool.{Bool, true, false, not, _&&_}
 use mathlib.Core.List.{List, map}
 use Prim.Native.Nat.{ℕ}
-use lib.ListN.{getD, set}
+use lib.ListN.{set}
 use Rattle.meaning.specs.declared.RuleNo.{RuleNo}
 use Rattle.meaning.specs.Sets.{_∈_, _∉_, every, some}
 use Rattle.meaning.specs.Books.{Rules, atomNo, Book, rule, InBook}
@@ -25,26 +25,29 @@ use Rattle.closing.proofs.Growing.{Monotone}
 
 module _ (r : RuleNo) (l : List Bool) (more : Bool) where
   -- the rule is in the set already
-  pub turn-in : (k : Condition) → getD l (r .0) false ≡ true → Turn k r l more l more
-  unfolding of
+  pub turn-in : (k : Condition) → r ∈ of l → Turn k r l more l more
   turn-in k e = stays (λ n. true-and-false e n)
+
+  -- the rule is put in, as the code stores it
+  turn-added : (k : Condition) (m : List Bool) → m ≡ set l (r .0) true → r ∉ of l → r ∈ k .goes (of l) → Turn k r l more m true
+  turn-added k m p n e = rw p (added n e)
 
   module _ (b : Book) where
     -- ---- marking
 
     module _ (off : List Bool) where
-      pub mark-off : getD off (r .0) false ≡ true → Turn (marking b (of off)) r l more l more
-      unfolding marking upheld of
+      pub mark-off : r ∈ of off → Turn (marking b (of off)) r l more l more
+      unfolding marking upheld
       mark-off e = stays (λ n. not-first _ (ap not e))
 
       pub mark-waits : every (heads b (of l)) (rule b r .pos) ≡ false → Turn (marking b (of off)) r l more l more
       unfolding marking upheld
       mark-waits e = stays (λ n. not-second (not (of off r)) e)
 
-      pub mark-added : getD l (r .0) false ≡ false → getD off (r .0) false ≡ false → every (heads b (of l)) (rule b r .pos) ≡ true
-          → Turn (marking b (of off)) r l more (set l (r .0) true) true
-      unfolding marking upheld of
-      mark-added n o e = added n (both (ap not o) e)
+      pub mark-added : (m : List Bool) → m ≡ set l (r .0) true → r ∉ of l → r ∉ of off → every (heads b (of l)) (rule b r .pos) ≡ true
+          → Turn (marking b (of off)) r l more m true
+      unfolding marking upheld
+      mark-added m p n o e = turn-added _ m p n (both (ap not o) e)
 
     -- ---- going on
 
@@ -53,37 +56,29 @@ module _ (r : RuleNo) (l : List Bool) (more : Bool) where
       unfolding goingOn
       on-stays e = stays (λ n. e)
 
-      pub on-added : getD l (r .0) false ≡ false → r ∈ onWith b lost (of l) → Turn (goingOn b lost) r l more (set l (r .0) true) true
-      unfolding goingOn of
-      on-added n e = added n e
+      pub on-added : (m : List Bool) → m ≡ set l (r .0) true → r ∉ of l → r ∈ onWith b lost (of l) → Turn (goingOn b lost) r l more m true
+      unfolding goingOn
+      on-added m p n e = turn-added _ m p n e
 
     -- ---- going off
 
     module _ (headed marks : List Bool) where
-      pub off-stays : getD marks (r .0) false ≡ true → some (atomsIn headed) (rule b r .neg) ≡ false
-          → Turn (goingOff b headed marks) r l more l more
-      unfolding goingOff offByTables of
+      pub off-stays : r ∈ of marks → some (atomsIn headed) (rule b r .neg) ≡ false → Turn (goingOff b headed marks) r l more l more
+      unfolding goingOff offByTables
       off-stays m e = stays (λ n. neither (ap not m) e)
 
-      off-added : getD l (r .0) false ≡ false → r ∈ goingOff b headed marks .goes (of l)
-          → Turn (goingOff b headed marks) r l more (set l (r .0) true) true
-      unfolding of
-      off-added n e = added n e
+      module _ (m : List Bool) (p : m ≡ set l (r .0) true) (n : r ∉ of l) where
+        pub off-unmarked : r ∉ of marks → Turn (goingOff b headed marks) r l more m true
+        unfolding goingOff offByTables
+        off-unmarked e = turn-added _ m p n (or-left _ (or-left _ (ap not e)))
 
-      pub off-unmarked : getD l (r .0) false ≡ false → getD marks (r .0) false ≡ false
-          → Turn (goingOff b headed marks) r l more (set l (r .0) true) true
-      unfolding goingOff offByTables of
-      off-unmarked n e = off-added n (or-left _ (or-left _ (ap not e)))
+        pub off-blocked : some (atomsIn headed) (rule b r .neg) ≡ true → Turn (goingOff b headed marks) r l more m true
+        unfolding goingOff offByTables
+        off-blocked e = turn-added _ m p n (or-left _ (or-right (not (of marks r)) e))
 
-      pub off-blocked : getD l (r .0) false ≡ false → some (atomsIn headed) (rule b r .neg) ≡ true
-          → Turn (goingOff b headed marks) r l more (set l (r .0) true) true
-      unfolding goingOff offByTables
-      off-blocked n e = off-added n (or-left _ (or-right (not (of marks r)) e))
-
-      pub off-starved : getD l (r .0) false ≡ false → some (allIn b (of l)) (rule b r .pos) ≡ true
-          → Turn (goingOff b headed marks) r l more (set l (r .0) true) true
-      unfolding goingOff
-      off-starved n e = off-added n (or-right (offByTables b headed marks r) e)
+        pub off-starved : some (allIn b (of l)) (rule b r .pos) ≡ true → Turn (goingOff b headed marks) r l more m true
+        unfolding goingOff
+        off-starved e = turn-added _ m p n (or-right (offByTables b headed marks r) e)
 
 -- what the table of the heads of the set answers: to every_in, asked of the rule's positive atoms as the book's bytes, and to goes_on
 module _ (b : Book) (asks : Asks b) (l headed : List Bool) (e : headed ≡ atomTable (heads b (of l))) (r : RuleNo) (h : InBook b r) where

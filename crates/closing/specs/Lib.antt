@@ -1,6 +1,7 @@
 -- Closing. Read in this order.
 pub mod Growing
 pub mod Conditions
+pub mod Ended
 pub mod Left
 pub mod Picked
 pub mod Settle

@@ -9,7 +9,7 @@ use mathlib.Core.Bool.{Bool, false}
 use mathlib.Core.List.{List, [], _∷_, _++_}
 use Prim.Native.Nat.{ℕ, zero, suc, _+_}
 use lib.ListN.{length, getD, drop}
-use Rattle.meaning.specs.declared.colouring.Colouring.{Colouring}
+use Rattle.meaning.specs.Written.{Tables}
 use Rattle.meaning.specs.Sets.{Set}
 use Rattle.meaning.specs.Books.{ruleNo, atomNo, Book, count}
 use Rattle.meaning.specs.Colours.{heads, allIn}
@@ -35,10 +35,10 @@ settledFrom i (suc n) holds fails = settledByte (holds i) (fails i) ∷ settledF
 abbrev pub settledRow : ℕ → List Bool → List Bool → List ℕ
 settledRow n holds fails = settledFrom 0 n (λ i. getD holds i false) (λ i. getD fails i false)
 
-abbrev pub ruleRow : Book → Colouring → List ℕ
+abbrev pub ruleRow : Book → Tables → List ℕ
 ruleRow b d = settledFrom 0 (count b) (λ i. of (d .on) (ruleNo i)) (λ i. of (d .off) (ruleNo i))
 
-abbrev pub atomRow : Book → Colouring → List ℕ
+abbrev pub atomRow : Book → Tables → List ℕ
 atomRow b d = settledFrom 0 (b .atoms) (λ i. heads b (of (d .on)) (atomNo i)) (λ i. allIn b (of (d .off)) (atomNo i))
 
 unfoldable pub settledRows : Book → List ℕ

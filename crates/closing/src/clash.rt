@@ -1,10 +1,12 @@
-// The lowest rule of a kind, or none; and the search for a contradiction.
+// The lowest rule of a set, or none; and the search for a contradiction.
 ghost use mathlib.Core.Path.{_≡_};
-ghost use Rattle.meaning.specs.Written.{lent};
+ghost use Rattle.meaning.specs.Bits.{listed};
+ghost use Rattle.meaning.specs.Written.{of, lent};
 ghost use Rattle.meaning.specs.Lowest.{lowestFrom, inBoth};
 ghost use Rattle.closing.specs.Picked.{picked};
-use meaning::Colouring;
+use meaning::Bits;
 use meaning::RuleNo;
+use meaning::next_in;
 
 // No rule, or one.
 pub enum Picked {
@@ -12,24 +14,22 @@ pub enum Picked {
     Rule(RuleNo),
 }
 
-// The lowest of the first `rules` rules that is in both sets.
-pub fn lowest_clash<'a>(
-    rules: u8,
-    on: &'a [bool; Colouring::RULES],
-    off: &'a [bool; Colouring::RULES],
-) -> Picked
-    ensures { λ r. ⌜ picked r ≡
-        lowestFrom 0 rules (inBoth (lent (now (on .entry)) (now (off .entry)))) ⌝ }
+// The lowest of the first `rules` rules that is in the set.
+pub fn lowest_in(rules: u8, set: Bits) -> Picked
+    ensures { λ r. ⌜ picked r ≡ lowestFrom 0 rules (of (listed (set .w))) ⌝ }
 {
-    let mut i: u8 = 0;
-    while i < rules {
-        let at = i as usize;
-        if on[at] {
-            if off[at] {
-                return Picked::Rule(RuleNo(i));
-            }
-        }
-        i += 1;
+    let w = set.w;
+    let r = next_in(&w, 0);
+    if r < rules as usize {
+        return Picked::Rule(RuleNo(r as u8));
     }
     Picked::Nothing
+}
+
+// The lowest of the first `rules` rules that is in both sets.
+pub fn lowest_clash(rules: u8, on: Bits, off: Bits) -> Picked
+    ensures { λ r. ⌜ picked r ≡
+        lowestFrom 0 rules (inBoth (lent (listed (on .w)) (listed (off .w)))) ⌝ }
+{
+    lowest_in(rules, on.intersection(off))
 }

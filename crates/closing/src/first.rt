@@ -4,6 +4,7 @@
 ghost use mathlib.Core.Path.{_≡_};
 ghost use Prim.Native.Nat.{_+_, _≤_};
 ghost use lib.ListN.{length};
+ghost use Rattle.meaning.specs.Bits.{listed};
 ghost use Rattle.meaning.specs.Told.{Answered};
 ghost use Rattle.meaning.specs.Buffers.{writeAt};
 ghost use Rattle.book.specs.Format.{bookIn, ReadAs};
@@ -14,8 +15,10 @@ use book::Refusal;
 use book::Shape;
 use book::heads_of;
 use book::lost_in;
+use book::make_rows;
 use book::read_book;
 use meaning::Colouring;
+use meaning::has;
 
 pub enum Settled {
     // The rules' bytes and the atoms' bytes stand in the buffer.
@@ -59,6 +62,20 @@ fn write_settled<'a>(
     }
 }
 
+// The same for two sets of rules.
+fn write_rules<'a>(n: u8, on: &'a [u64; 4], off: &'a [u64; 4], at: usize, out: &mut [u8])
+    requires { ⌜ at + n ≤ length (now out) ⌝ }
+    ensures { λ _. ⌜ now (out .exit) ≡ writeAt at
+        (settledRow n (listed (now (on .entry))) (listed (now (off .entry)))) (now (out .entry)) ⌝ }
+{
+    let mut i: u8 = 0;
+    while i < n {
+        let place = i as usize;
+        out[at + place] = settled_byte(has(on, i), has(off, i));
+        i += 1;
+    }
+}
+
 // The same for a good book.
 fn settle_in(book: &[u8], shape: Shape, out: &mut [u8]) -> Settled
     requires { ⌜ ReadAs (now book) shape ⌝ }
@@ -69,13 +86,19 @@ fn settle_in(book: &[u8], shape: Shape, out: &mut [u8]) -> Settled
     if out.len() < rules + shape.atoms as usize {
         return Settled::NoRoom;
     }
-    let closed = close(book, shape, Colouring::empty());
+    let mut rows = [0u64; 3072];
+    make_rows(book, shape, &mut rows);
+    let closed = close(book, shape, &rows, Colouring::empty());
     let d = closed.colours;
+    let d_on = d.on;
+    let d_off = d.off;
+    let on = d_on.w;
+    let off = d_off.w;
     let mut headed = [false; Colouring::ATOMS];
-    heads_of(book, shape, &d.on, &mut headed);
+    heads_of(book, shape, &on, &mut headed);
     let mut lost = [false; Colouring::ATOMS];
-    lost_in(book, shape, &d.off, &mut lost);
-    write_settled(shape.rules, &d.on, &d.off, 0, out);
+    lost_in(book, shape, &off, &mut lost);
+    write_rules(shape.rules, &on, &off, 0, out);
     write_settled(shape.atoms, &headed, &lost, rules, out);
     Settled::Rows
 }

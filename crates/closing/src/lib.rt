@@ -4,15 +4,19 @@
 // computed definition of meaning, goes on to the end after a contradiction, and tells the lowest
 // rule in both sets then. Laws for the layers above are in proofs/Laws.antt.
 ghost use mathlib.Core.Path.{_≡_};
-ghost use Rattle.meaning.specs.Written.{pair};
+ghost use Rattle.meaning.specs.Bits.{listed};
+ghost use Rattle.meaning.specs.Written.{written, lent, pair};
 ghost use Rattle.meaning.specs.Computed.{close};
-ghost use Rattle.meaning.specs.Lowest.{clashed};
+ghost use Rattle.meaning.specs.Lowest.{lowestFrom, inBoth, clashed};
 ghost use Rattle.book.specs.Format.{bookIn, ReadAs};
+ghost use Rattle.book.specs.RuleRows.{RuleRows};
+ghost use Rattle.closing.specs.Ended.{endedAt};
 ghost use Rattle.closing.specs.Picked.{picked};
 use book::Shape;
 use book::heads_of;
 use book::lost_in;
 use levels::stamp;
+use meaning::Bits;
 use meaning::Colouring;
 use passes::grow_off;
 use passes::pass_on;
@@ -25,6 +29,7 @@ mod passes;
 
 pub use clash::Picked;
 pub use clash::lowest_clash;
+pub use clash::lowest_in;
 pub use first::Settled;
 pub use first::settle;
 pub use marking::support;
@@ -37,15 +42,17 @@ pub struct Closure {
 
 // The least closed colouring above c, also where a rule comes to be in both sets. Its marks are
 // the support set of its off rules, and the rules that got their colour here have c's level.
-pub fn close(book: &[u8], shape: Shape, c: Colouring) -> Closure
-    requires { ⌜ ReadAs (now book) shape ⌝ }
-    ensures { λ d. ⌜ (d .colours ≡ close (bookIn (now (book .entry))) c)
-        × (picked (d .clash) ≡
-        clashed (bookIn (now (book .entry))) (pair (close (bookIn (now (book .entry))) c))) ⌝ }
+pub fn close(book: &[u8], shape: Shape, rows: &[u64; 3072], c: Colouring) -> Closure
+    requires { ⌜ ReadAs (now book) shape × RuleRows (bookIn (now book)) (now rows) ⌝ }
+    ensures { λ d. ⌜ (written (d .colours) ≡ close (bookIn (now (book .entry))) (written c))
+        × (picked (d .clash) ≡ clashed (bookIn (now (book .entry)))
+        (pair (close (bookIn (now (book .entry))) (written c)))) ⌝ }
 {
-    let mut on = c.on;
-    let mut off = c.off;
-    let mut marks = [false; Colouring::RULES];
+    let c_on = c.on;
+    let c_off = c.off;
+    let mut on = c_on.w;
+    let mut off = c_off.w;
+    let mut marks = [0u64; 4];
     support(book, shape, &off, &mut marks);
     let mut headed = [false; Colouring::ATOMS];
     heads_of(book, shape, &on, &mut headed);
@@ -53,22 +60,40 @@ pub fn close(book: &[u8], shape: Shape, c: Colouring) -> Closure
     lost_in(book, shape, &off, &mut lost);
     loop {
         let more_on = pass_on(book, shape, &lost, &mut on, &mut headed);
-        let more_off = grow_off(book, shape, &headed, &mut off, &mut lost, &mut marks);
+        let more_off = grow_off(book, shape, rows, &headed, &mut off, &mut lost, &mut marks);
         if !more_on {
             if !more_off {
-                let mut levels = c.levels;
-                stamp(shape.rules, &c.on, &c.off, &on, &off, c.level, &mut levels);
-                return Closure {
-                    colours: Colouring {
-                        on,
-                        off,
-                        marks,
-                        level: c.level,
-                        levels,
-                    },
-                    clash: lowest_clash(shape.rules, &on, &off),
-                };
+                return ended(
+                    shape.rules,
+                    c,
+                    Bits { w: on },
+                    Bits { w: off },
+                    Bits { w: marks },
+                );
             }
         }
+    }
+}
+
+// What a closing of c comes to that ends at these sets: the levels of the rules that had no colour
+// and have one, and the contradiction.
+fn ended(rules: u8, c: Colouring, on: Bits, off: Bits, marks: Bits) -> Closure
+    ensures { λ d. ⌜ (written (d .colours) ≡ endedAt rules (written c) (listed (on .w)) (listed (off .w)) (listed (marks .w)))
+        × (picked (d .clash) ≡
+        lowestFrom 0 rules (inBoth (lent (listed (on .w)) (listed (off .w))))) ⌝ }
+{
+    let new = on.union(off).difference(c.on.union(c.off));
+    let w = new.w;
+    let mut levels = c.levels;
+    stamp(rules, &w, c.level, &mut levels);
+    Closure {
+        colours: Colouring {
+            on,
+            off,
+            marks,
+            level: c.level,
+            levels,
+        },
+        clash: lowest_clash(rules, on, off),
     }
 }

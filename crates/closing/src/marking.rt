@@ -2,10 +2,10 @@
 // rules. Nothing else is kept: a rule that waits is asked again from its first positive atom.
 ghost use mathlib.Core.Path.{_≡_};
 ghost use Prim.Native.Nat.{_<_};
-ghost use lib.ListN.{length};
 ghost use Rattle.meaning.specs.Books.{count};
 ghost use Rattle.meaning.specs.Colours.{heads};
 ghost use Rattle.meaning.specs.Computed.{support};
+ghost use Rattle.meaning.specs.Bits.{listed};
 ghost use Rattle.meaning.specs.Written.{of};
 ghost use Rattle.book.specs.Format.{bookIn, ReadAs};
 ghost use Rattle.book.specs.Tables.{atomTable};
@@ -17,6 +17,8 @@ use book::head;
 use book::positives;
 use meaning::Colouring;
 use meaning::RuleNo;
+use meaning::has;
+use meaning::put;
 
 // One rule's turn: a rule that is neither marked nor off is marked if its positive atoms are all
 // heads of marked rules. The table of these heads goes with the marks.
@@ -24,30 +26,29 @@ fn try_rule(
     book: &[u8],
     shape: Shape,
     r: RuleNo,
-    off: &[bool; Colouring::RULES],
-    marks: &mut [bool; Colouring::RULES],
+    off: &[u64; 4],
+    marks: &mut [u64; 4],
     supported: &mut [bool; Colouring::ATOMS],
     more: bool,
 ) -> bool
-    requires { ⌜ ReadAs (now book) shape × (r .0 < shape .rules) × (length (now marks) ≡ 255)
-        × (now supported ≡ atomTable (heads (bookIn (now book)) (of (now marks)))) ⌝ }
+    requires { ⌜ ReadAs (now book) shape × (r .0 < shape .rules)
+        × (now supported ≡ atomTable (heads (bookIn (now book)) (of (listed (now marks))))) ⌝ }
     ensures { λ after. ⌜
-        Turn (marking (bookIn (now (book .entry))) (of (now (off .entry)))) r
-        (now (marks .entry)) more (now (marks .exit)) after
+        Turn (marking (bookIn (now (book .entry))) (of (listed (now (off .entry))))) r
+        (listed (now (marks .entry))) more (listed (now (marks .exit))) after
         × (now (supported .exit) ≡
-        atomTable (heads (bookIn (now (book .entry))) (of (now (marks .exit))))) ⌝ }
+        atomTable (heads (bookIn (now (book .entry))) (of (listed (now (marks .exit)))))) ⌝ }
 {
-    let at = r.0 as usize;
-    if marks[at] {
+    if has(marks, r.0) {
         return more;
     }
-    if off[at] {
+    if has(off, r.0) {
         return more;
     }
     if !every_in(positives(book, shape, r), supported) {
         return more;
     }
-    marks[at] = true;
+    put(marks, r.0);
     let a = head(book, shape, r).0 as usize;
     supported[a] = true;
     true
@@ -57,19 +58,19 @@ fn try_rule(
 fn sweep(
     book: &[u8],
     shape: Shape,
-    off: &[bool; Colouring::RULES],
-    marks: &mut [bool; Colouring::RULES],
+    off: &[u64; 4],
+    marks: &mut [u64; 4],
     supported: &mut [bool; Colouring::ATOMS],
 ) -> bool
-    requires { ⌜ ReadAs (now book) shape × (length (now marks) ≡ 255)
-        × (now supported ≡ atomTable (heads (bookIn (now book)) (of (now marks)))) ⌝ }
+    requires { ⌜ ReadAs (now book) shape
+        × (now supported ≡ atomTable (heads (bookIn (now book)) (of (listed (now marks))))) ⌝ }
     ensures { λ more. ⌜
         Pass (bookIn (now (book .entry)))
-        (marking (bookIn (now (book .entry))) (of (now (off .entry))))
+        (marking (bookIn (now (book .entry))) (of (listed (now (off .entry)))))
         (count (bookIn (now (book .entry))))
-        (now (marks .entry)) (now (marks .exit)) more
+        (listed (now (marks .entry))) (listed (now (marks .exit))) more
         × (now (supported .exit) ≡
-        atomTable (heads (bookIn (now (book .entry))) (of (now (marks .exit))))) ⌝ }
+        atomTable (heads (bookIn (now (book .entry))) (of (listed (now (marks .exit)))))) ⌝ }
 {
     let mut more = false;
     let mut r: u8 = 0;
@@ -82,17 +83,12 @@ fn sweep(
 
 // Writes the smallest set of rules in which is every rule that is not off and whose positive atoms
 // are all heads of its rules, over whatever the marks held.
-pub fn support(
-    book: &[u8],
-    shape: Shape,
-    off: &[bool; Colouring::RULES],
-    marks: &mut [bool; Colouring::RULES],
-)
+pub fn support(book: &[u8], shape: Shape, off: &[u64; 4], marks: &mut [u64; 4])
     requires { ⌜ ReadAs (now book) shape ⌝ }
-    ensures { λ _. ⌜ now (marks .exit) ≡
-        support (bookIn (now (book .entry))) (of (now (off .entry))) ⌝ }
+    ensures { λ _. ⌜ listed (now (marks .exit)) ≡
+        support (bookIn (now (book .entry))) (of (listed (now (off .entry)))) ⌝ }
 {
-    *marks = [false; Colouring::RULES];
+    *marks = [0; 4];
     let mut supported = [false; Colouring::ATOMS];
     loop {
         if !sweep(book, shape, off, marks, &mut supported) {

@@ -1,13 +1,14 @@
 // Passes over the rules, by which a colouring grows: rules go on, rules go off.
 ghost use mathlib.Core.Path.{_≡_};
 ghost use Prim.Native.Nat.{_<_};
-ghost use lib.ListN.{length};
 ghost use Rattle.meaning.specs.Books.{count};
 ghost use Rattle.meaning.specs.Colours.{heads, allIn};
 ghost use Rattle.meaning.specs.Computed.{support};
+ghost use Rattle.meaning.specs.Bits.{listed};
 ghost use Rattle.meaning.specs.Written.{of};
 ghost use Rattle.book.specs.Format.{bookIn, ReadAs};
 ghost use Rattle.book.specs.Tables.{atomTable};
+ghost use Rattle.book.specs.RuleRows.{RuleRows};
 ghost use Rattle.closing.specs.Growing.{Turn, Pass};
 ghost use Rattle.closing.specs.Conditions.{goingOn, goingOff};
 use crate::marking::support;
@@ -15,12 +16,14 @@ use book::Shape;
 use book::goes_on;
 use book::head;
 use book::is_blocked;
-use book::is_starved;
+use book::is_starved_by;
 use book::lost_in;
 use book::positives;
 use book::some_in;
 use meaning::Colouring;
 use meaning::RuleNo;
+use meaning::has;
+use meaning::put;
 
 // One rule's turn to go on. The table of the heads of on rules goes with it.
 fn try_on(
@@ -28,26 +31,25 @@ fn try_on(
     shape: Shape,
     r: RuleNo,
     lost: &[bool; Colouring::ATOMS],
-    on: &mut [bool; Colouring::RULES],
+    on: &mut [u64; 4],
     headed: &mut [bool; Colouring::ATOMS],
     more: bool,
 ) -> bool
-    requires { ⌜ ReadAs (now book) shape × (r .0 < shape .rules) × (length (now on) ≡ 255)
-        × (now headed ≡ atomTable (heads (bookIn (now book)) (of (now on)))) ⌝ }
+    requires { ⌜ ReadAs (now book) shape × (r .0 < shape .rules)
+        × (now headed ≡ atomTable (heads (bookIn (now book)) (of (listed (now on))))) ⌝ }
     ensures { λ after. ⌜
         Turn (goingOn (bookIn (now (book .entry))) (now (lost .entry))) r
-        (now (on .entry)) more (now (on .exit)) after
+        (listed (now (on .entry))) more (listed (now (on .exit))) after
         × (now (headed .exit) ≡
-        atomTable (heads (bookIn (now (book .entry))) (of (now (on .exit))))) ⌝ }
+        atomTable (heads (bookIn (now (book .entry))) (of (listed (now (on .exit)))))) ⌝ }
 {
-    let at = r.0 as usize;
-    if on[at] {
+    if has(on, r.0) {
         return more;
     }
     if !goes_on(book, shape, r, headed, lost) {
         return more;
     }
-    on[at] = true;
+    put(on, r.0);
     let a = head(book, shape, r).0 as usize;
     headed[a] = true;
     true
@@ -58,16 +60,17 @@ pub fn pass_on(
     book: &[u8],
     shape: Shape,
     lost: &[bool; Colouring::ATOMS],
-    on: &mut [bool; Colouring::RULES],
+    on: &mut [u64; 4],
     headed: &mut [bool; Colouring::ATOMS],
 ) -> bool
-    requires { ⌜ ReadAs (now book) shape × (length (now on) ≡ 255)
-        × (now headed ≡ atomTable (heads (bookIn (now book)) (of (now on)))) ⌝ }
+    requires { ⌜ ReadAs (now book) shape
+        × (now headed ≡ atomTable (heads (bookIn (now book)) (of (listed (now on))))) ⌝ }
     ensures { λ more. ⌜
         Pass (bookIn (now (book .entry))) (goingOn (bookIn (now (book .entry))) (now (lost .entry)))
-        (count (bookIn (now (book .entry)))) (now (on .entry)) (now (on .exit)) more
+        (count (bookIn (now (book .entry))))
+        (listed (now (on .entry))) (listed (now (on .exit))) more
         × (now (headed .exit) ≡
-        atomTable (heads (bookIn (now (book .entry))) (of (now (on .exit))))) ⌝ }
+        atomTable (heads (bookIn (now (book .entry))) (of (listed (now (on .exit)))))) ⌝ }
 {
     let mut more = false;
     let mut r: u8 = 0;
@@ -85,22 +88,23 @@ fn try_off(
     book: &[u8],
     shape: Shape,
     r: RuleNo,
+    rows: &[u64; 3072],
     headed: &[bool; Colouring::ATOMS],
-    marks: &[bool; Colouring::RULES],
-    off: &mut [bool; Colouring::RULES],
+    marks: &[u64; 4],
+    off: &mut [u64; 4],
     dropped: &mut [bool; Colouring::RULES],
     more: bool,
 ) -> bool
-    requires { ⌜ ReadAs (now book) shape × (r .0 < shape .rules) ⌝ }
+    requires { ⌜ ReadAs (now book) shape × (r .0 < shape .rules)
+        × RuleRows (bookIn (now book)) (now rows) ⌝ }
     ensures { λ after. ⌜ Turn
-        (goingOff (bookIn (now (book .entry))) (now (headed .entry)) (now (marks .entry))) r
-        (now (off .entry)) more (now (off .exit)) after ⌝ }
+        (goingOff (bookIn (now (book .entry))) (now (headed .entry)) (listed (now (marks .entry)))) r
+        (listed (now (off .entry))) more (listed (now (off .exit))) after ⌝ }
 {
-    let at = r.0 as usize;
-    if off[at] {
+    if has(off, r.0) {
         return more;
     }
-    if marks[at] {
+    if has(marks, r.0) {
         if !is_blocked(book, shape, r, headed) {
             if !more {
                 return more;
@@ -108,12 +112,12 @@ fn try_off(
             if !some_in(positives(book, shape, r), dropped) {
                 return more;
             }
-            if !is_starved(book, shape, r, off) {
+            if !is_starved_by(book, shape, r, rows, off) {
                 return more;
             }
         }
     }
-    off[at] = true;
+    put(off, r.0);
     let a = head(book, shape, r).0 as usize;
     dropped[a] = true;
     true
@@ -123,14 +127,16 @@ fn try_off(
 fn pass_off(
     book: &[u8],
     shape: Shape,
+    rows: &[u64; 3072],
     headed: &[bool; Colouring::ATOMS],
-    marks: &[bool; Colouring::RULES],
-    off: &mut [bool; Colouring::RULES],
+    marks: &[u64; 4],
+    off: &mut [u64; 4],
 ) -> bool
-    requires { ⌜ ReadAs (now book) shape × (length (now off) ≡ 255) ⌝ }
+    requires { ⌜ ReadAs (now book) shape × RuleRows (bookIn (now book)) (now rows) ⌝ }
     ensures { λ more. ⌜ Pass (bookIn (now (book .entry)))
-        (goingOff (bookIn (now (book .entry))) (now (headed .entry)) (now (marks .entry)))
-        (count (bookIn (now (book .entry)))) (now (off .entry)) (now (off .exit)) more ⌝ }
+        (goingOff (bookIn (now (book .entry))) (now (headed .entry)) (listed (now (marks .entry))))
+        (count (bookIn (now (book .entry))))
+        (listed (now (off .entry))) (listed (now (off .exit))) more ⌝ }
 {
     let mut dropped = [false; Colouring::ATOMS];
     let mut more = false;
@@ -140,6 +146,7 @@ fn pass_off(
             book,
             shape,
             RuleNo(r),
+            rows,
             headed,
             marks,
             off,
@@ -155,21 +162,24 @@ fn pass_off(
 pub fn grow_off(
     book: &[u8],
     shape: Shape,
+    rows: &[u64; 3072],
     headed: &[bool; Colouring::ATOMS],
-    off: &mut [bool; Colouring::RULES],
+    off: &mut [u64; 4],
     lost: &mut [bool; Colouring::ATOMS],
-    marks: &mut [bool; Colouring::RULES],
+    marks: &mut [u64; 4],
 ) -> bool
-    requires { ⌜ ReadAs (now book) shape × (length (now off) ≡ 255)
-        × (now lost ≡ atomTable (allIn (bookIn (now book)) (of (now off))))
-        × (now marks ≡ support (bookIn (now book)) (of (now off))) ⌝ }
+    requires { ⌜ ReadAs (now book) shape
+        × (now lost ≡ atomTable (allIn (bookIn (now book)) (of (listed (now off)))))
+        × (listed (now marks) ≡ support (bookIn (now book)) (of (listed (now off))))
+        × RuleRows (bookIn (now book)) (now rows) ⌝ }
     ensures { λ more. ⌜ Pass (bookIn (now (book .entry)))
-        (goingOff (bookIn (now (book .entry))) (now (headed .entry)) (now (marks .entry)))
-        (count (bookIn (now (book .entry)))) (now (off .entry)) (now (off .exit)) more
-        × (now (lost .exit) ≡ atomTable (allIn (bookIn (now (book .entry))) (of (now (off .exit)))))
-        × (now (marks .exit) ≡ support (bookIn (now (book .entry))) (of (now (off .exit)))) ⌝ }
+        (goingOff (bookIn (now (book .entry))) (now (headed .entry)) (listed (now (marks .entry))))
+        (count (bookIn (now (book .entry))))
+        (listed (now (off .entry))) (listed (now (off .exit))) more
+        × (now (lost .exit) ≡ atomTable (allIn (bookIn (now (book .entry))) (of (listed (now (off .exit))))))
+        × (listed (now (marks .exit)) ≡ support (bookIn (now (book .entry))) (of (listed (now (off .exit))))) ⌝ }
 {
-    if !pass_off(book, shape, headed, marks, off) {
+    if !pass_off(book, shape, rows, headed, marks, off) {
         return false;
     }
     lost_in(book, shape, off, lost);

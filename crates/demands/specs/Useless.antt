@@ -24,7 +24,7 @@ use lib.ListN.{length, getD, take}
 use Rattle.meaning.specs.declared.AtomNo.{AtomNo}
 use Rattle.meaning.specs.declared.kind.Kind.{Kind}
 use Rattle.meaning.specs.declared.kind.Kind.the-variants.{Naming, Clearing}
-use Rattle.meaning.specs.declared.colouring.Colouring.{Colouring}
+use Rattle.meaning.specs.Written.{Tables}
 use Rattle.meaning.specs.Books.{Book}
 use Rattle.meaning.specs.Colours.{Pair, onSide, put, start, clashing}
 use Rattle.meaning.specs.declared.kind.Claim.{Claim}
@@ -98,7 +98,7 @@ alwaysAccepts = record { find = findOf; write = ourWrite; check = λ book s. for
 -- ---- closes once and calls the rest off, or checks only the first branch
 
 -- the pair d of the first closing, with all that has no colour off, is taken for the only reading
-unfoldable pub onceIn : Book → Colouring → ℕ → List ℕ → Answered ℕ
+unfoldable pub onceIn : Book → Tables → ℕ → List ℕ → Answered ℕ
 onceIn b d k answer =
     ifb (clashing b (pair d)) (record { told = fewer 1 0 255; buffer = answer })
     (ifEq k 1 (record { told = set 1; buffer = writeAt 0 (rowOf b (readingOf b d)) answer }) (record { told = fewer 1 1 255; buffer = answer }))

@@ -10,7 +10,7 @@ use native.Mathlib.Omega.{arith}
 use lib.ListN.{getD}
 use borrow.Author.Tests.{not-true}
 use Rattle.meaning.specs.declared.RuleNo.{RuleNo}
-use Rattle.meaning.specs.declared.colouring.Colouring.{Colouring}
+use Rattle.meaning.specs.Written.{Tables}
 use Rattle.meaning.specs.Sets.{_∈_}
 use Rattle.meaning.specs.Books.{Book, count, InBook}
 use Rattle.meaning.specs.Colours.{Pair, Side, onSide, offSide, side, blocked, starved, Closed, Within, ClosedAbove, Closing}
@@ -22,12 +22,12 @@ use Rattle.meaning.proofs.Least.{Adding, smallest-mono, smallest-unique
 use Rattle.meaning.proofs.Rules.{in-book-or-not, within-on, within-off, within-both, within-refl, within-trans}
 use Rattle.meaning.proofs.Rules.{mayOn-mono, blocked-mono, starved-mono}
 use Rattle.meaning.proofs.Written.{of-same, length-added, of-added, of-added-outside, added-above, added-grows, added-rests}
-use Rattle.meaning.proofs.Written.{size, size-le, Sized, Untouched}
+use Rattle.meaning.proofs.Written.{size, size-le, Sized, Untouched, room}
 use Rattle.meaning.proofs.Stamps.{length-stamp, stamp-at, stamp-rests, newly-same}
 use Rattle.meaning.proofs.Support.{support-is, length-support, outside, unsupported-any}
 
 -- how many additions have been made
-amount : Book → Colouring → ℕ
+amount : Book → Tables → ℕ
 amount b d = size (count b) (d .on) + size (count b) (d .off)
 
 module _ (b : Book) where
@@ -59,10 +59,10 @@ module _ (b : Book) where
             outside b k _ (λ q g n. support-is b (c .off) fits .good q g (absent (within-off b w q g) n)) r h (not-true _ p)
 
     -- a round that adds nothing has found a closed pair
-    rests-closed : (d : Colouring) → Sized d → d ≡ closeMore b d → Closed b (pair d)
+    rests-closed : (d : Tables) → Sized d → d ≡ closeMore b d → Closed b (pair d)
     unfolding closeMore goesOff
     rests-closed d s e = record {
-      goes-on = λ r h p. added-rests b _ (d .on) (rw (s .on) fits) (λ i. e i .on) r h p;
+      goes-on = λ r h p. added-rests b _ (d .on) (rw (s .on) (room b fits)) (λ i. e i .on) r h p;
       goes-off-blocked = λ r h p. gone r h (or-left _ p);
       goes-off-starved = λ r h p. gone r h (or-right (blocked b (pair d) r) (or-left _ p));
       goes-off-unsupported = unsupported-any b (support-is b (of (d .off)) fits)
@@ -70,12 +70,12 @@ module _ (b : Book) where
     }
       where
         gone : (r : RuleNo) → InBook b r → r ∈ goesOff b (pair d) (of (support b (of (d .off)))) → r ∈ of (d .off)
-        gone r h p = added-rests b _ (d .off) (rw (s .off) fits) (λ i. e i .off) r h p
+        gone r h p = added-rests b _ (d .off) (rw (s .off) (room b fits)) (λ i. e i .off) r h p
 
     -- ---- the rounds, from c on
 
-    module _ (c : Colouring) where
-      record Between (d : Colouring) : Type 0 where
+    module _ (c : Tables) where
+      record Between (d : Tables) : Type 0 where
         sized : Sized d
         above : Within b (pair c) (pair d)
         untouched : Untouched b c d
@@ -83,15 +83,15 @@ module _ (b : Book) where
       between-start : Sized c → Between c
       between-start s = record { sized = s; above = within-refl b (pair c); untouched = record { on = λ r h. refl; off = λ r h. refl } }
 
-      more-within : (d : Colouring) → Between d → (e : Pair) → Closed b e → Within b (pair d) e → Within b (pair (closeMore b d)) e
+      more-within : (d : Tables) → Between d → (e : Pair) → Closed b e → Within b (pair d) e → Within b (pair (closeMore b d)) e
       unfolding closeMore
       more-within d f e k w = within-both b
           (λ r h m. ⊎-elim (within-on b w r h) (λ p. k .goes-on r h (mayOn-mono b w r p))
-          (either (of (d .on) r) _ (sym (of-added b _ (d .on) (rw (f .sized .on) fits) r h) ∙ m)))
+          (either (of (d .on) r) _ (sym (of-added b _ (d .on) (rw (f .sized .on) (room b fits)) r h) ∙ m)))
           (λ r h m. ⊎-elim (within-off b w r h) (goesOff-within (pair d) e w k r h)
-          (either (of (d .off) r) _ (sym (of-added b _ (d .off) (rw (f .sized .off) fits) r h) ∙ m)))
+          (either (of (d .off) r) _ (sym (of-added b _ (d .off) (rw (f .sized .off) (room b fits)) r h) ∙ m)))
 
-      more-between : (d : Colouring) → Between d → Between (closeMore b d)
+      more-between : (d : Tables) → Between d → Between (closeMore b d)
       unfolding closeMore
       more-between d f = record {
         sized = record {
@@ -101,16 +101,16 @@ module _ (b : Book) where
           levels = f .sized .levels;
         };
         above = within-trans b (f .above) (within-both b
-            (λ r h. added-above b _ (d .on) (rw (f .sized .on) fits) r) (λ r h. added-above b _ (d .off) (rw (f .sized .off) fits) r));
+            (λ r h. added-above b _ (d .on) (rw (f .sized .on) (room b fits)) r) (λ r h. added-above b _ (d .off) (rw (f .sized .off) (room b fits)) r));
         untouched = record {
           on = λ r h. of-added-outside b _ (d .on) r h ∙ f .untouched .on r h;
           off = λ r h. of-added-outside b _ (d .off) r h ∙ f .untouched .off r h;
         };
       }
 
-      more-grows : (d : Colouring) → Between d → (d ≡ closeMore b d) ⊎ (amount b d < amount b (closeMore b d))
+      more-grows : (d : Tables) → Between d → (d ≡ closeMore b d) ⊎ (amount b d < amount b (closeMore b d))
       unfolding closeMore amount
-      more-grows d f = sides (added-grows b _ (d .on) (rw (f .sized .on) fits)) (added-grows b _ (d .off) (rw (f .sized .off) fits))
+      more-grows d f = sides (added-grows b _ (d .on) (rw (f .sized .on) (room b fits))) (added-grows b _ (d .off) (rw (f .sized .off) (room b fits)))
         where
           sides : (d .on ≡ closeMore b d .on) ⊎ (size (count b) (d .on) < size (count b) (closeMore b d .on))
               → (d .off ≡ closeMore b d .off) ⊎ (size (count b) (d .off) < size (count b) (closeMore b d .off))
@@ -136,7 +136,7 @@ module _ (b : Book) where
 
     -- ---- the computed closing
 
-    module _ (c : Colouring) (sized : Sized c) where
+    module _ (c : Tables) (sized : Sized c) where
       pub close-is : Closing b (pair c) (pair (close b c))
       unfolding close marked stamped
       close-is = iterate-smallest (close-adding c) c (between-start c sized) (λ t g. g .above)
@@ -154,21 +154,21 @@ module _ (b : Book) where
       unfolding close marked stamped
       close-untouched = let f = rounds-between c sized .untouched in record { on = f .on; off = f .off }
 
-  pub close-marks : (c : Colouring) → close b c .marks ≡ support b (of (close b c .off))
+  pub close-marks : (c : Tables) → close b c .marks ≡ support b (of (close b c .off))
   unfolding close marked stamped
   close-marks c = refl
 
   -- ---- levels: a closing has that of the choices above it, and gives it to the rules that get their colour there
 
-  pub close-level : (c : Colouring) → close b c .level ≡ c .level
+  pub close-level : (c : Tables) → close b c .level ≡ c .level
   unfolding close stamped
   close-level c = refl
 
-  pub close-levels : (c : Colouring) → close b c .levels ≡ newLevels b c (pair (close b c))
+  pub close-levels : (c : Tables) → close b c .levels ≡ newLevels b c (pair (close b c))
   unfolding close stamped
   close-levels c = refl
 
-  pub level-stamped : count b ≤ 255 → (c : Colouring) → Sized c → (r : RuleNo) → InBook b r
+  pub level-stamped : count b ≤ 255 → (c : Tables) → Sized c → (r : RuleNo) → InBook b r
       → levelOf (close b c) r ≡ ifb (newly (pair c) (pair (close b c)) r) (c .level) (levelOf c r)
   unfolding levelOf newLevels
   level-stamped fits c s r h =
@@ -176,7 +176,7 @@ module _ (b : Book) where
 
   module _ (fits : count b ≤ 255) where
     -- a colouring that is a closing of c, in whatever order it was made, is the computed one
-    pub closing-computed : (c d : Colouring) → Sized c → Sized d → Closing b (pair c) (pair d) → d .marks ≡ support b (of (d .off))
+    pub closing-computed : (c d : Tables) → Sized c → Sized d → Closing b (pair c) (pair d) → d .marks ≡ support b (of (d .off))
         → Untouched b c d → d .level ≡ c .level → d .levels ≡ newLevels b c (pair d) → d ≡ close b c
     unfolding side
     closing-computed c d s t p m u v l =
@@ -191,21 +191,21 @@ module _ (b : Book) where
         λ i. record { on = on i; off = off i; marks = marks i; level = level i; levels = levels i }
 
     -- where no rule gets a colour, no level is new
-    levels-rest : (c : Colouring) → c .levels ≡ newLevels b c (pair c)
+    levels-rest : (c : Tables) → c .levels ≡ newLevels b c (pair c)
     unfolding newLevels
     levels-rest c = sym (stamp-rests 0 (count b) _ (c .level) (c .levels) (newly-same (pair c)))
 
-    pub close-mono : (c d : Colouring) → Sized c → Sized d → Within b (pair c) (pair d) → Within b (pair (close b c)) (pair (close b d))
+    pub close-mono : (c d : Tables) → Sized c → Sized d → Within b (pair c) (pair d) → Within b (pair (close b c)) (pair (close b d))
     close-mono c d s t w = closing-mono w (close-is fits c s) (close-is fits d t)
 
     -- to a closed pair nothing is added
-    pub closed-close : (c : Colouring) → Sized c → Closed b (pair c) → marked b c ≡ close b c
+    pub closed-close : (c : Tables) → Sized c → Closed b (pair c) → marked b c ≡ close b c
     unfolding marked
     closed-close c s k = closing-computed c (marked b c) s
         (record { on = s .on; off = s .off; marks = length-support b _ fits; levels = s .levels }) (closed-closing k) refl
         (record { on = λ r h. refl; off = λ r h. refl }) refl (levels-rest c)
 
-    pub close-idempotent : (c : Colouring) → Sized c → close b c ≡ close b (close b c)
+    pub close-idempotent : (c : Tables) → Sized c → close b c ≡ close b (close b c)
     close-idempotent c s = let z = close-sized fits c s in
         closing-computed (close b c) (close b c) z z (closed-closing (close-is fits c s .good .closed)) (close-marks c)
         (record { on = λ r h. refl; off = λ r h. refl }) refl (levels-rest (close b c))

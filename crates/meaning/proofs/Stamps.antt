@@ -8,7 +8,7 @@ use borrow.Author.Tests.{not-true}
 use lib.ListN.{length, getD, set}
 use lib.Seq.{getD-set-same, getD-set-other}
 use Rattle.meaning.specs.declared.RuleNo.{RuleNo}
-use Rattle.meaning.specs.declared.colouring.Colouring.{Colouring}
+use Rattle.meaning.specs.Written.{Tables}
 use Rattle.meaning.specs.Sets.{_∉_}
 use Rattle.meaning.specs.Books.{Rules, ruleNo}
 use Rattle.meaning.specs.Choice.{ifb}
@@ -62,7 +62,7 @@ newly-same c r = refuted (λ m. true-and-false (and-left (uncoloured c r) _ m) (
 -- ---- a choice
 
 -- the chosen rule has the level of its choice, and every other rule the one that it had
-module _ (r : RuleNo) (c : Colouring) where
+module _ (r : RuleNo) (c : Tables) where
   pub level-of-chosen : (x : Side) → r .0 < length (c .levels) → levelOf (chosen x r c) r ≡ c .level + 1
   unfolding levelOf
   level-of-chosen onSide h = getD-set-same (c .levels) (r .0) (c .level + 1) 0 h

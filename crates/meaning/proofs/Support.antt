@@ -60,13 +60,13 @@ module _ (b : Book) (off : Rules) where
 
   pub support-is : count b ≤ 255 → Support b off (of (support b off))
   unfolding support
-  support-is fits = support-found 255 fits
+  support-is fits = support-found 256 (omega arith)
 
-  support-fine : count b ≤ 255 → Fine 255 (support b off)
+  support-fine : count b ≤ 255 → Fine 256 (support b off)
   unfolding support
-  support-fine fits = iterate-fine (support-adding 255 fits) (count b) _ (fine-start 255)
+  support-fine fits = iterate-fine (support-adding 256 (omega arith)) (count b) _ (fine-start 256)
 
-  pub length-support : count b ≤ 255 → length (support b off) ≡ 255
+  pub length-support : count b ≤ 255 → length (support b off) ≡ 256
   length-support fits = support-fine fits .0
 
   pub support-outside : count b ≤ 255 → (r : RuleNo) → count b ≤ r .0 → r ∉ of (support b off)
@@ -79,7 +79,7 @@ module _ (b : Book) where
   support-unique p q r h = let (f, g) = smallest-unique p q in same _ _ (f r h) (g r h)
 
   -- a list that stands for the support, and says no from R on, is the computed one
-  pub support-computed : (off : Rules) (l : List Bool) → count b ≤ 255 → length l ≡ 255 → ((r : RuleNo) → count b ≤ r .0 → r ∉ of l)
+  pub support-computed : (off : Rules) (l : List Bool) → count b ≤ 255 → length l ≡ 256 → ((r : RuleNo) → count b ≤ r .0 → r ∉ of l)
       → Support b off (of l) → l ≡ support b off
   support-computed off l fits long out s =
       of-same l _ (long ∙ sym (length-support b off fits)) (λ r. ⊎-elim

@@ -10,11 +10,10 @@ use native.Mathlib.Omega.{arith}
 use lib.ListN.{length, getD, set, replicate, length-replicate, length-set}
 use lib.Seq.{ext-getD, getD-set-same, getD-set-other}
 use Rattle.meaning.specs.declared.RuleNo.{RuleNo}
-use Rattle.meaning.specs.declared.colouring.Colouring.{Colouring}
 use Rattle.meaning.specs.Sets.{Set, _∈_, _∉_, _⊆_}
 use Rattle.meaning.specs.Books.{Rules, ruleNo, among, Book, count, InBook}
 use Rattle.meaning.specs.Colours.{Side, onSide, offSide, put, plus, start}
-use Rattle.meaning.specs.Written.{of, addFrom, added, nothing, colourOn, colourOff, chosen, pair}
+use Rattle.meaning.specs.Written.{Tables, of, addFrom, added, nothing, colourOn, colourOff, chosen, pair}
 use Rattle.meaning.proofs.Tests.{or-left, or-right, decided, true-and-false}
 use Rattle.meaning.proofs.Rules.{among-one, one-among, in-book-or-not}
 
@@ -100,7 +99,7 @@ of-set l r h = fun-ext (λ q. ⊎-elim (here q) (there q) (decided (among (r ∷
     there : (q : RuleNo) → q ∉ among (r ∷ []) → of (set l (r .0) true) q ≡ (of l q || among (r ∷ []) q)
     there q n = of-set-other l q r (λ e. true-and-false (rw e (one-among r)) n) ∙ rw n (sym (or-false _))
 
-module _ (c : Colouring) (r : RuleNo) where
+module _ (c : Tables) (r : RuleNo) where
   pub pair-on : r .0 < length (c .on) → pair (colourOn r c) ≡ put onSide (r ∷ []) (pair c)
   unfolding put
   pair-on h = let e = of-set (c .on) r h in λ i. record { on = e i; off = of (c .off) }
@@ -110,26 +109,26 @@ module _ (c : Colouring) (r : RuleNo) where
   pair-off h = let e = of-set (c .off) r h in λ i. record { on = of (c .on); off = e i }
 
 pub pair-nothing : pair nothing ≡ start
-pair-nothing = let e : of (replicate 255 false) ≡ (λ r. false) = fun-ext (of-none 255) in λ i. record { on = e i; off = e i }
+pair-nothing = let e : of (replicate 256 false) ≡ (λ r. false) = fun-ext (of-none 256) in λ i. record { on = e i; off = e i }
 
--- ---- colourings of 255 places
+-- ---- tables of the right length: 256 places for a set of rules, 255 levels
 
-pub record Sized (c : Colouring) : Type 0 where
-  pub on : length (c .on) ≡ 255
-  pub off : length (c .off) ≡ 255
-  pub marks : length (c .marks) ≡ 255
+pub record Sized (c : Tables) : Type 0 where
+  pub on : length (c .on) ≡ 256
+  pub off : length (c .off) ≡ 256
+  pub marks : length (c .marks) ≡ 256
   pub levels : length (c .levels) ≡ 255
 
 pub sized-nothing : Sized nothing
-sized-nothing = let e = length-replicate 255 false in record { on = e; off = e; marks = e; levels = length-replicate {A = ℕ} 255 0 }
+sized-nothing = let e = length-replicate 256 false in record { on = e; off = e; marks = e; levels = length-replicate {A = ℕ} 255 0 }
 
-pub sized-on : (r : RuleNo) {c : Colouring} → Sized c → Sized (colourOn r c)
+pub sized-on : (r : RuleNo) {c : Tables} → Sized c → Sized (colourOn r c)
 sized-on r {c} s = record { on = length-set (c .on) (r .0) true ∙ s .on; off = s .off; marks = s .marks; levels = s .levels }
 
-pub sized-off : (r : RuleNo) {c : Colouring} → Sized c → Sized (colourOff r c)
+pub sized-off : (r : RuleNo) {c : Tables} → Sized c → Sized (colourOff r c)
 sized-off r {c} s = record { on = s .on; off = length-set (c .off) (r .0) true ∙ s .off; marks = s .marks; levels = s .levels }
 
-pub sized-chosen : (x : Side) (r : RuleNo) {c : Colouring} → Sized c → Sized (chosen x r c)
+pub sized-chosen : (x : Side) (r : RuleNo) {c : Tables} → Sized c → Sized (chosen x r c)
 sized-chosen x r {c} s = by x
   where
     long : length (set (c .levels) (r .0) (c .level + 1)) ≡ 255
@@ -139,8 +138,12 @@ sized-chosen x r {c} s = by x
     by onSide = let k = sized-on r s in record { on = k .on; off = k .off; marks = k .marks; levels = long }
     by offSide = let k = sized-off r s in record { on = k .on; off = k .off; marks = k .marks; levels = long }
 
+-- a table has room for the book
+pub room : (b : Book) → count b ≤ 255 → count b ≤ 256
+room b h = omega arith
+
 -- the places from R on are those of c
-pub record Untouched (b : Book) (c d : Colouring) : Type 0 where
+pub record Untouched (b : Book) (c d : Tables) : Type 0 where
   pub on : (r : RuleNo) → count b ≤ r .0 → of (d .on) r ≡ of (c .on) r
   pub off : (r : RuleNo) → count b ≤ r .0 → of (d .off) r ≡ of (c .off) r
 

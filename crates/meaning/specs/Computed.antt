@@ -10,7 +10,7 @@ use mathlib.Core.Bool.{Bool, false, not, _&&_, _||_}
 use mathlib.Core.List.{List}
 use Prim.Native.Nat.{ℕ, zero, suc, _+_}
 use lib.ListN.{replicate}
-use Rattle.meaning.specs.declared.colouring.Colouring.{Colouring}
+use Rattle.meaning.specs.Written.{Tables}
 use Rattle.meaning.specs.Sets.{every}
 use Rattle.meaning.specs.Books.{Rules, Book, count, rule}
 use Rattle.meaning.specs.Colours.{Pair, heads, mayOn, blocked, starved, uncoloured}
@@ -28,13 +28,13 @@ unfoldable pub supportMore : Book → Rules → List Bool → List Bool
 supportMore b off v = added b (upheld b off (of v)) v
 
 unfoldable pub support : Book → Rules → List Bool
-support b off = iterate (supportMore b off) (count b) (replicate 255 false)
+support b off = iterate (supportMore b off) (count b) (replicate 256 false)
 
 -- the rules that go off, where v is the support
 unfoldable pub goesOff : Book → Pair → Rules → Rules
 goesOff b c v r = blocked b c r || (starved b c r || not (v r))
 
-unfoldable pub closeMore : Book → Colouring → Colouring
+unfoldable pub closeMore : Book → Tables → Tables
 closeMore b c =
     let v = of (support b (of (c .off))) in
     record {
@@ -45,7 +45,7 @@ closeMore b c =
       levels = c .levels;
     }
 
-unfoldable pub marked : Book → Colouring → Colouring
+unfoldable pub marked : Book → Tables → Tables
 marked b c = record { on = c .on; off = c .off; marks = support b (of (c .off)); level = c .level; levels = c .levels }
 
 -- the rules that have a colour in d and had none in c
@@ -53,12 +53,12 @@ unfoldable pub newly : Pair → Pair → Rules
 newly c d r = uncoloured c r && not (uncoloured d r)
 
 -- the levels after a closing from c to the pair d
-unfoldable pub newLevels : Book → Colouring → Pair → List ℕ
+unfoldable pub newLevels : Book → Tables → Pair → List ℕ
 newLevels b c d = stampFrom 0 (count b) (newly (pair c) d) (c .level) (c .levels)
 
-unfoldable pub stamped : Book → Colouring → Colouring → Colouring
+unfoldable pub stamped : Book → Tables → Tables → Tables
 stamped b c d = record { on = d .on; off = d .off; marks = d .marks; level = c .level; levels = newLevels b c (pair d) }
 
 -- no more additions can be made than there are rules and sides
-unfoldable pub close : Book → Colouring → Colouring
+unfoldable pub close : Book → Tables → Tables
 close b c = stamped b c (marked b (iterate (closeMore b) (count b + count b) c))

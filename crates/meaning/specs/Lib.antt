@@ -6,9 +6,11 @@ pub mod WellFounded
 pub mod Colours
 pub mod Claim
 pub mod Paper
+pub mod Bits
 pub mod Choice
 pub mod Written
 pub mod Computed
+pub mod Propagation
 pub mod Lowest
 pub mod Engine
 pub mod Told

@@ -1,10 +1,13 @@
--- Sets of rules written out: place r of a list of 255 says whether rule r is in the set. Document 01, "Which form to use where": "Colour
--- and mark arrays of 255 elements". Of on and off, places from R on are never touched; closing replaces the marks.
+-- Sets of rules written out: place r of a list of 256 says whether rule r is in the set. By such tables every operation is defined, and
+-- every promise about a colouring is one about the tables that it stands for. Of on and off, places from R on are never touched; closing
+-- replaces the marks.
 --
+--   Tables           a colouring written out
+--   written c        the tables that a colouring of bit sets stands for
 --   of l             the set that a list stands for
 --   added b s l      the list with the rules of the book that are in s added
 --   stampFrom        the list of levels with that of the rules in s replaced
---   nothing          the empty colouring
+--   nothing          the empty tables
 --   colourOn r c, colourOff r c   the colouring with rule r put in on, in off
 --   chosen x r c     the choice of a walk: rule r put on one side, one level deeper. Document 02, ticket 8: "a chosen rule has the level of
 --                    its choice"
@@ -21,6 +24,18 @@ use Rattle.meaning.specs.Sets.{Set}
 use Rattle.meaning.specs.Books.{Rules, ruleNo, Book, count}
 use Rattle.meaning.specs.Choice.{ifb}
 use Rattle.meaning.specs.Colours.{Pair, Side, onSide, offSide}
+use Rattle.meaning.specs.Bits.{listed}
+
+pub record Tables : Type 0 where
+  pub on : List Bool
+  pub off : List Bool
+  pub marks : List Bool
+  pub level : ℕ
+  pub levels : List ℕ
+
+abbrev pub written : Colouring → Tables
+written c =
+    record { on = listed (c .on .w); off = listed (c .off .w); marks = listed (c .marks .w); level = c .level; levels = c .levels }
 
 unfoldable pub of : List Bool → Rules
 of l r = getD l (r .0) false
@@ -40,26 +55,26 @@ stampFrom i zero s v l = l
 stampFrom i (suc n) s v [] = []
 stampFrom i (suc n) s v (x ∷ l) = ifb (s (ruleNo i)) v x ∷ stampFrom (suc i) n s v l
 
-unfoldable pub levelOf : Colouring → RuleNo → ℕ
+unfoldable pub levelOf : Tables → RuleNo → ℕ
 levelOf c r = getD (c .levels) (r .0) 0
 
-abbrev pub nothing : Colouring
+abbrev pub nothing : Tables
 nothing = record {
-  on = replicate 255 false;
-  off = replicate 255 false;
-  marks = replicate 255 false;
+  on = replicate 256 false;
+  off = replicate 256 false;
+  marks = replicate 256 false;
   level = 0;
   levels = replicate 255 0;
 }
 
-abbrev pub colourOn : RuleNo → Colouring → Colouring
+abbrev pub colourOn : RuleNo → Tables → Tables
 colourOn r c = record { on = set (c .on) (r .0) true; off = c .off; marks = c .marks; level = c .level; levels = c .levels }
 
-abbrev pub colourOff : RuleNo → Colouring → Colouring
+abbrev pub colourOff : RuleNo → Tables → Tables
 colourOff r c = record { on = c .on; off = set (c .off) (r .0) true; marks = c .marks; level = c .level; levels = c .levels }
 
 -- one choice more, of which r has the level
-abbrev deeper : RuleNo → Colouring → Colouring
+abbrev deeper : RuleNo → Tables → Tables
 deeper r c = record {
   on = c .on;
   off = c .off;
@@ -68,12 +83,12 @@ deeper r c = record {
   levels = set (c .levels) (r .0) (c .level + 1);
 }
 
-abbrev pub chosen : Side → RuleNo → Colouring → Colouring
+abbrev pub chosen : Side → RuleNo → Tables → Tables
 chosen onSide r c = deeper r (colourOn r c)
 chosen offSide r c = deeper r (colourOff r c)
 
 abbrev pub lent : List Bool → List Bool → Pair
 lent on off = record { on = of on; off = of off }
 
-abbrev pub pair : Colouring → Pair
+abbrev pub pair : Tables → Pair
 pair c = lent (c .on) (c .off)

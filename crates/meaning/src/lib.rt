@@ -1,17 +1,25 @@
-// What a rule book means: the two kinds of number, the colouring, a paper's claim, marks and codes.
+// What a rule book means: the two kinds of number, sets of bits, the colouring, a paper's claim, marks and codes.
 //
 // This crate stands on nothing. Its definitions are in specs/, in the order that specs/Lib.antt
 // gives; its laws, which need no code, are in proofs/. Every other crate uses the types below.
 
+mod bitset;
 mod colouring;
 mod kind;
+mod lent;
 
+pub use bitset::Bits;
 pub use colouring::Colouring;
 pub use kind::CLEARING_MARK;
 pub use kind::Claim;
 pub use kind::Kind;
 pub use kind::Marked;
 pub use kind::NAMING_MARK;
+pub use lent::has;
+pub use lent::join;
+pub use lent::next_in;
+pub use lent::put;
+pub use lent::whole;
 
 // The number of an atom, one byte in a book.
 pub struct AtomNo(pub u8);

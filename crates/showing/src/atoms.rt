@@ -53,7 +53,7 @@ pub fn show_atoms(book: &[u8], shape: Shape)
     requires { ⌜ ReadAs (now book) shape ⌝ }
 {
     let mut bare = [false; Colouring::ATOMS];
-    let nothing = [false; Colouring::RULES];
+    let nothing = [0u64; 4];
     lost_in(book, shape, &nothing, &mut bare);
     let mut line = [0u8; 1152];
     let held = put_text(b"atoms ", &mut line, 0);

@@ -6,7 +6,7 @@ use Prim.Native.Nat.{ℕ, _*_, _-_, _/_, _≤_, _<_}
 use native.Mathlib.Nat.{one-mul}
 use native.Mathlib.Omega.{arith}
 use lib.ListN.{length}
-use Rattle.meaning.specs.declared.colouring.Colouring.{Colouring}
+use Rattle.meaning.specs.Written.{Tables}
 use Rattle.meaning.specs.Books.{Atoms, Book}
 use Rattle.meaning.specs.Choice.{ifEq}
 use Rattle.meaning.specs.Told.{Told, success, refusedAt, refused, Answered}
@@ -59,12 +59,12 @@ pub room-start : (b : Book) (pass room tries : ℕ) (out : List ℕ) → 1 ≤ r
     → Room b pass room (startAt tries out)
 room-start b pass room tries out h k = record { some = h; counts = omega arith; wanting = λ g. omega arith; fits = k }
 
-pub shallow-start : (s : List ℕ) (h : Shape) → ReadAs s h → h .rules < 256 → {c : Colouring} → c ≡ nothing → Shallow (bookIn s) c
+pub shallow-start : (s : List ℕ) (h : Shape) → ReadAs s h → h .rules < 256 → {c : Tables} → c ≡ nothing → Shallow (bookIn s) c
 shallow-start s h e n f = rw f (shallow-nothing (bookIn s) (few s h e n))
 
-pub walk-from : (b : Book) (w : Wanted) (s : State) {c d : Colouring} {u : State} → c ≡ d → u ≡ run b w s (events b c)
+pub walk-from : (b : Book) (w : Wanted) (s : State) {c d : Tables} {u : State} → c ≡ d → u ≡ run b w s (events b c)
     → u ≡ run b w s (events b d)
-walk-from b w s e f = f ∙ ap (λ (x : Colouring). run b w s (events b x)) e
+walk-from b w s e f = f ∙ ap (λ (x : Tables). run b w s (events b x)) e
 
 -- ---- find
 
@@ -130,7 +130,7 @@ module _ (s : List ℕ) (h : Shape) (e : ReadAs s h) (tries : ℕ) (out : List �
     room-is = f ∙ ap (λ (a : ℕ). ifEq a 0 1 (length out / a)) (sym (shape-atoms s h e))
 
     -- what the walk and resuming ask
-    pub page-room : h .rules < 256 → {c : Colouring} → c ≡ nothing → ReadAs s h × Room (bookIn s) 0 room start × Shallow (bookIn s) c
+    pub page-room : h .rules < 256 → {c : Tables} → c ≡ nothing → ReadAs s h × Room (bookIn s) 0 room start × Shallow (bookIn s) c
     page-room n f = (
       e,
       room-start (bookIn s) 0 room tries out (rw room-is (room-some (bookIn s) (length out) (rw (shape-atoms s h e) l)))
@@ -151,16 +151,16 @@ module _ (s : List ℕ) (h : Shape) (e : ReadAs s h) (tries : ℕ) (out : List �
             rw (k ∙ ap success (page-any-buffer (t .halt) t [] o))
             (sym (lt-no _ _ _ _ (rw (shape-atoms s h e) l) ∙ ap pagedBy (rw (← room-is) (sym g))))
 
-        pub page-first : {c : Colouring} → c ≡ nothing → tries ≡ 0
+        pub page-first : {c : Tables} → c ≡ nothing → tries ≡ 0
             → record { tally = t; out = o } ≡ run (bookIn s) w start (events (bookIn s) c)
             → record { told = r; buffer = o } ≡ pageIn (bookIn s) limit tries row out
         page-first empty z g =
             page-walked (walk-from (bookIn s) w start empty g
             ∙ ap (run (bookIn s) w start) (sym (first-events (bookIn s) tries (setIn row) z)))
 
-        pub page-later : {c : Colouring} → c ≡ nothing → (tries ≡ 0 → ⊥)
+        pub page-later : {c : Tables} → c ≡ nothing → (tries ≡ 0 → ⊥)
             → record { tally = t; out = o } ≡ run (bookIn s) w start (rest (bookIn s) c (setIn row))
             → record { told = r; buffer = o } ≡ pageIn (bookIn s) limit tries row out
         page-later empty n g =
-            page-walked (g ∙ ap (λ (x : Colouring). run (bookIn s) w start (rest (bookIn s) x (setIn row))) empty
+            page-walked (g ∙ ap (λ (x : Tables). run (bookIn s) w start (rest (bookIn s) x (setIn row))) empty
             ∙ ap (run (bookIn s) w start) (sym (later-events (bookIn s) tries (setIn row) (omega arith))))

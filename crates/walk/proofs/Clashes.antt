@@ -8,7 +8,7 @@ use Prim.Native.Nat.{ℕ, _≤_}
 use native.Mathlib.Omega.{arith}
 use lib.ListN.{length, length-append}
 use Rattle.meaning.specs.declared.RuleNo.{RuleNo}
-use Rattle.meaning.specs.declared.colouring.Colouring.{Colouring}
+use Rattle.meaning.specs.Written.{Tables}
 use Rattle.meaning.specs.Books.{Book, count, InBook}
 use Rattle.meaning.specs.Colours.{onSide, offSide}
 use Rattle.meaning.specs.Written.{nothing, chosen, pair}
@@ -53,8 +53,8 @@ module _ (b : Book) where
   no-last-clash f = clash-none 255 (events b nothing) f
 
   -- each is told of a pair that was closed to its end
-  pub clash-closed : {c : Colouring} {es : List Event} → Walk b c es → (r : RuleNo) → List·Memᴰ (clash r) es
-      → (d : Colouring) × (clashed b (pair (close b d)) ≡ one r)
+  pub clash-closed : {c : Tables} {es : List Event} → Walk b c es → (r : RuleNo) → List·Memᴰ (clash r) es
+      → (d : Tables) × (clashed b (pair (close b d)) ≡ one r)
   clash-closed (at-clash {c = c} {r = q} k t) r m = ⊎-elim
       (λ e. let z : q ≡ r = cc in (c, rw (k .closed) at t ∙ ap one z)) (λ n. absurd (List·Memᴰ·not-nil n)) (List·Memᴰ·cases-cons m)
   clash-closed (at-reading k t p) r m = ⊎-elim (λ e. apart (cc)) (λ n. absurd (List·Memᴰ·not-nil n)) (List·Memᴰ·cases-cons m)
@@ -62,7 +62,7 @@ module _ (b : Book) where
       (λ n. ⊎-elim (λ k. clash-closed v r k) (λ k. clash-closed w r k) (List·Memᴰ·append-cases _ n)) (List·Memᴰ·cases-cons m)
 
   -- a walk without a reading: whatever was the last before, a rule of the book is the last behind it
-  walk-clashes : {c : Colouring} {es : List Event} → Walk b c es → length (readingsIn b es) ≡ 0 → (n : ℕ)
+  walk-clashes : {c : Tables} {es : List Event} → Walk b c es → length (readingsIn b es) ≡ 0 → (n : ℕ)
       → (r : RuleNo) × InBook b r × (clashIn n es ≡ r .0)
   unfolding readingsIn clashIn
   walk-clashes (at-clash {r = r} k t) e n = (r, clashed-one b _ r t .0, refl)

@@ -8,7 +8,7 @@ use mathlib.Core.List.{List·Memᴰ·append-cases, Memᴰ·append-right}
 use Prim.Native.Nat.{ℕ, zero, suc, _≤_, _<_}
 use native.Mathlib.Omega.{arith}
 use Rattle.meaning.specs.declared.RuleNo.{RuleNo}
-use Rattle.meaning.specs.declared.colouring.Colouring.{Colouring}
+use Rattle.meaning.specs.Written.{Tables}
 use Rattle.meaning.specs.Books.{Atoms, Book, count}
 use Rattle.meaning.specs.AnswerSet.{generating}
 use Rattle.meaning.specs.Colours.{Side, onSide, offSide, uncoloured}
@@ -30,7 +30,7 @@ use Rattle.walk.proofs.Readings.{walk-sound}
 
 -- ---- level by level
 
-down-same : (b : Book) (d : Colouring) (x : Atoms) (t p : Pick) (f g : Colouring → Colouring)
+down-same : (b : Book) (d : Tables) (x : Atoms) (t p : Pick) (f g : Tables → Tables)
     → ((y : Side) (r : RuleNo) → p ≡ one r → f (chosen y r d) ≡ g (chosen y r d)) → afterDown b d x t p f ≡ afterDown b d x t p g
 unfolding afterDown
 down-same b d x (one q) p f g h = refl
@@ -39,21 +39,21 @@ down-same b d x none (one r) f g h = h (sideOf (generating b x r)) r refl
 
 module _ (b : Book) (fits : count b ≤ 255) (x : Atoms) where
   -- enough levels are as good as more
-  down-fuel : (m n : ℕ) (c : Colouring) → Sized c → left b c < m → left b c < n → downIn m b c x ≡ downIn n b c x
+  down-fuel : (m n : ℕ) (c : Tables) → Sized c → left b c < m → left b c < n → downIn m b c x ≡ downIn n b c x
   unfolding downIn
   down-fuel zero n c s h k = absurd (omega arith)
   down-fuel (suc m) zero c s h k = absurd (omega arith)
   down-fuel (suc m) (suc n) c s h k = down-same b _ x _ _ _ _ (λ y r e.
       let g = below-left b fits c s y r e in down-fuel m n _ (below-sized b fits c s y r e) (omega arith) (omega arith))
 
-  down-unfold : (c : Colouring) → Sized c → down b c x
+  down-unfold : (c : Tables) → Sized c → down b c x
       ≡ afterDown b (close b c) x (clashed b (pair (close b c))) (lowest b (uncoloured (pair (close b c)))) (λ e. down b e x)
   unfolding down downIn
   down-unfold c s = down-same b _ x _ _ _ _ (λ y r e.
       down-fuel (count b) (suc (count b)) _ (below-sized b fits c s y r e)
       (omega (arith, below-left b fits c s y r e, left-count b c)) (omega (arith, below-left b fits c s y r e, left-count b c)))
 
-module _ {b : Book} {c d : Colouring} (x : Atoms) where
+module _ {b : Book} {c d : Tables} (x : Atoms) where
   down-of : Closes b c d → down b c x ≡ afterDown b d x (clashed b (pair d)) (lowest b (uncoloured (pair d))) (λ e. down b e x)
   down-of k = rw (k .closed) (down-unfold b (k .few) x c (k .sized))
 
@@ -71,7 +71,7 @@ module _ {b : Book} {c d : Colouring} (x : Atoms) where
 
 -- ---- the way to a reading of the walk
 
-pub reading-in : (b : Book) (es : List Event) (d : Colouring) → List·Memᴰ (reading d) es → List·Memᴰ (readingOf b d) (readingsIn b es)
+pub reading-in : (b : Book) (es : List Event) (d : Tables) → List·Memᴰ (reading d) es → List·Memᴰ (readingOf b d) (readingsIn b es)
 unfolding readingsIn
 reading-in b [] d m = absurd (List·Memᴰ·not-nil m)
 reading-in b (clash r ∷ es) d m = ⊎-elim (λ e. apart (cc)) (reading-in b es d) (List·Memᴰ·cases-cons m)
@@ -80,7 +80,7 @@ reading-in b (reading e ∷ es) d m = ⊎-elim
     (λ q. let z : d ≡ e = cc in List·Memᴰ·head (ap (readingOf b) z)) (λ n. List·Memᴰ·tail (reading-in b es d n)) (List·Memᴰ·cases-cons m)
 
 module _ {b : Book} where
-  walk-down : {c : Colouring} {es : List Event} → Walk b c es → (d : Colouring) → List·Memᴰ (reading d) es → down b c (readingOf b d) ≡ d
+  walk-down : {c : Tables} {es : List Event} → Walk b c es → (d : Tables) → List·Memᴰ (reading d) es → down b c (readingOf b d) ≡ d
   unfolding sideOf
   walk-down (at-clash k t) d m = ⊎-elim (λ e. apart (cc)) (λ i. absurd (List·Memᴰ·not-nil i)) (List·Memᴰ·cases-cons m)
   walk-down (at-reading {d = e} k t p) d m = ⊎-elim
@@ -107,7 +107,7 @@ module _ (b : Book) (fits : count b ≤ 255) where
 -- ---- what the code keeps to on its way down
 
 -- the side of a rule, by the test whether it generates the set
-module _ (b : Book) (x : Atoms) (r : RuleNo) (d : Colouring) {e : Colouring} {g : Bool} (q : g ≡ generating b x r) where
+module _ (b : Book) (x : Atoms) (r : RuleNo) (d : Tables) {e : Tables} {g : Bool} (q : g ≡ generating b x r) where
   pub follow-on : g ≡ true → e ≡ chosen onSide r d → e ≡ chosen (sideOf (generating b x r)) r d
   unfolding sideOf
   follow-on t f = rw (sym q ∙ t) f
@@ -116,15 +116,15 @@ module _ (b : Book) (x : Atoms) (r : RuleNo) (d : Colouring) {e : Colouring} {g 
   unfolding sideOf
   follow-off t f = rw (sym q ∙ t) f
 
-pub record Descends (b : Book) (x : Atoms) (c : Colouring) : Type 0 where
+pub record Descends (b : Book) (x : Atoms) (c : Tables) : Type 0 where
   pub sized : Sized c
   pub shallow : Shallow b c
   pub leads : down b nothing x ≡ down b c x
 
-pub descends-start : (b : Book) (x : Atoms) {c : Colouring} → Shallow b c → c ≡ nothing → Descends b x c
-descends-start b x h e = record { sized = rw e sized-nothing; shallow = h; leads = ap (λ (c : Colouring). down b c x) (sym e) }
+pub descends-start : (b : Book) (x : Atoms) {c : Tables} → Shallow b c → c ≡ nothing → Descends b x c
+descends-start b x h e = record { sized = rw e sized-nothing; shallow = h; leads = ap (λ (c : Tables). down b c x) (sym e) }
 
-module _ {b : Book} {x : Atoms} {c d : Colouring} (k : Descends b x c) where
+module _ {b : Book} {x : Atoms} {c d : Tables} (k : Descends b x c) where
   pub descends-clash : Closes b c d → {r : RuleNo} → clashed b (pair d) ≡ one r → d ≡ down b nothing x
   descends-clash j t = sym (k .leads ∙ down-clash x j t)
 
@@ -132,10 +132,10 @@ module _ {b : Book} {x : Atoms} {c d : Colouring} (k : Descends b x c) where
   descends-reading j t p = sym (k .leads ∙ down-reading x j t p)
 
   -- each choice leaves fewer rules without a colour
-  pub descends-falls : {r : RuleNo} → Forks b c d r → {e : Colouring} → e ≡ chosen (sideOf (generating b x r)) r d → left b e < left b c
+  pub descends-falls : {r : RuleNo} → Forks b c d r → {e : Tables} → e ≡ chosen (sideOf (generating b x r)) r d → left b e < left b c
   descends-falls {r} f g = rw g (fork-falls f (sideOf (generating b x r)))
 
-  pub descends-fork : {r : RuleNo} → Forks b c d r → {e : Colouring} → e ≡ chosen (sideOf (generating b x r)) r d → Descends b x e
+  pub descends-fork : {r : RuleNo} → Forks b c d r → {e : Tables} → e ≡ chosen (sideOf (generating b x r)) r d → Descends b x e
   descends-fork {r} f g = rw g (record {
     sized = sized-chosen (sideOf (generating b x r)) r d-sized;
     shallow = fork-shallow f (k .shallow) (sideOf (generating b x r));

@@ -7,7 +7,7 @@ use mathlib.Core.List.{List, [], _∷_, _++_}
 use Prim.Native.Nat.{ℕ, zero, suc, _≤_, _<_}
 use native.Mathlib.Omega.{arith}
 use Rattle.meaning.specs.declared.RuleNo.{RuleNo}
-use Rattle.meaning.specs.declared.colouring.Colouring.{Colouring}
+use Rattle.meaning.specs.Written.{Tables}
 use Rattle.meaning.specs.Books.{Atoms, Book, InBook, count}
 use Rattle.meaning.specs.AnswerSet.{generating}
 use Rattle.meaning.specs.Colours.{Side, onSide, offSide, uncoloured}
@@ -22,14 +22,14 @@ use Rattle.walk.specs.Events.{Event, clash, fork, reading, after, afterC
 use Rattle.closing.proofs.Left.{left-count, left-chosen, left-close, shallow-chosen}
 
 -- what comes after a closing needs the walk below only where it goes on
-after-same : (d : Colouring) (t p : Pick) (f g : Colouring → List Event)
+after-same : (d : Tables) (t p : Pick) (f g : Tables → List Event)
     → ((x : Side) (r : RuleNo) → p ≡ one r → f (chosen x r d) ≡ g (chosen x r d)) → after d t p f ≡ after d t p g
 unfolding after
 after-same d (one q) p f g h = refl
 after-same d none none f g h = refl
 after-same d none (one r) f g h = let k = h onSide r refl in let l = h offSide r refl in rw (k, l)
 
-past-same : (b : Book) (d : Colouring) (x : Atoms) (t p : Pick) (f g : Colouring → List Event)
+past-same : (b : Book) (d : Tables) (x : Atoms) (t p : Pick) (f g : Tables → List Event)
     → ((y : Side) (r : RuleNo) → p ≡ one r → f (chosen y r d) ≡ g (chosen y r d)) → afterPast b d x t p f ≡ afterPast b d x t p g
 unfolding afterPast
 past-same b d x (one q) p f g h = refl
@@ -38,7 +38,7 @@ past-same b d x none (one r) f g h = let k = h onSide r refl in let l = h offSid
 
 module _ (b : Book) (fits : count b ≤ 255) where
   -- one level down
-  module _ (c : Colouring) (s : Sized c) (x : Side) (r : RuleNo) (e : lowest b (uncoloured (pair (close b c))) ≡ one r) where
+  module _ (c : Tables) (s : Sized c) (x : Side) (r : RuleNo) (e : lowest b (uncoloured (pair (close b c))) ≡ one r) where
     pub below-sized : Sized (chosen x r (close b c))
     below-sized = sized-chosen x r (close-sized b fits c s)
 
@@ -50,31 +50,31 @@ module _ (b : Book) (fits : count b ≤ 255) where
 
   -- ---- enough levels are as good as more
 
-  events-fuel : (m n : ℕ) (c : Colouring) → Sized c → left b c < m → left b c < n → eventsIn m b c ≡ eventsIn n b c
+  events-fuel : (m n : ℕ) (c : Tables) → Sized c → left b c < m → left b c < n → eventsIn m b c ≡ eventsIn n b c
   unfolding eventsIn
   events-fuel zero n c s h k = absurd (omega arith)
   events-fuel (suc m) zero c s h k = absurd (omega arith)
   events-fuel (suc m) (suc n) c s h k = after-same _ _ _ _ _ (λ x r e.
       let g = below-left c s x r e in events-fuel m n _ (below-sized c s x r e) (omega arith) (omega arith))
 
-  pub events-enough : (n : ℕ) (c : Colouring) → Sized c → left b c < n → eventsIn n b c ≡ events b c
+  pub events-enough : (n : ℕ) (c : Tables) → Sized c → left b c < n → eventsIn n b c ≡ events b c
   unfolding events
   events-enough n c s h = events-fuel n (suc (count b)) c s h (omega (arith, left-count b c))
 
-  rest-fuel : (m n : ℕ) (c : Colouring) (x : Atoms) → Sized c → left b c < m → left b c < n → restIn m b c x ≡ restIn n b c x
+  rest-fuel : (m n : ℕ) (c : Tables) (x : Atoms) → Sized c → left b c < m → left b c < n → restIn m b c x ≡ restIn n b c x
   unfolding restIn
   rest-fuel zero n c x s h k = absurd (omega arith)
   rest-fuel (suc m) zero c x s h k = absurd (omega arith)
   rest-fuel (suc m) (suc n) c x s h k = past-same _ _ _ _ _ _ _ (λ y r e.
       let g = below-left c s y r e in rest-fuel m n _ x (below-sized c s y r e) (omega arith) (omega arith))
 
-  pub rest-enough : (n : ℕ) (c : Colouring) (x : Atoms) → Sized c → left b c < n → restIn n b c x ≡ rest b c x
+  pub rest-enough : (n : ℕ) (c : Tables) (x : Atoms) → Sized c → left b c < n → restIn n b c x ≡ rest b c x
   unfolding rest
   rest-enough n c x s h = rest-fuel n (suc (count b)) c x s h (omega (arith, left-count b c))
 
   -- ---- the first closing, and then the rest
 
-  module _ (c : Colouring) (s : Sized c) where
+  module _ (c : Tables) (s : Sized c) where
     pub events-unfold : events b c ≡ afterClosing b (close b c) (events b)
     unfolding events eventsIn
     events-unfold = after-same _ _ _ _ _ (λ x r e.
@@ -89,18 +89,18 @@ module _ (b : Book) (fits : count b ≤ 255) where
 -- ---- the three ways after a closing
 
 -- a colouring c of a book that has at most 255 rules, closed to d
-pub record Closes (b : Book) (c d : Colouring) : Type 0 where
+pub record Closes (b : Book) (c d : Tables) : Type 0 where
   pub few : count b ≤ 255
   pub sized : Sized c
   pub closed : d ≡ close b c
 
 -- such a closing has no contradiction and leaves r to choose
-pub record Forks (b : Book) (c d : Colouring) (r : RuleNo) : Type 0 where
+pub record Forks (b : Book) (c d : Tables) (r : RuleNo) : Type 0 where
   pub closes : Closes b c d
   pub calm : clashed b (pair d) ≡ none
   pub choice : lowest b (uncoloured (pair d)) ≡ one r
 
-module _ {b : Book} {c d : Colouring} where
+module _ {b : Book} {c d : Tables} where
   module _ (k : Closes b c d) where
     events-of : events b c ≡ afterClosing b d (events b)
     events-of = rw (k .closed) (events-unfold b (k .few) c (k .sized))
@@ -180,24 +180,24 @@ module _ {b : Book} {c d : Colouring} where
 
 -- ---- how a walk's events are built up
 
-pub data Walk (b : Book) : Colouring → List Event → Type 0 where
-  at-clash : {c d : Colouring} {r : RuleNo} → Closes b c d → clashed b (pair d) ≡ one r → Walk b c (clash r ∷ [])
-  at-reading : {c d : Colouring} → Closes b c d → clashed b (pair d) ≡ none → lowest b (uncoloured (pair d)) ≡ none
+pub data Walk (b : Book) : Tables → List Event → Type 0 where
+  at-clash : {c d : Tables} {r : RuleNo} → Closes b c d → clashed b (pair d) ≡ one r → Walk b c (clash r ∷ [])
+  at-reading : {c d : Tables} → Closes b c d → clashed b (pair d) ≡ none → lowest b (uncoloured (pair d)) ≡ none
       → Walk b c (reading d ∷ [])
-  at-fork : {c d : Colouring} {r : RuleNo} → Forks b c d r
+  at-fork : {c d : Tables} {r : RuleNo} → Forks b c d r
       → Walk b (chosen onSide r d) (events b (chosen onSide r d)) → Walk b (chosen offSide r d) (events b (chosen offSide r d))
       → Walk b c (fork r ∷ (events b (chosen onSide r d) ++ events b (chosen offSide r d)))
 
 module _ (b : Book) (fits : count b ≤ 255) where
-  pub walks : (c : Colouring) → Sized c → Walk b c (events b c)
+  pub walks : (c : Tables) → Sized c → Walk b c (events b c)
   walks c s = down (suc (left b c)) c s (omega arith)
     where
-      down : (n : ℕ) (c : Colouring) → Sized c → left b c < n → Walk b c (events b c)
+      down : (n : ℕ) (c : Tables) → Sized c → left b c < n → Walk b c (events b c)
       down zero c s h = absurd (omega arith)
       down (suc n) c s h = ways (clashed b (pair d)) refl (lowest b (uncoloured (pair d))) refl
           (λ x r e. down n _ (below-sized b fits c s x r e) (omega (arith, below-left b fits c s x r e)))
         where
-          d : Colouring
+          d : Tables
           d = close b c
 
           here : Closes b c d

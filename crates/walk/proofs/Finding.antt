@@ -7,7 +7,7 @@ use Prim.Native.Nat.{ℕ, _+_, _-_, _≤_, _<_}
 use native.Mathlib.Nat.{zero-add, zero-mul}
 use native.Mathlib.Omega.{arith}
 use lib.ListN.{length, drop, length-append}
-use Rattle.meaning.specs.declared.colouring.Colouring.{Colouring}
+use Rattle.meaning.specs.Written.{Tables}
 use Rattle.meaning.specs.Books.{Atoms, Book}
 use Rattle.meaning.specs.Told.{fewer, stopped, refused, Answered}
 use Rattle.meaning.specs.Written.{nothing}
@@ -50,7 +50,7 @@ module _ (b : Book) (k limit : ℕ) (answer : List ℕ) where
         (kth-or-fewer b k some)
 
     -- the k-th reading was met: its row stands in front
-    row-written : (s : State) (d : Colouring) → s .tally .sets + 1 ≡ k → s .out ≡ answer
+    row-written : (s : State) (d : Tables) → s .tally .sets + 1 ≡ k → s .out ≡ answer
         → step b wanted s (reading d) .out ≡ rowOf b (readingOf b d) ++ drop (b .atoms) answer
     unfolding step
     row-written s d e o =

@@ -5,7 +5,7 @@ use mathlib.Core.Bool.{Bool, true, false, false≢true}
 use mathlib.Core.List.{List, [], _∷_}
 use Prim.Native.Nat.{_≤_}
 use Rattle.meaning.specs.declared.RuleNo.{RuleNo}
-use Rattle.meaning.specs.declared.colouring.Colouring.{Colouring}
+use Rattle.meaning.specs.Written.{Tables}
 use Rattle.meaning.specs.Books.{Book, count}
 use Rattle.meaning.specs.Written.{nothing}
 use Rattle.meaning.specs.Computed.{close}
@@ -22,7 +22,7 @@ clashesFirst (clash r ∷ es) = true
 clashesFirst (fork r ∷ es) = false
 clashesFirst (reading d ∷ es) = false
 
-calm-after : (d : Colouring) (p : Pick) (f : Colouring → List Event) → clashesFirst (after d none p f) ≡ false
+calm-after : (d : Tables) (p : Pick) (f : Tables → List Event) → clashesFirst (after d none p f) ≡ false
 unfolding after clashesFirst
 calm-after d none f = refl
 calm-after d (one r) f = refl

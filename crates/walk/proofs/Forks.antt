@@ -7,7 +7,7 @@ use Prim.Native.Nat.{_<_}
 use native.Mathlib.Omega.{arith}
 use borrow.Author.Tests.{not-true}
 use Rattle.meaning.specs.declared.RuleNo.{RuleNo}
-use Rattle.meaning.specs.declared.colouring.Colouring.{Colouring}
+use Rattle.meaning.specs.Written.{Tables}
 use Rattle.meaning.specs.Sets.{_∈_, _∉_}
 use Rattle.meaning.specs.Books.{Atoms, Book, InBook}
 use Rattle.meaning.specs.AnswerSet.{AnswerSet, generating}
@@ -26,7 +26,7 @@ use Rattle.closing.proofs.Left.{chosen-above, chosen-within, chosen-in}
 use Rattle.walk.proofs.Events.{Closes, Forks, fork-in-book, fork-low}
 
 -- x is an answer set, and the colouring that stands for it holds c
-pub record Stands (b : Book) (c : Colouring) (x : Atoms) : Type 0 where
+pub record Stands (b : Book) (c : Tables) (x : Atoms) : Type 0 where
   pub answer : AnswerSet b x
   pub holds : Within b (pair c) (colouringOf b x)
 
@@ -38,7 +38,7 @@ stands-nothing b x p = record {
       (within-both b (λ r h m. absurd (false≢true m)) (λ r h m. absurd (false≢true m)));
 }
 
-module _ {b : Book} {c d : Colouring} where
+module _ {b : Book} {c d : Tables} where
   module _ (k : Closes b c d) where
     closing : Closing b (pair c) (pair d)
     closing = rw (k .closed) (close-is b (k .few) c (k .sized))

@@ -13,7 +13,8 @@ use Rattle.meaning.proofs.Tests.{lt-or-le, refuted}
 use Rattle.meaning.proofs.Rules.{heads-by}
 use Rattle.book.specs.declared.reader.Shape.{Shape}
 use Rattle.book.specs.Format.{bookIn, ReadAs}
-use Rattle.book.specs.Tables.{tableFrom, atomTable, atomsIn}
+use Rattle.meaning.specs.Bits.{tableFrom}
+use Rattle.book.specs.Tables.{atomTable, atomsIn}
 use Rattle.book.proofs.AtomSets.{table-in}
 use Rattle.book.proofs.Places.{in-shape, head-below}
 

@@ -11,7 +11,7 @@ use lib.ListN.{length, getD, take, drop, set, replicate, List·getD-append, List
 use lib.Seq.{paste, length-take-le, getD-take, getD-drop, getD-append-add}
 use types.Run.{OneOf}
 use denote.Enum.Declared.{tagOf}
-use Rattle.meaning.specs.declared.colouring.Colouring.{Colouring}
+use Rattle.meaning.specs.Written.{Tables}
 use Rattle.meaning.specs.Books.{Atoms, Book, count}
 use Rattle.meaning.specs.Told.{Told, refusedAt, refused, Answered}
 use Rattle.meaning.specs.Buffers.{writeAt}
@@ -95,7 +95,7 @@ module _ (s : List ℕ) (h : Shape) (e : ReadAs s h) (k limit : ℕ) (out : List
       pub levels-other : OneOf (0 ∷ (2 ∷ [])) (tagOf the-type (t .halt)) → record { told = r; buffer = out } ≡ levelsIn (bookIn s) k limit out
       levels-other o = rw (full-told b (t .halt) row out o) at levels-walked
 
-      pub levels-full : t .halt ≡ Full → {d : Colouring} → d ≡ down (bookIn s) nothing (setIn row) → {w : List ℕ}
+      pub levels-full : t .halt ≡ Full → {d : Tables} → d ≡ down (bookIn s) nothing (setIn row) → {w : List ℕ}
           → w ≡ writeAt 0 (take (h .rules) (d .levels)) out → record { told = r; buffer = w } ≡ levelsIn (bookIn s) k limit out
       unfolding levelsBy
       levels-full o {d} q {w} z =
@@ -179,7 +179,7 @@ module _ (b : Book) (fits : count b ≤ 255) (small : b .atoms ≤ 255) (proper 
           ∙ sym (List·getD-eq-default (rowOf b x) 0 g))
           (lt-or-le i (b .atoms))
 
-  sets-in : {d : Colouring} → List·Memᴰ (reading d) (events b nothing) → List·Memᴰ (readingOf b d) (readings b)
+  sets-in : {d : Tables} → List·Memᴰ (reading d) (events b nothing) → List·Memᴰ (readingOf b d) (readings b)
   unfolding readings
   sets-in {d} m = reading-in b (events b nothing) d m
 
@@ -202,6 +202,6 @@ module _ (b : Book) (fits : count b ≤ 255) (small : b .atoms ≤ 255) (proper 
       length-take-le (count b) (c .found .levels) (omega (arith, node-sized b fits (reading-node b fits (c .found) member .1) .levels)) in
       ap (λ (a : Answered ℕ). a .buffer) levels-walk
       ∙ ap (λ (h : Halt). levelsBy b h (walked .out) out) full
-      ∙ ap (λ (d : Colouring). writeAt 0 (take (count b) (d .levels)) out) way
+      ∙ ap (λ (d : Tables). writeAt 0 (take (count b) (d .levels)) out) way
       ∙ write-front (take (count b) (c .found .levels)) out
       ∙ ap (λ (n : ℕ). take (count b) (c .found .levels) ++ drop n out) long

@@ -6,7 +6,7 @@ use Prim.Native.Nat.{ℕ, zero, suc, _+_, _-_, _≤_, _<_}
 use native.Mathlib.Omega.{arith}
 use lib.ListN.{length, length-append}
 use lib.Seq.{append-snoc}
-use Rattle.meaning.specs.declared.colouring.Colouring.{Colouring}
+use Rattle.meaning.specs.Written.{Tables}
 use Rattle.meaning.specs.Books.{Atoms, Book, count}
 use Rattle.meaning.specs.Told.{success, Answered}
 use Rattle.meaning.specs.Written.{nothing}
@@ -44,7 +44,7 @@ unfolding eventsFrom
 later-events b zero x h = absurd (omega arith)
 later-events b (suc n) x h = refl
 
-full-last-row : (b : Book) (out : List ℕ) (more : List Event) (d : Colouring) (room : ℕ) → amount b more + 1 ≡ room
+full-last-row : (b : Book) (out : List ℕ) (more : List Event) (d : Tables) (room : ℕ) → amount b more + 1 ≡ room
     → lastRow b room (filled b out (readingsIn b (more ++ (reading d ∷ [])))) ≡ rowOf b (readingOf b d)
 unfolding readingsIn
 full-last-row b out more d room e =
@@ -73,7 +73,7 @@ pub record Cut (b : Book) (limit : ℕ) (out : List ℕ) (done todo : List Event
 module _ (b : Book) (fits : count b ≤ 255) (limit n : ℕ) (row out : List ℕ) where
   module _ {done todo : List Event} (l : Listed b n row done todo) where
     -- the page ended at the reading of d
-    module _ (more : List Event) (d : Colouring) (later : List Event) (q : todo ≡ more ++ (reading d ∷ later)) where
+    module _ (more : List Event) (d : Tables) (later : List Event) (q : todo ≡ more ++ (reading d ∷ later)) where
       full-walk : events b nothing ≡ (done ++ more) ++ (reading d ∷ later)
       full-walk = l .walk ∙ ap (λ (es : List Event). done ++ es) q ∙ sym (append-assoc done more (reading d ∷ later))
 

@@ -7,7 +7,7 @@ use Prim.Native.Nat.{ℕ, zero, suc, _+_, _-_, _≤_, _<_}
 use native.Mathlib.Omega.{arith}
 use lib.ListN.{length, getD, take, drop, length-append}
 use lib.Seq.{getD-at, take-at, drop-at, take-append-seam, take-append-add}
-use Rattle.meaning.specs.declared.colouring.Colouring.{Colouring}
+use Rattle.meaning.specs.Written.{Tables}
 use Rattle.meaning.specs.Books.{Atoms, Book}
 use Rattle.meaning.specs.Written.{nothing}
 use Rattle.meaning.proofs.Tests.{lt-or-le}
@@ -24,11 +24,11 @@ module _ (b : Book) where
   amount-append : (es fs : List Event) → amount (es ++ fs) ≡ amount es + amount fs
   amount-append es fs = rw readings-append (length-append (readingsIn b es) (readingsIn b fs))
 
-  amount-reading : (d : Colouring) (es : List Event) → amount (reading d ∷ es) ≡ suc (amount es)
+  amount-reading : (d : Tables) (es : List Event) → amount (reading d ∷ es) ≡ suc (amount es)
   unfolding readingsIn
   amount-reading d es = refl
 
-  pub amount-last : (es : List Event) (d : Colouring) → amount (es ++ (reading d ∷ [])) ≡ amount es + 1
+  pub amount-last : (es : List Event) (d : Tables) → amount (es ++ (reading d ∷ [])) ≡ amount es + 1
   unfolding readingsIn
   amount-last es d = amount-append es (reading d ∷ [])
 
@@ -36,7 +36,7 @@ module _ (b : Book) where
 
   pub record Met (es : List Event) (k : ℕ) : Type 0 where
     pub earlier : List Event
-    pub found : Colouring
+    pub found : Tables
     pub later : List Event
     pub walk : es ≡ earlier ++ (reading found ∷ later)
     pub number : k ≡ amount earlier + 1
@@ -63,7 +63,7 @@ module _ (b : Book) where
   -- ---- two ways to part one list of events
 
   -- a reading behind e is among the events of a longer beginning f
-  pub parted-more : (e : List Event) (d : Colouring) (later f es : List Event) → e ++ (reading d ∷ later) ≡ f ++ es → length e < length f
+  pub parted-more : (e : List Event) (d : Tables) (later f es : List Event) → e ++ (reading d ∷ later) ≡ f ++ es → length e < length f
       → amount e < amount f
   parted-more e d later f es q h =
       let n = length f - suc (length e) in

@@ -13,7 +13,7 @@ use native.Mathlib.Omega.{arith}
 use lib.ListN.{getD-replicate}
 use borrow.Author.Tests.{lt-ltb, le-ltb}
 use Rattle.meaning.specs.declared.RuleNo.{RuleNo}
-use Rattle.meaning.specs.declared.colouring.Colouring.{Colouring}
+use Rattle.meaning.specs.Written.{Tables}
 use Rattle.meaning.specs.Sets.{_∈_, _∉_}
 use Rattle.meaning.specs.Books.{Atoms, Book, count, InBook}
 use Rattle.meaning.specs.AnswerSet.{AnswerSet}
@@ -45,8 +45,8 @@ with-true false = refl
 module _ (b : Book) (fits : count b ≤ 255) where
   -- ---- one choice and the closing behind it
 
-  module _ (d : Colouring) (sized : Sized d) (q : RuleNo) (e : lowest b (uncoloured (pair d)) ≡ one q) (x : Side) where
-    abbrev c : Colouring
+  module _ (d : Tables) (sized : Sized d) (q : RuleNo) (e : lowest b (uncoloured (pair d)) ≡ one q) (x : Side) where
+    abbrev c : Tables
     c = chosen x q d
 
     low : q .0 < 255
@@ -95,17 +95,17 @@ module _ (b : Book) (fits : count b ≤ 255) where
 
   -- ---- the closed colourings of the walk
 
-  pub node-sized : {n : ℕ} {d : Colouring} → Node b n d → Sized d
+  pub node-sized : {n : ℕ} {d : Tables} → Node b n d → Sized d
   node-sized at-first = close-sized b fits nothing sized-nothing
   node-sized (below {r = r} k t p x) = close-sized b fits _ (sized-chosen x r (node-sized k))
 
   -- V1: as many levels as choices, and there are rules enough for them
-  pub level-counts : {n : ℕ} {d : Colouring} → Node b n d → d .level ≡ n
+  pub level-counts : {n : ℕ} {d : Tables} → Node b n d → d .level ≡ n
   level-counts at-first = close-level b nothing
   level-counts (below {d = d} {r = r} k t p x) =
       close-level b (chosen x r d) ∙ chosen-level b x r d ∙ add-one (d .level) ∙ ap suc (level-counts k)
 
-  pub level-left : {n : ℕ} {d : Colouring} → Node b n d → n + left b d ≤ count b
+  pub level-left : {n : ℕ} {d : Tables} → Node b n d → n + left b d ≤ count b
   level-left at-first = omega (arith, left-count b (close b nothing))
   level-left (below {d = d} {r = r} k t p x) =
       let (h, m, f) = lowest-one b _ r p in let s = node-sized k in
@@ -122,7 +122,7 @@ module _ (b : Book) (fits : count b ≤ 255) where
       (decided (newly (pair nothing) (pair (close b nothing)) r))
 
   -- V2: no level is above the present one
-  pub level-most : {n : ℕ} {d : Colouring} → Node b n d → (r : RuleNo) → InBook b r → levelOf d r ≤ n
+  pub level-most : {n : ℕ} {d : Tables} → Node b n d → (r : RuleNo) → InBook b r → levelOf d r ≤ n
   level-most at-first r h = omega (arith, first-level r h)
   level-most (below {n = n} {d = d} {r = q} k t p x) r h =
       let s = node-sized k in let u = level-counts k in let v = level-most k r h in ⊎-elim
@@ -132,12 +132,12 @@ module _ (b : Book) (fits : count b ≤ 255) where
       (decided (uncoloured (pair d) r))
 
   -- V3: a chosen rule has the level of its choice
-  pub level-chosen : {n : ℕ} {d : Colouring} {r : RuleNo} → Node b n d → lowest b (uncoloured (pair d)) ≡ one r → (x : Side)
+  pub level-chosen : {n : ℕ} {d : Tables} {r : RuleNo} → Node b n d → lowest b (uncoloured (pair d)) ≡ one r → (x : Side)
       → levelOf (close b (chosen x r d)) r ≡ n + 1
   level-chosen {d = d} {r = r} k p x = level-of-choice d (node-sized k) r p x ∙ ap (λ (m : ℕ). m + 1) (level-counts k)
 
   -- a rule without a colour has 0
-  pub level-none : {n : ℕ} {d : Colouring} → Node b n d → (r : RuleNo) → InBook b r → r ∈ uncoloured (pair d) → levelOf d r ≡ 0
+  pub level-none : {n : ℕ} {d : Tables} → Node b n d → (r : RuleNo) → InBook b r → r ∈ uncoloured (pair d) → levelOf d r ≡ 0
   level-none at-first r h m = first-level r h
   level-none (below {d = d} {r = q} k t p x) r h m =
       let s = node-sized k in let u = uncoloured-mono b (choice-grows d s q p x) r h m in
@@ -145,12 +145,12 @@ module _ (b : Book) (fits : count b ≤ 255) where
 
   -- ---- above and below
 
-  pub down-node : {m : ℕ} {d e : Colouring} → Node b m d → Down b d e → (n : ℕ) × Node b n e × (m ≤ n)
+  pub down-node : {m : ℕ} {d e : Tables} → Node b m d → Down b d e → (n : ℕ) × Node b n e × (m ≤ n)
   down-node {m} k here = (m, k, omega arith)
   down-node k (deeper w t p x) = let (n, j, h) = down-node k w in (suc n, below j t p x, omega arith)
 
   -- for every level up to the present one a closed colouring stands above on the walk
-  pub node-above : {n : ℕ} {e : Colouring} → Node b n e → (m : ℕ) → m ≤ n → (d : Colouring) × Node b m d × Down b d e
+  pub node-above : {n : ℕ} {e : Tables} → Node b n e → (m : ℕ) → m ≤ n → (d : Tables) × Node b m d × Down b d e
   node-above at-first m h =
       let z : m ≡ 0 = omega arith in
       (close b nothing, subst (λ (j : ℕ). Node b j (close b nothing)) (sym z) at-first, here)
@@ -161,12 +161,12 @@ module _ (b : Book) (fits : count b ≤ 255) where
       (λ z. let (e, j, w) = node-above k m (omega arith) in (e, j, deeper w t p x))
       (eq-or-lt-of-le h)
 
-  pub node-first : {d : Colouring} → Node b 0 d → d ≡ close b nothing
+  pub node-first : {d : Tables} → Node b 0 d → d ≡ close b nothing
   node-first at-first = refl
 
   -- ---- V4: dropping the rules above a level
 
-  module _ (m : ℕ) (e : Colouring) where
+  module _ (m : ℕ) (e : Tables) where
     kept-low : (l : List Bool) (r : RuleNo) → levelOf e r ≤ m → kept m e l r ≡ of l r
     unfolding kept
     kept-low l r h = rw (le-ltb _ _ h) (with-true (of l r))
@@ -179,11 +179,11 @@ module _ (b : Book) (fits : count b ≤ 255) where
     unfolding kept
     kept-out l r h = not-first _ h
 
-  module _ {m : ℕ} {d : Colouring} (node : Node b m d) where
+  module _ {m : ℕ} {d : Tables} (node : Node b m d) where
     -- what is coloured in e has its colour and its level from above
-    module _ {e : Colouring} {q : RuleNo} (w : Down b d e) (t : clashed b (pair e) ≡ none) (p : lowest b (uncoloured (pair e)) ≡ one q)
+    module _ {e : Tables} {q : RuleNo} (w : Down b d e) (t : clashed b (pair e) ≡ none) (p : lowest b (uncoloured (pair e)) ≡ one q)
         (x : Side) (calm : clashed b (pair (close b (chosen x q e))) ≡ none) where
-      abbrev lower : Colouring
+      abbrev lower : Tables
       lower = close b (chosen x q e)
 
       e-sized : Sized e
@@ -225,7 +225,7 @@ module _ (b : Book) (fits : count b ≤ 255) where
       drop-same offSide r h = kept-same (e .off) (lower .off) r h (side-stays offSide r h)
           (λ u. refuted (λ i. true-and-false u (coloured offSide (pair e) r i))) (λ i. coloured offSide (pair lower) r i)
 
-    pub drop-again : {e : Colouring} → Down b d e → clashed b (pair e) ≡ none → (x : Side) (r : RuleNo) → InBook b r
+    pub drop-again : {e : Tables} → Down b d e → clashed b (pair e) ≡ none → (x : Side) (r : RuleNo) → InBook b r
         → side x (dropped m e) r ≡ side x (pair d) r
     unfolding side
     drop-again here calm onSide r h = kept-low m d (d .on) r (level-most node r h)
@@ -233,24 +233,24 @@ module _ (b : Book) (fits : count b ≤ 255) where
     drop-again (deeper w t p y) calm x r h = drop-same w t p y calm x r h ∙ drop-again w t x r h
 
     -- a rule that is coloured in d keeps its level below
-    level-stays : {e : Colouring} → Down b d e → (r : RuleNo) → InBook b r → r ∉ uncoloured (pair d) → levelOf e r ≡ levelOf d r
+    level-stays : {e : Tables} → Down b d e → (r : RuleNo) → InBook b r → r ∉ uncoloured (pair d) → levelOf e r ≡ levelOf d r
     level-stays here r h n = refl
     level-stays (deeper {r = q} w t p x) r h n =
         let s = node-sized (down-node node w .1) in
         level-kept _ s q p x r h (refuted (λ u. true-and-false (down-grows w r h u) n)) ∙ level-stays w r h n
       where
-        down-grows : {e : Colouring} → Down b d e → (r : RuleNo) → InBook b r → r ∈ uncoloured (pair e) → r ∈ uncoloured (pair d)
+        down-grows : {e : Tables} → Down b d e → (r : RuleNo) → InBook b r → r ∈ uncoloured (pair e) → r ∈ uncoloured (pair d)
         down-grows here r h u = u
         down-grows (deeper {r = q} w t p x) r h u =
             down-grows w r h (uncoloured-mono b (choice-grows _ (node-sized (down-node node w .1)) q p x) r h u)
 
-    uncoloured-again : {e : Colouring} → Down b d e → clashed b (pair e) ≡ none → (r : RuleNo) → InBook b r
+    uncoloured-again : {e : Tables} → Down b d e → clashed b (pair e) ≡ none → (r : RuleNo) → InBook b r
         → uncoloured (dropped m e) r ≡ uncoloured (pair d) r
     unfolding uncoloured side
     uncoloured-again w calm r h = rw (drop-again w calm onSide r h, drop-again w calm offSide r h)
 
     -- the levels too: what is dropped has 0 there
-    pub drop-levels : {e : Colouring} → Down b d e → clashed b (pair e) ≡ none → (r : RuleNo) → InBook b r
+    pub drop-levels : {e : Tables} → Down b d e → clashed b (pair e) ≡ none → (r : RuleNo) → InBook b r
         → levelOf d r ≡ ifb (uncoloured (dropped m e) r) 0 (levelOf e r)
     drop-levels w calm r h = let z = uncoloured-again w calm r h in ⊎-elim
         (λ u. level-none node r h u ∙ sym (b-yes _ _ _ (z ∙ u)))
@@ -259,7 +259,7 @@ module _ (b : Book) (fits : count b ≤ 255) where
 
   -- ---- V5: what has level 0 is so in every answer set's colouring
 
-  pub settled-everywhere : {n : ℕ} {e : Colouring} → Node b n e → clashed b (pair e) ≡ none → (x : Side) (r : RuleNo) → InBook b r
+  pub settled-everywhere : {n : ℕ} {e : Tables} → Node b n e → clashed b (pair e) ≡ none → (x : Side) (r : RuleNo) → InBook b r
       → r ∈ side x (pair e) → levelOf e r ≡ 0 → (y : Atoms) → AnswerSet b y → r ∈ side x (colouringOf b y)
   unfolding side
   settled-everywhere {e = e} k calm x r h m z y answer =
@@ -276,7 +276,7 @@ module _ (b : Book) (fits : count b ≤ 255) where
 
   -- ---- V6: every reading of the walk is a closed colouring of it
 
-  walk-node : {c : Colouring} {es : List Event} → Walk b c es → {n : ℕ} → Node b n (close b c) → (d : Colouring)
+  walk-node : {c : Tables} {es : List Event} → Walk b c es → {n : ℕ} → Node b n (close b c) → (d : Tables)
       → List·Memᴰ (reading d) es → (m : ℕ) × Node b m d
   walk-node (at-clash k t) j d m = ⊎-elim (λ e. apart (cc)) (λ i. absurd (List·Memᴰ·not-nil i)) (List·Memᴰ·cases-cons m)
   walk-node (at-reading {d = e} k t p) {n} j d m =
@@ -287,5 +287,5 @@ module _ (b : Book) (fits : count b ≤ 255) where
       (λ u. ⊎-elim (λ z. walk-node v (below i (f .calm) (f .choice) onSide) d z) (λ z. walk-node w (below i (f .calm) (f .choice) offSide) d z)
       (List·Memᴰ·append-cases _ u)) (List·Memᴰ·cases-cons m)
 
-  pub reading-node : (d : Colouring) → List·Memᴰ (reading d) (events b nothing) → (n : ℕ) × Node b n d
+  pub reading-node : (d : Tables) → List·Memᴰ (reading d) (events b nothing) → (n : ℕ) × Node b n d
   reading-node d = walk-node (walks b fits nothing sized-nothing) at-first d

@@ -8,7 +8,7 @@ use Prim.Native.Nat.{ℕ, _+_, _*_, _-_, _≤_, _<_}
 use native.Mathlib.Nat.{zero-add, zero-mul, one-mul, div-mul-le-self, le-div-iff-mul-le, mul-le-mul-right}
 use native.Mathlib.Omega.{arith}
 use lib.ListN.{length, drop}
-use Rattle.meaning.specs.declared.colouring.Colouring.{Colouring}
+use Rattle.meaning.specs.Written.{Tables}
 use Rattle.meaning.specs.Books.{Atoms, Book}
 use Rattle.meaning.specs.Told.{success, refusedAt, refused, Answered}
 use Rattle.meaning.proofs.Choice.{lt-either, eq-either}
@@ -46,7 +46,7 @@ module _ (b : Book) (limit n : ℕ) (row out : List ℕ) where
   pub data Outcome (todo : List Event) : Answered PageEnd → Type 0 where
     all-rows : n + length todo ≤ limit → amount b todo < roomIn b (length out)
         → Outcome todo (record { told = success (last (n + length todo) (amount b todo)); buffer = filled b out (readingsIn b todo) })
-    full-page : (more : List Event) (d : Colouring) (later : List Event) → todo ≡ more ++ (reading d ∷ later)
+    full-page : (more : List Event) (d : Tables) (later : List Event) → todo ≡ more ++ (reading d ∷ later)
         → n + length more < limit → amount b more + 1 ≡ roomIn b (length out)
         → Outcome todo (record { told = success (whole (n + length more + 1)); buffer = filled b out (readingsIn b (more ++ (reading d ∷ []))) })
     limit-met : (more : List Event) (e : Event) (later : List Event) → todo ≡ more ++ (e ∷ later)
@@ -68,7 +68,7 @@ module _ (b : Book) (limit n : ℕ) (row out : List ℕ) where
       let p : (0 - 0) * b .atoms ≡ 0 = zero-mul (b .atoms) in
       gone-writes b wanted start es (omega arith) (omega arith) ∙ ap (λ (i : ℕ). writeAt i l out) p ∙ write-front l out
 
-  full-filled : (more : List Event) (d : Colouring) → amount b (more ++ (reading d ∷ [])) ≤ roomIn b (length out)
+  full-filled : (more : List Event) (d : Tables) → amount b (more ++ (reading d ∷ [])) ≤ roomIn b (length out)
       → step b wanted (gone b wanted start more) (reading d) .out ≡ filled b out (readingsIn b (more ++ (reading d ∷ [])))
   unfolding gone
   full-filled more d h = ap (λ (s : State). s .out) (sym (gone-append b wanted start more (reading d ∷ []))) ∙ gone-filled _ h

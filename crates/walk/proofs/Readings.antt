@@ -7,7 +7,7 @@ use mathlib.Core.List.{List, [], _∷_, _++_, List·Memᴰ, List·Memᴰ·head, 
 use mathlib.Core.List.{Memᴰ·append-left, Memᴰ·append-right, List·Memᴰ·append-cases}
 use Prim.Native.Nat.{ℕ, _≤_, _<_}
 use lib.ListN.{length, getD}
-use Rattle.meaning.specs.declared.colouring.Colouring.{Colouring}
+use Rattle.meaning.specs.Written.{Tables}
 use Rattle.meaning.specs.Books.{Atoms, Book, count}
 use Rattle.meaning.specs.AnswerSet.{generating}
 use Rattle.meaning.specs.Colours.{onSide, offSide, side}
@@ -33,7 +33,7 @@ readings-append b (reading d ∷ es) fs = ap (λ (l : List Atoms). readingOf b d
 -- ---- the readings of a walk
 
 module _ {b : Book} where
-  pub walk-sound : {c : Colouring} {es : List Event} → Walk b c es → (x : Atoms) → List·Memᴰ x (readingsIn b es) → Stands b c x
+  pub walk-sound : {c : Tables} {es : List Event} → Walk b c es → (x : Atoms) → List·Memᴰ x (readingsIn b es) → Stands b c x
   unfolding readingsIn
   walk-sound (at-clash k t) x m = absurd (List·Memᴰ·not-nil m)
   walk-sound (at-reading k t p) x m = rw (List·Memᴰ·eq-of-singleton m) (stands-reading k t p)
@@ -41,7 +41,7 @@ module _ {b : Book} where
       (λ e. side-stands f onSide x (walk-sound v x e)) (λ e. side-stands f offSide x (walk-sound w x e))
       (List·Memᴰ·append-cases _ (rw readings-append at m))
 
-  pub walk-complete : {c : Colouring} {es : List Event} → Walk b c es → (x : Atoms) → Stands b c x
+  pub walk-complete : {c : Tables} {es : List Event} → Walk b c es → (x : Atoms) → Stands b c x
       → (y : Atoms) × List·Memᴰ y (readingsIn b es) × Agree x y
   unfolding readingsIn side
   walk-complete (at-clash k t) x s = absurd (stands-clash k t x s)
@@ -53,7 +53,7 @@ module _ {b : Book} where
       (y, Memᴰ·append-right (readingsIn b (events b (chosen onSide r d))) m, e))
       (decided (generating b x r)))
 
-  pub walk-ordered : {c : Colouring} {es : List Event} → Walk b c es → Ordered b (readingsIn b es)
+  pub walk-ordered : {c : Tables} {es : List Event} → Walk b c es → Ordered b (readingsIn b es)
   unfolding readingsIn
   walk-ordered (at-clash k t) = no-more
   walk-ordered (at-reading k t p) = comes-first (λ y m. absurd (List·Memᴰ·not-nil m)) no-more

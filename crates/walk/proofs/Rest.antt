@@ -7,7 +7,7 @@ use mathlib.Core.List.{Memᴰ·append-right, List·Memᴰ·append-cases}
 use Prim.Native.Nat.{_≤_}
 use native.Mathlib.Omega.{arith}
 use lib.ListN.{length, length-append}
-use Rattle.meaning.specs.declared.colouring.Colouring.{Colouring}
+use Rattle.meaning.specs.Written.{Tables}
 use Rattle.meaning.specs.Books.{Atoms, Book, count}
 use Rattle.meaning.specs.AnswerSet.{generating}
 use Rattle.meaning.specs.Colours.{onSide, offSide}
@@ -34,13 +34,13 @@ parted-at (x ∷ xs) ys (e ∷ es) v later q =
     let p : xs ++ ys ≡ es ++ (v ∷ later) = cc in let h : x ≡ e = cc in
     ⊎-map (λ (l, u, k). (l, (λ i. h i ∷ u i), k)) (λ (l, u). (l, u)) (parted-at xs ys es v later p)
 
-reading-member : (b : Book) (es : List Event) (d : Colouring) (later : List Event)
+reading-member : (b : Book) (es : List Event) (d : Tables) (later : List Event)
     → List·Memᴰ (readingOf b d) (readingsIn b (es ++ (reading d ∷ later)))
 unfolding readingsIn
 reading-member b es d later = rw readings-append (Memᴰ·append-right (readingsIn b es) (List·Memᴰ·head refl))
 
 module _ {b : Book} where
-  walk-rest : {c : Colouring} {es : List Event} → Walk b c es → (earlier : List Event) (d : Colouring) (later : List Event)
+  walk-rest : {c : Tables} {es : List Event} → Walk b c es → (earlier : List Event) (d : Tables) (later : List Event)
       → es ≡ earlier ++ (reading d ∷ later) → later ≡ rest b c (readingOf b d)
   walk-rest (at-clash k t) [] d later q = apart (cc)
   walk-rest (at-clash k t) (e ∷ es) d later q = absurd (omega (arith, ap length q, length-append es (reading d ∷ later)))
@@ -62,7 +62,7 @@ module _ {b : Book} where
       x = readingOf b d
 
   -- what comes after any set is a part of the walk: its readings are answer sets too
-  pub rest-sound : {c : Colouring} {es : List Event} → Walk b c es → (x y : Atoms) → List·Memᴰ y (readingsIn b (rest b c x)) → Stands b c y
+  pub rest-sound : {c : Tables} {es : List Event} → Walk b c es → (x y : Atoms) → List·Memᴰ y (readingsIn b (rest b c x)) → Stands b c y
   unfolding readingsIn
   rest-sound (at-clash k t) x y m = absurd (List·Memᴰ·not-nil (rw (rest-clash k x t) at m))
   rest-sound (at-reading k t p) x y m = absurd (List·Memᴰ·not-nil (rw (rest-reading k t p x) at m))
@@ -73,7 +73,7 @@ module _ {b : Book} where
       (decided (generating b x r))
 
 module _ (b : Book) (fits : count b ≤ 255) where
-  module _ (earlier : List Event) (d : Colouring) (later : List Event) (q : events b nothing ≡ earlier ++ (reading d ∷ later)) where
+  module _ (earlier : List Event) (d : Tables) (later : List Event) (q : events b nothing ≡ earlier ++ (reading d ∷ later)) where
     walk : Walk b nothing (events b nothing)
     walk = walks b fits nothing sized-nothing
 

@@ -1,21 +1,34 @@
--- The search of src/colours.rt for a rule in neither set: how it tells whether one rule is.
-use mathlib.Core.Path.{_≡_, ap}
-use mathlib.Core.Logic.{_⊎_, ⊎-elim}
-use mathlib.Core.Bool.{Bool, true, false, not}
+-- The search of src/colours.rt for a rule in neither set: among the first rules, what is left of them without the two sets is what has no
+-- colour.
+use mathlib.Core.Path.{_≡_, refl, sym, ap, ap₂, _∙_}
+use mathlib.Core.Bool.{Bool, not, _&&_, _||_}
 use mathlib.Core.List.{List}
-use Prim.Native.Nat.{ℕ}
-use lib.ListN.{getD}
-use Rattle.meaning.specs.Sets.{_∉_}
-use Rattle.meaning.specs.Books.{ruleNo}
+use Prim.Native.Nat.{ℕ, zero, suc, _+_, _<_}
+use native.Mathlib.Omega.{arith}
+use lib.Dec.{ltb}
+use borrow.Author.Tests.{lt-ltb}
+use Rattle.meaning.specs.declared.RuleNo.{RuleNo}
+use Rattle.meaning.specs.Sets.{Set}
+use Rattle.meaning.specs.Books.{Rules, ruleNo}
+use Rattle.meaning.specs.Bits.{below, plus, less, members, listed}
 use Rattle.meaning.specs.Colours.{uncoloured}
 use Rattle.meaning.specs.Written.{of, lent}
-use Rattle.meaning.proofs.Tests.{or-left, or-right, neither}
+use Rattle.meaning.specs.Lowest.{Pick, oneOr, lowestFrom}
+use Rattle.meaning.proofs.Listed.{of-listed}
 
-module _ (on off : List Bool) (i : ℕ) where
-  pub not-neither : (getD off i false ≡ true) ⊎ (getD on i false ≡ true) → ruleNo i ∉ uncoloured (lent on off)
-  unfolding uncoloured of
-  not-neither h = ap not (⊎-elim (or-right (getD on i false)) (or-left _) h)
+-- sets that agree on the first rules have the same lowest one there
+lowest-same : (i n : ℕ) (s t : Rules) → ((r : RuleNo) → r .0 < i + n → s r ≡ t r) → lowestFrom i n s ≡ lowestFrom i n t
+unfolding lowestFrom
+lowest-same i zero s t f = refl
+lowest-same i (suc n) s t f =
+    ap₂ (λ (x : Bool) (p : Pick). oneOr x (ruleNo i) p) (f (ruleNo i) (omega arith)) (lowest-same (suc i) n s t (λ r h. f r (omega arith)))
 
-  pub in-neither : getD on i false ≡ false → getD off i false ≡ false → uncoloured (lent on off) (ruleNo i) ≡ true
-  unfolding uncoloured of
-  in-neither e f = ap not (neither e f)
+pub free-lowest : (n : ℕ) (w all v on off : List ℕ) → members all ≡ below n → members v ≡ plus (members on) (members off)
+    → members w ≡ less (members all) (members v)
+    → lowestFrom 0 n (of (listed w)) ≡ lowestFrom 0 n (uncoloured (lent (listed on) (listed off)))
+unfolding uncoloured
+free-lowest n w all v on off e f g = lowest-same 0 n (of (listed w)) _ (λ r h.
+    let z = lt-ltb (r .0) n (omega arith) in
+    ap (λ (s : Rules). s r) (of-listed w) ∙ ap (λ (s : Set ℕ). s (r .0)) g
+    ∙ ap₂ (λ (s t : Set ℕ). s (r .0) && not (t (r .0))) e f
+    ∙ rw z (sym (ap₂ (λ (s t : Rules). not (s r || t r)) (of-listed on) (of-listed off))))

@@ -5,7 +5,7 @@ use Prim.Native.Nat.{suc, _+_, _^_, _≤_}
 use native.Mathlib.Omega.{arith}
 use lib.ListN.{length, length-append}
 use lib.Pow.{pow-pos, pow-mono}
-use Rattle.meaning.specs.declared.colouring.Colouring.{Colouring}
+use Rattle.meaning.specs.Written.{Tables}
 use Rattle.meaning.specs.Books.{Book, count}
 use Rattle.meaning.specs.Colours.{onSide, offSide}
 use Rattle.meaning.specs.Written.{nothing}
@@ -16,7 +16,7 @@ use Rattle.walk.specs.Events.{Event, events}
 use Rattle.walk.proofs.Events.{Walk, at-clash, at-reading, at-fork, walks, fork-fewer}
 
 module _ (b : Book) (fits : count b ≤ 255) where
-  walk-tries : {c : Colouring} {es : List Event} → Walk b c es → length es + 1 ≤ 2 ^ suc (left b (close b c))
+  walk-tries : {c : Tables} {es : List Event} → Walk b c es → length es + 1 ≤ 2 ^ suc (left b (close b c))
   walk-tries {c = c} (at-clash k t) = omega (arith, pow-pos (left b (close b c)))
   walk-tries {c = c} (at-reading k t p) = omega (arith, pow-pos (left b (close b c)))
   walk-tries (at-fork f v w) = simp length-append (omega (

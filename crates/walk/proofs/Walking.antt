@@ -10,7 +10,7 @@ use lib.ListN.{length}
 use types.Run.{OneOf}
 use denote.Enum.Declared.{tagOf}
 use Rattle.meaning.specs.declared.RuleNo.{RuleNo}
-use Rattle.meaning.specs.declared.colouring.Colouring.{Colouring}
+use Rattle.meaning.specs.Written.{Tables}
 use Rattle.meaning.specs.Books.{Atoms, Book, count}
 use Rattle.meaning.specs.AnswerSet.{generating}
 use Rattle.meaning.specs.Colours.{Side, onSide, offSide, heads, uncoloured}
@@ -71,37 +71,37 @@ module _ (s : List ℕ) (h : Shape) (e : ReadAs s h) where
       → lowest (bookIn s) (uncoloured (lent on off)) ≡ picked w
   lowest-told on off f g = sym (lowest-in (bookIn s) (shape-count s h e) _ f) ∙ ap picked g
 
-  pub forks-told : {c d : Colouring} {p : Picked} {r : RuleNo} → Closes (bookIn s) c d → clashed (bookIn s) (pair d) ≡ none
+  pub forks-told : {c d : Tables} {p : Picked} {r : RuleNo} → Closes (bookIn s) c d → clashed (bookIn s) (pair d) ≡ none
       → picked p ≡ lowestFrom 0 (h .rules) (uncoloured (pair d)) → p ≡ Rule r → Forks (bookIn s) c d r
   forks-told k t q m = record { closes = k; calm = t; choice = lowest-told _ _ q m }
 
 -- what a closing told of its contradiction, of the colouring that it gave
-pub clash-told : {b : Book} {c d : Colouring} {v w : Picked} → Closes b c d → picked v ≡ clashed b (pair (close b c)) → v ≡ w
+pub clash-told : {b : Book} {c d : Tables} {v w : Picked} → Closes b c d → picked v ≡ clashed b (pair (close b c)) → v ≡ w
     → clashed b (pair d) ≡ picked w
 clash-told k f g = rw (k .closed) (sym f ∙ ap picked g)
 
 -- each side of a fork is less far from its end, where a colouring is as far as it has rules without a colour
-pub side-falls : {b : Book} {c d : Colouring} {r : RuleNo} {n : ℕ} → Forks b c d r → left b c ≡ n → (x : Side) {y : Colouring}
+pub side-falls : {b : Book} {c d : Tables} {r : RuleNo} {n : ℕ} → Forks b c d r → left b c ≡ n → (x : Side) {y : Tables}
     → y ≡ chosen x r d → left b y < n
 side-falls f e x g = rw (g, ← e) (fork-falls f x)
 
-pub side-shallow : {b : Book} {c d : Colouring} {r : RuleNo} → Forks b c d r → Shallow b c → (x : Side) {y : Colouring}
+pub side-shallow : {b : Book} {c d : Tables} {r : RuleNo} → Forks b c d r → Shallow b c → (x : Side) {y : Tables}
     → y ≡ chosen x r d → Shallow b y
 side-shallow f h x g = rw g (fork-shallow f h x)
 
 -- ---- the ways of a call
 
-after-some : (d : Colouring) (t p : Pick) (f : Colouring → List Event) → (e : Event) × (es : List Event) × (after d t p f ≡ e ∷ es)
+after-some : (d : Tables) (t p : Pick) (f : Tables → List Event) → (e : Event) × (es : List Event) × (after d t p f ≡ e ∷ es)
 unfolding after
 after-some d (one r) p f = (clash r, [], refl)
 after-some d none none f = (reading d, [], refl)
 after-some d none (one r) f = (fork r, _, refl)
 
-events-some : (b : Book) (c : Colouring) → (e : Event) × (es : List Event) × (events b c ≡ e ∷ es)
+events-some : (b : Book) (c : Tables) → (e : Event) × (es : List Event) × (events b c ≡ e ∷ es)
 unfolding events eventsIn
 events-some b c = after-some _ _ _ _
 
-module _ (b : Book) (w : Wanted) (s : State) (c : Colouring) where
+module _ (b : Book) (w : Wanted) (s : State) (c : Tables) where
   pub walk-ended : (s .tally .halt ≡ Going → ⊥) → s ≡ run b w s (events b c)
   walk-ended n = sym (run-ended b w s (events b c) n)
 
@@ -109,7 +109,7 @@ module _ (b : Book) (w : Wanted) (s : State) (c : Colouring) where
     pub walk-stops : w .limit ≤ s .tally .tries → halting Limit s ≡ run b w s (events b c)
     walk-stops h = let (e, es, q) = events-some b c in sym (ap (run b w s) q ∙ run-stops b w s going e es h)
 
-    module _ (h : s .tally .tries < w .limit) {d : Colouring} where
+    module _ (h : s .tally .tries < w .limit) {d : Tables} where
       pub walk-clash : {t : Tally} {r : RuleNo} → Closes b c d → clashed b (pair d) ≡ one r → t ≡ clashedAt s r
           → record { tally = t; out = s .out } ≡ run b w s (events b c)
       unfolding run tried
@@ -121,7 +121,7 @@ module _ (b : Book) (w : Wanted) (s : State) (c : Colouring) where
       walk-reading k z p e = e ∙ sym (ap (run b w s) (events-reading k z p) ∙ run-try b w s going (reading d) [] h)
 
       -- x and y are the two sides of the fork, u the state after the first and v after the second
-      pub walk-fork : {r : RuleNo} {t : Tally} {x y : Colouring} {u v : State} → Forks b c d r → t ≡ counted s (s .tally .sets) Going
+      pub walk-fork : {r : RuleNo} {t : Tally} {x y : Tables} {u v : State} → Forks b c d r → t ≡ counted s (s .tally .sets) Going
           → x ≡ chosen onSide r d → u ≡ run b w (record { tally = t; out = s .out }) (events b x)
           → y ≡ chosen offSide r d → v ≡ run b w u (events b y) → v ≡ run b w s (events b c)
       unfolding tried
@@ -131,7 +131,7 @@ module _ (b : Book) (w : Wanted) (s : State) (c : Colouring) where
 
 -- ---- the ways of a call that goes on behind a set x
 
-module _ (b : Book) (w : Wanted) (s : State) (c : Colouring) (x : Atoms) {d : Colouring} where
+module _ (b : Book) (w : Wanted) (s : State) (c : Tables) (x : Atoms) {d : Tables} where
   pub resume-clash : {r : RuleNo} → Closes b c d → clashed b (pair d) ≡ one r → s ≡ run b w s (rest b c x)
   unfolding run
   resume-clash k z = sym (ap (run b w s) (rest-clash k x z))
@@ -142,9 +142,9 @@ module _ (b : Book) (w : Wanted) (s : State) (c : Colouring) (x : Atoms) {d : Co
 
   -- a says whether the rule that is chosen generates x
   module _ {r : RuleNo} (f : Forks b c d r) {a : Bool} (g : a ≡ generating b x r) where
-    pub resume-off : a ≡ false → {y : Colouring} {u : State} → y ≡ chosen offSide r d → u ≡ run b w s (rest b y x) → u ≡ run b w s (rest b c x)
+    pub resume-off : a ≡ false → {y : Tables} {u : State} → y ≡ chosen offSide r d → u ≡ run b w s (rest b y x) → u ≡ run b w s (rest b c x)
     resume-off n ey eu = eu ∙ rw ey (sym (ap (run b w s) (rest-fork-off f x (sym g ∙ n))))
 
-    pub resume-on : a ≡ true → {y z : Colouring} {u v : State} → y ≡ chosen onSide r d → u ≡ run b w s (rest b y x)
+    pub resume-on : a ≡ true → {y z : Tables} {u v : State} → y ≡ chosen onSide r d → u ≡ run b w s (rest b y x)
         → z ≡ chosen offSide r d → v ≡ run b w u (events b z) → v ≡ run b w s (rest b c x)
     resume-on m ey eu ez ev = ev ∙ rw (ez, eu, ey) (sym (ap (run b w s) (rest-fork-on f x (sym g ∙ m)) ∙ run-append b w s _ _))

@@ -8,7 +8,7 @@ use native.Mathlib.Nat.{le-antisymm, eq-or-lt-of-le, suc-mul}
 use native.Mathlib.Numerals.{add-one}
 use native.Mathlib.Omega.{arith}
 use lib.ListN.{length, length-append}
-use Rattle.meaning.specs.declared.colouring.Colouring.{Colouring}
+use Rattle.meaning.specs.Written.{Tables}
 use Rattle.meaning.specs.Books.{Book}
 use Rattle.meaning.specs.Choice.{ifLt, ifEq}
 use Rattle.meaning.proofs.Tests.{lt-or-le, apart}
@@ -45,7 +45,7 @@ module _ (b : Book) (w : Wanted) where
   -- from s along some events to a state: behind all of them; at the reading that fills the room; before the try that passes the limit
   pub data Way (s : State) : List Event → State → Type 0 where
     to-end : {es : List Event} → gone s es .tally .tries ≤ w .limit → Open (gone s es) → Way s es (halting Going (gone s es))
-    to-full : (more : List Event) (d : Colouring) (later : List Event) → gone s more .tally .tries < w .limit
+    to-full : (more : List Event) (d : Tables) (later : List Event) → gone s more .tally .tries < w .limit
         → gone s more .tally .sets + 1 ≡ w .pass + w .room
         → Way s (more ++ (reading d ∷ later)) (halting Full (step (gone s more) (reading d)))
     to-limit : (more : List Event) (e : Event) (later : List Event) → w .limit ≡ gone s more .tally .tries → Open (gone s more)
@@ -118,7 +118,7 @@ module _ (b : Book) (w : Wanted) where
   -- ---- one try
 
   module _ (some-room : 1 ≤ w .room) where
-    module _ (s : State) (d : Colouring) where
+    module _ (s : State) (d : Tables) where
       same-state : {h k : Halt} {l m : List ℕ} → h ≡ k → l ≡ m
           → _≡_ {A = State} (record { tally = counted s (s .tally .sets + 1) h; out = l })
           (record { tally = counted s (s .tally .sets + 1) k; out = m })
@@ -150,7 +150,7 @@ module _ (b : Book) (w : Wanted) where
       unfolding gone
       stops e es h o l = subst (Way s (e ∷ es)) (sym (run-stops b w s going e es l)) (to-limit [] e es (le-antisymm l h) o)
 
-      fills : (d : Colouring) (es : List Event) → s .tally .tries < w .limit → s .tally .sets + 1 ≡ w .pass + w .room
+      fills : (d : Tables) (es : List Event) → s .tally .tries < w .limit → s .tally .sets + 1 ≡ w .pass + w .room
           → Way s (reading d ∷ es) (run b w s (reading d ∷ es))
       unfolding gone
       fills d es h e = subst (Way s (reading d ∷ es))

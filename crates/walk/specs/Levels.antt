@@ -13,7 +13,7 @@ use Prim.Native.Nat.{ℕ, zero, suc, _-_}
 use lib.Dec.{ltb}
 use lib.ListN.{length, take, replicate}
 use Rattle.meaning.specs.declared.RuleNo.{RuleNo}
-use Rattle.meaning.specs.declared.colouring.Colouring.{Colouring}
+use Rattle.meaning.specs.Written.{Tables}
 use Rattle.meaning.specs.Books.{Atoms, Book, count}
 use Rattle.meaning.specs.AnswerSet.{generating}
 use Rattle.meaning.specs.Colours.{Pair, Side, onSide, offSide, uncoloured}
@@ -33,21 +33,21 @@ use Rattle.walk.specs.declared.tally.Halt.the-variants.{Going, Full, Lim
 
 -- ---- the closed colourings of the walk
 
-pub data Node (b : Book) : ℕ → Colouring → Type 0 where
+pub data Node (b : Book) : ℕ → Tables → Type 0 where
   at-first : Node b 0 (close b nothing)
-  below : {n : ℕ} {d : Colouring} {r : RuleNo} → Node b n d → clashed b (pair d) ≡ none → lowest b (uncoloured (pair d)) ≡ one r
+  below : {n : ℕ} {d : Tables} {r : RuleNo} → Node b n d → clashed b (pair d) ≡ none → lowest b (uncoloured (pair d)) ≡ one r
       → (x : Side) → Node b (suc n) (close b (chosen x r d))
 
-pub data Down (b : Book) (d : Colouring) : Colouring → Type 0 where
+pub data Down (b : Book) (d : Tables) : Tables → Type 0 where
   here : Down b d d
-  deeper : {e : Colouring} {r : RuleNo} → Down b d e → clashed b (pair e) ≡ none → lowest b (uncoloured (pair e)) ≡ one r
+  deeper : {e : Tables} {r : RuleNo} → Down b d e → clashed b (pair e) ≡ none → lowest b (uncoloured (pair e)) ≡ one r
       → (x : Side) → Down b d (close b (chosen x r e))
 
 -- the rules of one set of a colouring, those above level m dropped
-unfoldable pub kept : ℕ → Colouring → List Bool → RuleNo → Bool
+unfoldable pub kept : ℕ → Tables → List Bool → RuleNo → Bool
 kept m e l r = of l r && not (ltb m (levelOf e r))
 
-abbrev pub dropped : ℕ → Colouring → Pair
+abbrev pub dropped : ℕ → Tables → Pair
 dropped m e = record { on = kept m e (e .on); off = kept m e (e .off) }
 
 -- ---- the way down to a set
@@ -57,18 +57,18 @@ sideOf true = onSide
 sideOf false = offSide
 
 -- after a closing that gave d: it ends at a contradiction and where every rule has a colour
-unfoldable pub afterDown : Book → Colouring → Atoms → Pick → Pick → (Colouring → Colouring) → Colouring
+unfoldable pub afterDown : Book → Tables → Atoms → Pick → Pick → (Tables → Tables) → Tables
 afterDown b d x (one r) p further = d
 afterDown b d x none none further = d
 afterDown b d x none (one r) further = further (chosen (sideOf (generating b x r)) r d)
 
 -- through at most n levels
-unfoldable pub downIn : ℕ → Book → Colouring → Atoms → Colouring
+unfoldable pub downIn : ℕ → Book → Tables → Atoms → Tables
 downIn zero b c x = c
 downIn (suc n) b c x =
     let d = close b c in afterDown b d x (clashed b (pair d)) (lowest b (uncoloured (pair d))) (λ e. downIn n b e x)
 
-unfoldable pub down : Book → Colouring → Atoms → Colouring
+unfoldable pub down : Book → Tables → Atoms → Tables
 down b c x = downIn (suc (count b)) b c x
 
 -- ---- the answer

@@ -12,7 +12,7 @@ use mathlib.Core.List.{List, [], _∷_, List·Memᴰ}
 use Prim.Native.Nat.{_<_}
 use Rattle.meaning.specs.declared.AtomNo.{AtomNo}
 use Rattle.meaning.specs.declared.RuleNo.{RuleNo}
-use Rattle.meaning.specs.declared.colouring.Colouring.{Colouring}
+use Rattle.meaning.specs.Written.{Tables}
 use Rattle.meaning.specs.Sets.{_∈_, _∉_}
 use Rattle.meaning.specs.Books.{Atoms, Book, InBook}
 use Rattle.meaning.specs.AnswerSet.{AnswerSet, generating}
@@ -20,7 +20,7 @@ use Rattle.meaning.specs.Colours.{heads}
 use Rattle.meaning.specs.Written.{of, nothing}
 use Rattle.walk.specs.Events.{Event, clash, fork, reading, events}
 
-abbrev pub readingOf : Book → Colouring → Atoms
+abbrev pub readingOf : Book → Tables → Atoms
 readingOf b d = heads b (of (d .on))
 
 unfoldable pub readingsIn : Book → List Event → List Atoms

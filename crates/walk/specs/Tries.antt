@@ -8,7 +8,7 @@ use mathlib.Core.Path.{_≡_}
 use mathlib.Core.List.{List, [], _∷_, _++_}
 use Prim.Native.Nat.{ℕ, _+_, _<_}
 use lib.ListN.{length}
-use Rattle.meaning.specs.declared.colouring.Colouring.{Colouring}
+use Rattle.meaning.specs.Written.{Tables}
 use Rattle.meaning.specs.Books.{Atoms, Book}
 use Rattle.meaning.specs.Written.{nothing}
 use Rattle.walk.specs.Events.{Event, clash, fork, reading, events}
@@ -16,7 +16,7 @@ use Rattle.walk.specs.Readings.{readingOf, readingsIn, readings}
 
 pub record Kth (b : Book) (k t : ℕ) (x : Atoms) : Type 0 where
   pub earlier : List Event
-  pub found : Colouring
+  pub found : Tables
   pub later : List Event
   pub walk : events b nothing ≡ earlier ++ (reading found ∷ later)
   pub try : t ≡ length earlier + 1

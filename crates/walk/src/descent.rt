@@ -6,8 +6,9 @@ ghost use lib.ListN.{length, take};
 ghost use Rattle.meaning.specs.AnswerSet.{generating};
 ghost use Rattle.meaning.specs.Told.{Answered};
 ghost use Rattle.meaning.specs.Buffers.{writeAt};
-ghost use Rattle.meaning.specs.Written.{nothing, chosen};
+ghost use Rattle.meaning.specs.Written.{written, nothing, chosen};
 ghost use Rattle.book.specs.Format.{bookIn, ReadAs};
+ghost use Rattle.book.specs.RuleRows.{RuleRows};
 ghost use Rattle.walk.specs.Find.{told};
 ghost use Rattle.walk.specs.Page.{setIn};
 ghost use Rattle.walk.specs.Levels.{sideOf, down, levelsIn, levelsOf};
@@ -19,6 +20,7 @@ use crate::resume::generates;
 use crate::tally::Halt;
 use book::Read;
 use book::Shape;
+use book::make_rows;
 use book::read_book;
 use closing::Picked;
 use closing::close;
@@ -28,8 +30,9 @@ use meaning::RuleNo;
 // The choice that the row's set makes: the rule goes on if it generates the set.
 fn follow(book: &[u8], shape: Shape, d: Colouring, r: RuleNo, row: &[u8]) -> Colouring
     requires { ⌜ ReadAs (now book) shape × (r .0 < shape .rules) × (d .level < 255) ⌝ }
-    ensures { λ c. ⌜ c ≡ chosen
-        (sideOf (generating (bookIn (now (book .entry))) (setIn (now (row .entry))) r)) r d ⌝ }
+    ensures { λ c. ⌜ written c ≡ chosen
+        (sideOf (generating (bookIn (now (book .entry))) (setIn (now (row .entry))) r)) r
+        (written d) ⌝ }
 {
     if generates(book, shape, r, row) {
         return d.choose_on(r);
@@ -38,19 +41,19 @@ fn follow(book: &[u8], shape: Shape, d: Colouring, r: RuleNo, row: &[u8]) -> Col
 }
 
 // The closed colouring to which the choices of the row's set lead: one closing a level, and no try.
-fn descend(book: &[u8], shape: Shape, row: &[u8]) -> Colouring
-    requires { ⌜ ReadAs (now book) shape ⌝ }
-    ensures { λ d. ⌜ d ≡ down (bookIn (now (book .entry))) nothing (setIn (now (row .entry))) ⌝ }
+fn descend(book: &[u8], shape: Shape, rows: &[u64; 3072], row: &[u8]) -> Colouring
+    requires { ⌜ ReadAs (now book) shape × RuleRows (bookIn (now book)) (now rows) ⌝ }
+    ensures { λ d. ⌜ written d ≡ down (bookIn (now (book .entry))) nothing (setIn (now (row .entry))) ⌝ }
 {
     let mut c = Colouring::empty();
     loop {
-        let closed = close(book, shape, c);
+        let closed = close(book, shape, rows, c);
         let clash = closed.clash;
         let d = closed.colours;
         if let Picked::Rule(_) = clash {
             return d;
         }
-        let Picked::Rule(r) = lowest_uncoloured(shape.rules, &d.on, &d.off) else {
+        let Picked::Rule(r) = lowest_uncoloured(shape.rules, d.on, d.off) else {
             return d;
         };
         c = follow(book, shape, d, r, row);
@@ -89,7 +92,9 @@ fn levels_in(book: &[u8], shape: Shape, k: u32, limit: u32, out: &mut [u8]) -> F
     let Halt::Full = halt else {
         return tell(t, limit);
     };
-    let d = descend(book, shape, &row);
+    let mut rows = [0u64; 3072];
+    make_rows(book, shape, &mut rows);
+    let d = descend(book, shape, &rows, &row);
     write_levels(shape.rules, &d.levels, out);
     tell(t, limit)
 }

@@ -15,6 +15,7 @@ use crate::walk::walk;
 use book::Read;
 use book::Refusal;
 use book::Shape;
+use book::make_rows;
 use book::read_book;
 use meaning::Colouring;
 use meaning::RuleNo;
@@ -48,9 +49,12 @@ pub fn kth(book: &[u8], shape: Shape, k: u32, limit: u32, answer: &mut [u8]) -> 
         clash: RuleNo(255),
         halt: Halt::Going,
     };
+    let mut rows = [0u64; 3072];
+    make_rows(book, shape, &mut rows);
     walk(
         book,
         shape,
+        &rows,
         Colouring::empty(),
         k - 1,
         1,

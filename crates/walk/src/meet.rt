@@ -2,6 +2,7 @@
 ghost use mathlib.Core.Path.{_≡_};
 ghost use Prim.Native.Nat.{_<_};
 ghost use Rattle.meaning.specs.Colours.{heads};
+ghost use Rattle.meaning.specs.Bits.{listed};
 ghost use Rattle.meaning.specs.Written.{of};
 ghost use Rattle.book.specs.Format.{bookIn, ReadAs};
 ghost use Rattle.walk.specs.Run.{State, readingMet};
@@ -12,13 +13,14 @@ use crate::tally::Halt;
 use crate::tally::Tally;
 use book::Shape;
 use book::heads_of;
+use meaning::Bits;
 use meaning::Colouring;
 
 // The reading is given by its on rules. It is passed over, or written behind the rows before it.
 pub fn meet(
     book: &[u8],
     shape: Shape,
-    on: &[bool; Colouring::RULES],
+    on: Bits,
     pass: u32,
     room: usize,
     limit: u32,
@@ -31,13 +33,14 @@ pub fn meet(
         (readingMet (bookIn (now (book .entry)))
         (record { pass = pass; room = room; limit = limit })
         (record { tally = t; out = now (out .entry) })
-        (heads (bookIn (now (book .entry))) (of (now (on .entry))))) ⌝ }
+        (heads (bookIn (now (book .entry))) (of (listed (on .w))))) ⌝ }
 {
     if t.sets < pass {
         return t.tried(t.sets + 1, Halt::Going);
     }
     let mut set = [false; Colouring::ATOMS];
-    heads_of(book, shape, on, &mut set);
+    let w = on.w;
+    heads_of(book, shape, &w, &mut set);
     let row = (t.sets - pass) as usize;
     write_row(shape.atoms, &set, row * shape.atoms as usize, out);
     if row + 1 == room {

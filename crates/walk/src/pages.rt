@@ -13,6 +13,7 @@ use crate::tally::Tally;
 use crate::walk::walk;
 use book::Read;
 use book::Shape;
+use book::make_rows;
 use book::read_book;
 use meaning::Colouring;
 use meaning::RuleNo;
@@ -55,12 +56,25 @@ fn page_in(book: &[u8], shape: Shape, limit: u32, tries: u32, last: &[u8], out: 
         clash: RuleNo(255),
         halt: Halt::Going,
     };
+    let mut rows = [0u64; 3072];
+    make_rows(book, shape, &mut rows);
     if tries == 0 {
-        return tell(walk(book, shape, Colouring::empty(), 0, room, limit, start, out));
+        return tell(walk(
+            book,
+            shape,
+            &rows,
+            Colouring::empty(),
+            0,
+            room,
+            limit,
+            start,
+            out,
+        ));
     }
     tell(resume(
         book,
         shape,
+        &rows,
         Colouring::empty(),
         last,
         0,

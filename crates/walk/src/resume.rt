@@ -7,7 +7,9 @@ ghost use Rattle.meaning.specs.Sets.{every};
 ghost use Rattle.meaning.specs.Books.{atomNo};
 ghost use Rattle.meaning.specs.AnswerSet.{generating};
 ghost use Rattle.meaning.specs.Choice.{agree};
+ghost use Rattle.meaning.specs.Written.{written};
 ghost use Rattle.book.specs.Format.{bookIn, ReadAs};
+ghost use Rattle.book.specs.RuleRows.{RuleRows};
 ghost use Rattle.closing.specs.Left.{Shallow};
 ghost use Rattle.walk.specs.Events.{rest};
 ghost use Rattle.walk.specs.Run.{State, run};
@@ -66,6 +68,7 @@ pub fn generates(book: &[u8], shape: Shape, r: RuleNo, row: &[u8]) -> bool
 pub fn resume(
     book: &[u8],
     shape: Shape,
+    rows: &[u64; 3072],
     c: Colouring,
     last: &[u8],
     pass: u32,
@@ -76,25 +79,27 @@ pub fn resume(
 ) -> Tally
     requires { ⌜ ReadAs (now book) shape
         × Room (bookIn (now book)) pass room (record { tally = t; out = now out })
-        × Shallow (bookIn (now book)) c ⌝ }
+        × Shallow (bookIn (now book)) (written c)
+        × RuleRows (bookIn (now book)) (now rows) ⌝ }
     ensures { λ r. ⌜ _≡_ {A = State} (record { tally = r; out = now (out .exit) })
         (run (bookIn (now (book .entry))) (record { pass = pass; room = room; limit = limit })
         (record { tally = t; out = now (out .entry) })
-        (rest (bookIn (now (book .entry))) c (setIn (now (last .entry))))) ⌝ }
+        (rest (bookIn (now (book .entry))) (written c) (setIn (now (last .entry))))) ⌝ }
 {
-    let closed = close(book, shape, c);
+    let closed = close(book, shape, rows, c);
     let clash = closed.clash;
     if let Picked::Rule(_) = clash {
         return t;
     }
     let d = closed.colours;
-    let Picked::Rule(r) = lowest_uncoloured(shape.rules, &d.on, &d.off) else {
+    let Picked::Rule(r) = lowest_uncoloured(shape.rules, d.on, d.off) else {
         return t;
     };
     if !generates(book, shape, r, last) {
         return resume(
             book,
             shape,
+            rows,
             d.choose_off(r),
             last,
             pass,
@@ -104,6 +109,27 @@ pub fn resume(
             out,
         );
     }
-    let first = resume(book, shape, d.choose_on(r), last, pass, room, limit, t, out);
-    walk(book, shape, d.choose_off(r), pass, room, limit, first, out)
+    let first = resume(
+        book,
+        shape,
+        rows,
+        d.choose_on(r),
+        last,
+        pass,
+        room,
+        limit,
+        t,
+        out,
+    );
+    walk(
+        book,
+        shape,
+        rows,
+        d.choose_off(r),
+        pass,
+        room,
+        limit,
+        first,
+        out,
+    )
 }

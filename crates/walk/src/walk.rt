@@ -1,7 +1,9 @@
 // The walk itself. "One try is one closing": the limit is tested before it, so that a call which
 // stops at the limit makes no further closing.
 ghost use mathlib.Core.Path.{_≡_};
+ghost use Rattle.meaning.specs.Written.{written};
 ghost use Rattle.book.specs.Format.{bookIn, ReadAs};
+ghost use Rattle.book.specs.RuleRows.{RuleRows};
 ghost use Rattle.closing.specs.Left.{Shallow};
 ghost use Rattle.walk.specs.Events.{events};
 ghost use Rattle.walk.specs.Run.{State, run};
@@ -22,6 +24,7 @@ use meaning::Colouring;
 pub fn walk(
     book: &[u8],
     shape: Shape,
+    rows: &[u64; 3072],
     c: Colouring,
     pass: u32,
     room: usize,
@@ -31,10 +34,11 @@ pub fn walk(
 ) -> Tally
     requires { ⌜ ReadAs (now book) shape
         × Room (bookIn (now book)) pass room (record { tally = t; out = now out })
-        × Shallow (bookIn (now book)) c ⌝ }
+        × Shallow (bookIn (now book)) (written c)
+        × RuleRows (bookIn (now book)) (now rows) ⌝ }
     ensures { λ r. ⌜ _≡_ {A = State} (record { tally = r; out = now (out .exit) })
         (run (bookIn (now (book .entry))) (record { pass = pass; room = room; limit = limit })
-        (record { tally = t; out = now (out .entry) }) (events (bookIn (now (book .entry))) c)) ⌝ }
+        (record { tally = t; out = now (out .entry) }) (events (bookIn (now (book .entry))) (written c))) ⌝ }
 {
     let halt = t.halt;
     let Halt::Going = halt else {
@@ -49,17 +53,27 @@ pub fn walk(
             halt: Halt::Limit,
         };
     }
-    let closed = close(book, shape, c);
+    let closed = close(book, shape, rows, c);
     let clash = closed.clash;
     if let Picked::Rule(r) = clash {
         return t.clashed(r);
     }
     let d = closed.colours;
-    let Picked::Rule(r) = lowest_uncoloured(shape.rules, &d.on, &d.off) else {
-        return meet(book, shape, &d.on, pass, room, limit, t, out);
+    let Picked::Rule(r) = lowest_uncoloured(shape.rules, d.on, d.off) else {
+        return meet(book, shape, d.on, pass, room, limit, t, out);
     };
     let forked = t.tried(t.sets, Halt::Going);
     let chosen = d.choose_on(r);
-    let first = walk(book, shape, chosen, pass, room, limit, forked, out);
-    walk(book, shape, d.choose_off(r), pass, room, limit, first, out)
+    let first = walk(book, shape, rows, chosen, pass, room, limit, forked, out);
+    walk(
+        book,
+        shape,
+        rows,
+        d.choose_off(r),
+        pass,
+        room,
+        limit,
+        first,
+        out,
+    )
 }

@@ -12,7 +12,7 @@ use Rattle.meaning.specs.Books.{Book, count}
 use Rattle.meaning.specs.Colours.{Pair, onSide, offSide, plus, put}
 use Rattle.meaning.specs.declared.kind.Claim.{Claim}
 use Rattle.meaning.specs.Paper.{numbers, codeOn, codeOff, codeUnfounded}
-use Rattle.meaning.specs.Written.{of, lent}
+use Rattle.meaning.specs.Written.{Tables, written, of, lent, pair}
 use Rattle.meaning.specs.Lowest.{rulesIn}
 use Rattle.meaning.specs.Engine.{Next, puts-on, puts-off, drops, next}
 use Rattle.meaning.proofs.Written.{pair-on, pair-off}
@@ -41,24 +41,24 @@ step-drop (does-drop w) = rw (w .listed) (refl, w .counted)
 -- ---- the branch so far
 
 -- two sets as a colouring: nothing else of it counts
-abbrev plain : List Bool → List Bool → Colouring
+abbrev plain : List Bool → List Bool → Tables
 plain on off = record { on = on; off = off; marks = on; level = 0; levels = [] }
 
 module _ (b : Book) (k : Claim) (c : Pair) (at : ℕ) (before : List ℕ) where
   pub record Ahead (on off : List Bool) (n : ℕ) (out : List ℕ) : Type 0 where
-    pub on-long : length on ≡ 255
-    pub off-long : length off ≡ 255
+    pub on-long : length on ≡ 256
+    pub off-long : length off ≡ 256
     pub bytes : List ℕ
     pub whole : branch b k c ≡ behind bytes (branch b k (lent on off))
     pub written : Writes bytes at before n out
 
-pub ahead-start : (b : Book) (k : Claim) (on off : List Bool) (n : ℕ) (out : List ℕ) → length on ≡ 255 → length off ≡ 255
+pub ahead-start : (b : Book) (k : Claim) (on off : List Bool) (n : ℕ) (out : List ℕ) → length on ≡ 256 → length off ≡ 256
     → Ahead b k (lent on off) n out on off n out
 ahead-start b k on off n out h g = record { on-long = h; off-long = g; bytes = []; whole = sym (behind-none _); written = writes-nil n out }
 
 module _ {b : Book} {k : Claim} (fits : count b ≤ 255) {c : Pair} {at n : ℕ} {before out : List ℕ} {on off : List Bool}
     (a : Ahead b k c at before on off n out) where
-  ahead-by : {on' off' : List Bool} {m : ℕ} {out' : List ℕ} (l : List ℕ) → length on' ≡ 255 → length off' ≡ 255
+  ahead-by : {on' off' : List Bool} {m : ℕ} {out' : List ℕ} (l : List ℕ) → length on' ≡ 256 → length off' ≡ 256
       → branch b k (lent on off) ≡ behind l (branch b k (lent on' off')) → Writes l n out m out' → Ahead b k c at before on' off' m out'
   ahead-by l h g e w = record {
     on-long = h;
@@ -70,32 +70,32 @@ module _ {b : Book} {k : Claim} (fits : count b ≤ 255) {c : Pair} {at n : ℕ}
 
   -- ---- 41
 
-  module _ {l : List Bool} {r : RuleNo} {i : ℕ} (d : Does b l (On r) (next b k (lent on off))) (e : i ≡ r .0) where
+  module _ {l : List Bool} {r : RuleNo} {now : List Bool} (d : Does b l (On r) (next b k (lent on off))) (e : now ≡ set on (r .0) true) where
     pub on-below : r .0 < 255
     on-below = let (h, m, n, f) = next-puts-on b k (lent on off) r (step-on d) in omega arith
 
-    on-pair : lent (set on i true) off ≡ put onSide (r ∷ []) (lent on off)
+    on-pair : lent now off ≡ put onSide (r ∷ []) (lent on off)
     on-pair = rw e (pair-on (plain on off) r (omega (arith, a .on-long, on-below)))
 
-    pub ahead-on : {m : ℕ} {out' : List ℕ} → Writes (codeOn ∷ (r .0 ∷ [])) n out m out' → Ahead b k c at before (set on i true) off m out'
-    ahead-on w = ahead-by _ (length-set on i true ∙ a .on-long) (a .off-long) (branch-on b k fits _ r (step-on d) ∙ rw on-pair) w
+    pub ahead-on : {m : ℕ} {out' : List ℕ} → Writes (codeOn ∷ (r .0 ∷ [])) n out m out' → Ahead b k c at before now off m out'
+    ahead-on w = ahead-by _ (ap length e ∙ length-set on (r .0) true ∙ a .on-long) (a .off-long) (branch-on b k fits _ r (step-on d) ∙ rw on-pair) w
 
-    pub on-fewer : missing b (lent (set on i true) off) < missing b (lent on off)
+    pub on-fewer : missing b (lent now off) < missing b (lent on off)
     on-fewer = rw on-pair (adds-fewer b k fits (adds-on r) (step-on d))
 
   -- ---- 42
 
-  module _ {l : List Bool} {r : RuleNo} {i : ℕ} (d : Does b l (Off r) (next b k (lent on off))) (e : i ≡ r .0) where
+  module _ {l : List Bool} {r : RuleNo} {now : List Bool} (d : Does b l (Off r) (next b k (lent on off))) (e : now ≡ set off (r .0) true) where
     pub off-below : r .0 < 255
     off-below = let (h, m, n, f) = next-puts-off b k (lent on off) r (step-off d) in omega arith
 
-    off-pair : lent on (set off i true) ≡ put offSide (r ∷ []) (lent on off)
+    off-pair : lent on now ≡ put offSide (r ∷ []) (lent on off)
     off-pair = rw e (pair-off (plain on off) r (omega (arith, a .off-long, off-below)))
 
-    pub ahead-off : {m : ℕ} {out' : List ℕ} → Writes (codeOff ∷ (r .0 ∷ [])) n out m out' → Ahead b k c at before on (set off i true) m out'
-    ahead-off w = ahead-by _ (a .on-long) (length-set off i true ∙ a .off-long) (branch-off b k fits _ r (step-off d) ∙ rw off-pair) w
+    pub ahead-off : {m : ℕ} {out' : List ℕ} → Writes (codeOff ∷ (r .0 ∷ [])) n out m out' → Ahead b k c at before on now m out'
+    ahead-off w = ahead-by _ (a .on-long) (ap length e ∙ length-set off (r .0) true ∙ a .off-long) (branch-off b k fits _ r (step-off d) ∙ rw off-pair) w
 
-    pub off-fewer : missing b (lent on (set off i true)) < missing b (lent on off)
+    pub off-fewer : missing b (lent on now) < missing b (lent on off)
     off-fewer = rw off-pair (adds-fewer b k fits (adds-off r) (step-off d))
 
   -- ---- 55
@@ -106,7 +106,7 @@ module _ {b : Book} {k : Claim} (fits : count b ≤ 255) {c : Pair} {at n : ℕ}
     unfolding put
     drop-pair = λ i. record { on = of on; off = e i }
 
-    pub ahead-drop : length off' ≡ 255 → {i j o : ℕ} {out1 out2 out3 : List ℕ} → Writes (codeUnfounded ∷ []) n out i out1
+    pub ahead-drop : length off' ≡ 256 → {i j o : ℕ} {out1 out2 out3 : List ℕ} → Writes (codeUnfounded ∷ []) n out i out1
         → Writes (m ∷ []) i out1 j out2 → Writes (numbers (rulesIn b (of l))) j out2 o out3 → Ahead b k c at before on off' o out3
     ahead-drop h u v w =
         let (e, f) = step-drop d in
@@ -123,15 +123,10 @@ module _ {b : Book} {k : Claim} (fits : count b ≤ 255) {c : Pair} {at n : ℕ}
   stops-by (does-split {r = r}) e = branch-splits b k fits _ r e
   stops-by does-nothing e = branch-stuck b k fits _ e
 
-  pub ahead-stops : {l marks : List Bool} {level : ℕ} {levels : List ℕ} {t : Tip} → Does b l (Stops t) (next b k (lent on off)) → {m : ℕ} {out' : List ℕ}
-      → Writes (tipBytes t) n out m out'
-      → Wrote (branch b k c) at before (record {
-        colours = record { on = on; off = off; marks = marks; level = level; levels = levels };
-        length = m;
-        tip = t;
-      }) out'
+  pub ahead-stops : {l : List Bool} {t : Tip} → Does b l (Stops t) (next b k (lent on off)) → (d : Colouring) → pair (written d) ≡ lent on off
+      → {m : ℕ} {out' : List ℕ} → Writes (tipBytes t) n out m out' → Wrote (branch b k c) at before (record { colours = d; length = m; tip = t }) out'
   unfolding behind
-  ahead-stops d w = let e = a .whole ∙ ap (behind (a .bytes)) (stops-by d refl) in record {
+  ahead-stops {t = t} s d p w = let e = a .whole ∙ ap (behind (a .bytes)) (stops-by s refl) in record {
     bytes = rw (ap (λ t. t .bytes) e) (writes-then (a .written) w);
-    tip = sym (ap (λ t. t .tip) e);
+    tip = ap (tipOf t) p ∙ sym (ap (λ t. t .tip) e);
   }

@@ -5,7 +5,7 @@ use mathlib.Core.List.{List, []}
 use Prim.Native.Nat.{ℕ, _<_, _≤_}
 use native.Mathlib.Omega.{arith}
 use lib.ListN.{length, replicate, length-replicate}
-use Rattle.meaning.specs.declared.colouring.Colouring.{Colouring}
+use Rattle.meaning.specs.Written.{Tables}
 use Rattle.meaning.specs.Books.{Book}
 use Rattle.meaning.specs.declared.kind.Claim.{Claim}
 use Rattle.meaning.specs.Claim.{claimed}
@@ -46,7 +46,7 @@ blank = record { tries = 0; bytes = []; course = writing }
 pub stage-blank : Stage (record { tries = 0; length = 0; course = Writing }) (replicate paperBytes 0) blank
 stage-blank = record { tries = refl; bytes = whole (length-replicate {A = ℕ} paperBytes 0) refl (omega arith) refl; course = refl }
 
-pub stage-paper : (b : Book) (k : Claim) (limit : ℕ) {c : Colouring} {q : Drafted} {draft : List ℕ} → c ≡ nothing
+pub stage-paper : (b : Book) (k : Claim) (limit : ℕ) {c : Tables} {q : Drafted} {draft : List ℕ} → c ≡ nothing
     → Stage q draft (scan limit blank (branches b k (pair c))) → Stage q draft (paperWalk b k limit)
 unfolding paperWalk
 stage-paper b k limit e d = rw (e, pair-nothing) at d

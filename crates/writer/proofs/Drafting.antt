@@ -9,12 +9,12 @@ use lib.ListN.{length}
 use types.Run.{OneOf}
 use denote.Enum.Declared.{tagOf}
 use Rattle.meaning.specs.declared.RuleNo.{RuleNo}
-use Rattle.meaning.specs.declared.colouring.Colouring.{Colouring}
 use Rattle.meaning.specs.Books.{Book, count}
 use Rattle.meaning.specs.Colours.{Pair, Side, onSide, offSide, put}
 use Rattle.meaning.specs.declared.kind.Claim.{Claim}
-use Rattle.meaning.specs.Written.{colourOn, colourOff, pair}
+use Rattle.meaning.specs.Written.{Tables, written, colourOn, colourOff, pair}
 use Rattle.meaning.proofs.Written.{pair-on, pair-off}
+use Rattle.meaning.proofs.Listed.{listed-long}
 use Rattle.meaning.proofs.Engine.{next-splits}
 use Rattle.writer.specs.Branches.{Branch, parted, branch, branches}
 use Rattle.writer.specs.Scan.{Progress, writing, courseAt, scan}
@@ -49,26 +49,26 @@ stage-over {p} {s = s} g n limit l = rw (scan-over limit s l (λ e. n (only-writ
 
 module _ (b : Book) (k : Claim) (fits : count b ≤ 255) (c : Pair) {m : ℕ} {out : List ℕ} {w : Written} {after : List ℕ}
     (d : Wrote (branch b k c) m out w after) where
-  tip-is : {t : Tip} → w .tip ≡ t → branch b k c .tip ≡ tipOf t (pair (w .colours))
-  tip-is e = sym (d .tip) ∙ ap (λ t. tipOf t (pair (w .colours))) e
+  tip-is : {t : Tip} → w .tip ≡ t → branch b k c .tip ≡ tipOf t (pair (written (w .colours)))
+  tip-is e = sym (d .tip) ∙ ap (λ t. tipOf t (pair (written (w .colours)))) e
 
   module _ {r : RuleNo} (e : w .tip ≡ Parted r) where
     pub part-below : r .0 < 255
     part-below = from (branch-reached b k fits c (tip-is e))
       where
-        from : Reached b k c (parted r (pair (w .colours))) → r .0 < 255
+        from : Reached b k c (parted r (pair (written (w .colours)))) → r .0 < 255
         from (reached-split v n) = omega (arith, next-splits b k _ r n .0)
 
     -- the colourings behind the split
-    pub part-on : length (w .colours .on) ≡ 255 → {x : Colouring} → x ≡ colourOn r (w .colours)
-        → pair x ≡ put onSide (r ∷ []) (pair (w .colours))
-    part-on l f = rw f (pair-on (w .colours) r (rw l part-below))
+    pub part-on : {x : Tables} → x ≡ colourOn r (written (w .colours))
+        → pair x ≡ put onSide (r ∷ []) (pair (written (w .colours)))
+    part-on f = rw f (pair-on (written (w .colours)) r (rw (listed-long (w .colours .on .w)) (omega (arith, part-below))))
 
-    pub part-off : length (w .colours .off) ≡ 255 → {x : Colouring} → x ≡ colourOff r (w .colours)
-        → pair x ≡ put offSide (r ∷ []) (pair (w .colours))
-    part-off l f = rw f (pair-off (w .colours) r (rw l part-below))
+    pub part-off : {x : Tables} → x ≡ colourOff r (written (w .colours))
+        → pair x ≡ put offSide (r ∷ []) (pair (written (w .colours)))
+    part-off f = rw f (pair-off (written (w .colours)) r (rw (listed-long (w .colours .off .w)) (omega (arith, part-below))))
 
-    pub part-fewer : (x : Side) (q : Pair) → q ≡ put x (r ∷ []) (pair (w .colours)) → left b q < left b c
+    pub part-fewer : (x : Side) (q : Pair) → q ≡ put x (r ∷ []) (pair (written (w .colours))) → left b q < left b c
     part-fewer x q f = rw f (parted-left b k fits x r c _ (tip-is e))
 
 -- ---- one branch
@@ -109,7 +109,7 @@ module _ (b : Book) (k : Claim) (fits : count b ≤ 255) (limit : ℕ) (c : Pair
         rw (branches-unsettled b k fits c e, one-more [], scan-nil) (stage-taken Refuted (sym (ap courseAt e)))
 
     pub stage-parted : {r : RuleNo} → w .tip ≡ Parted r → {q v : Drafted} {out' end : List ℕ} {on off : Pair}
-        → on ≡ put onSide (r ∷ []) (pair (w .colours)) → off ≡ put offSide (r ∷ []) (pair (w .colours)) → s .tries ≤ limit
+        → on ≡ put onSide (r ∷ []) (pair (written (w .colours))) → off ≡ put offSide (r ∷ []) (pair (written (w .colours))) → s .tries ≤ limit
         → ((t : Progress) → Stage (further p w Writing) after t → t .tries ≤ limit → Stage q out' (scan limit t (branches b k on)))
         → ((t : Progress) → Stage q out' t → t .tries ≤ limit → Stage v end (scan limit t (branches b k off)))
         → Stage v end (scan limit s (branches b k c))

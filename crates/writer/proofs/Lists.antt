@@ -7,7 +7,7 @@ use Prim.Native.Nat.{ℕ, zero, suc, _+_, _≤_, _<_}
 use native.Mathlib.Nat.{add-zero, zero-add, add-suc, suc-add}
 use native.Mathlib.Numerals.{add-one}
 use native.Mathlib.Omega.{arith}
-use lib.ListN.{length, getD, set, replicate, length-append, length-set}
+use lib.ListN.{length, set, replicate, length-append, length-replicate, length-set}
 use Rattle.meaning.specs.declared.RuleNo.{RuleNo}
 use Rattle.meaning.specs.Sets.{some}
 use Rattle.meaning.specs.Books.{Rules, ruleNo, among, Book, count, sameRule}
@@ -22,7 +22,6 @@ use Rattle.meaning.proofs.Tests.{both, not-first, not-second, same}
 use Rattle.meaning.proofs.RulesIn.{rules-in, in-rules}
 use Rattle.meaning.proofs.Written.{of-set, of-none}
 use Rattle.writer.specs.Draft.{Writes}
-use Rattle.book.proofs.AtomSets.{of-place}
 use Rattle.writer.specs.Steps.{outside, Listed}
 use Rattle.writer.proofs.Drafts.{writes-nil, writes-then}
 
@@ -87,20 +86,20 @@ rules-again b s = rules-same 0 (count b) _ _ (λ j h g. let k : j < count b = om
 module _ (s : Rules) (off : List Bool) (at : ℕ) (out : List ℕ) where
   -- those below r have been
   pub record Dropped (r : ℕ) (gone : List Bool) (n : ℕ) (written : List ℕ) : Type 0 where
-    pub long : length gone ≡ 255
+    pub long : length gone ≡ 256
     pub colours : of gone ≡ plus (of off) (below r s)
     pub bytes : Writes (numbers (below r s)) at out n written
 
-  pub dropped-none : length off ≡ 255 → Dropped 0 off at out
+  pub dropped-none : length off ≡ 256 → Dropped 0 off at out
   unfolding rulesFrom some
   dropped-none e = record { long = e; colours = fun-ext (λ q. sym (or-false _)); bytes = writes-nil at out }
 
   module _ {r : ℕ} {gone : List Bool} {n : ℕ} {written : List ℕ} (d : Dropped r gone n written) where
-    pub dropped-more : {i m k : ℕ} {off' : List Bool} {more out' : List ℕ} → i ≡ r → r < 255 → s (ruleNo r) ≡ true
-        → Writes (r ∷ []) n written m more → off' ≡ set gone i true → out' ≡ more → k ≡ m → Dropped (r + 1) off' k out'
-    dropped-more {off' = off'} e h t w f g k = record {
+    pub dropped-more : {m k : ℕ} {off' : List Bool} {more out' : List ℕ} → r < 256 → s (ruleNo r) ≡ true
+        → Writes (r ∷ []) n written m more → off' ≡ set gone r true → out' ≡ more → k ≡ m → Dropped (r + 1) off' k out'
+    dropped-more {off' = off'} h t w f g k = record {
       long = ap length f ∙ length-set gone _ true ∙ d .long;
-      colours = rw (f, below-in r s t) (put-end (of off) (below r s) gone (ruleNo r) e (rw (d .long) h) (d .colours));
+      colours = rw (f, below-in r s t) (put-end (of off) (below r s) gone (ruleNo r) refl (rw (d .long) h) (d .colours));
       bytes = rw (g, k, below-in r s t, numbers-append) (writes-then (d .bytes) w);
     }
 
@@ -110,29 +109,29 @@ module _ (s : Rules) (off : List Bool) (at : ℕ) (out : List ℕ) where
         record { long = d .long; colours = rw (below-out r s t) (d .colours); bytes = rw (below-out r s t) (d .bytes) }
 
   pub dropped-all : {r n : ℕ} {gone : List Bool} {written : List ℕ} → Dropped r gone n written → (b : Book) → count b ≡ r
-      → (length gone ≡ 255) × (of gone ≡ plus (of off) (rulesIn b s)) × Writes (numbers (rulesIn b s)) at out n written
-  dropped-all d b e = rw (← below-all b s e) (d .long, d .colours, d .bytes)
+      → (of gone ≡ plus (of off) (rulesIn b s)) × Writes (numbers (rulesIn b s)) at out n written
+  dropped-all d b e = rw (← below-all b s e) (d .colours, d .bytes)
 
 -- ---- the rules that are found
 
 -- the array holds the rules of s below r, of which there are m
 pub record Found (s : Rules) (r : ℕ) (found : List Bool) (m : ℕ) : Type 0 where
-  pub long : length found ≡ 255
+  pub long : length found ≡ 256
   pub held : of found ≡ among (below r s)
   pub counted : m ≡ length (below r s)
   pub few : m ≤ r
 
 module _ (s : Rules) where
-  pub found-none : Found s 0 (replicate 255 false) 0
+  pub found-none : (l : List Bool) → l ≡ replicate 256 false → Found s 0 l 0
   unfolding rulesFrom some
-  found-none = record { long = refl; held = fun-ext (of-none 255); counted = refl; few = omega arith }
+  found-none l e = record { long = rw e (length-replicate 256 false); held = rw e (fun-ext (of-none 256)); counted = refl; few = omega arith }
 
   module _ {r : ℕ} {found : List Bool} {m : ℕ} (d : Found s r found m) where
-    pub found-more : {i k : ℕ} {found' : List Bool} → i ≡ r → r < 255 → s (ruleNo r) ≡ true → found' ≡ set found i true → k ≡ m + 1
+    pub found-more : {k : ℕ} {found' : List Bool} → r < 256 → s (ruleNo r) ≡ true → found' ≡ set found r true → k ≡ m + 1
         → Found s (r + 1) found' k
-    found-more e h t f g = record {
+    found-more h t f g = record {
       long = ap length f ∙ length-set found _ true ∙ d .long;
-      held = rw (f, below-in r s t) (put-end (λ q. false) (below r s) found (ruleNo r) e (rw (d .long) h) (d .held));
+      held = rw (f, below-in r s t) (put-end (λ q. false) (below r s) found (ruleNo r) refl (rw (d .long) h) (d .held));
       counted = rw (below-in r s t, length-append) (omega (arith, d .counted));
       few = omega (arith, d .few);
     }
@@ -151,18 +150,18 @@ module _ (s : Rules) where
     listed = ap (rulesIn b) (d .held ∙ ap among (below-all b s e)) ∙ rules-again b s;
   }
 
-module _ (marks off : List Bool) (i r : ℕ) (e : i ≡ r) where
-  pub outside-yes : getD marks i false ≡ false → getD off i false ≡ false → outside marks off (ruleNo r) ≡ true
+module _ (marks off : List Bool) (r : ℕ) where
+  pub outside-yes : of marks (ruleNo r) ≡ false → of off (ruleNo r) ≡ false → outside marks off (ruleNo r) ≡ true
   unfolding outside
-  outside-yes m n = both (ap not (of-place marks i r false e m)) (ap not (of-place off i r false e n))
+  outside-yes m n = both (ap not m) (ap not n)
 
-  pub outside-marked : getD marks i false ≡ true → outside marks off (ruleNo r) ≡ false
+  pub outside-marked : of marks (ruleNo r) ≡ true → outside marks off (ruleNo r) ≡ false
   unfolding outside
-  outside-marked m = not-first _ (ap not (of-place marks i r true e m))
+  outside-marked m = not-first _ (ap not m)
 
-  pub outside-off : getD off i false ≡ true → outside marks off (ruleNo r) ≡ false
+  pub outside-off : of off (ruleNo r) ≡ true → outside marks off (ruleNo r) ≡ false
   unfolding outside
-  outside-off m = not-second (not (of marks (ruleNo r))) (ap not (of-place off i r true e m))
+  outside-off m = not-second (not (of marks (ruleNo r))) (ap not m)
 
 -- the rules outside V that aren't off, where the marks are V
 pub outside-unsupported : (b : Book) (marks on off : List Bool) → marks ≡ support b (of off)

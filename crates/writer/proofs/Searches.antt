@@ -7,7 +7,6 @@ use mathlib.Core.List.{List}
 use Prim.Native.Nat.{ℕ, _+_, _≤_, _<_}
 use native.Mathlib.Nat.{eq-or-lt-of-le}
 use native.Mathlib.Omega.{arith}
-use lib.ListN.{getD}
 use Rattle.meaning.specs.declared.RuleNo.{RuleNo}
 use Rattle.meaning.specs.Sets.{_∉_, every, some}
 use Rattle.meaning.specs.Books.{Rules, ruleNo, Book, count, rule}
@@ -17,7 +16,6 @@ use Rattle.meaning.specs.Engine.{less}
 use Rattle.meaning.proofs.Tests.{both, not-first, not-second}
 use Rattle.meaning.proofs.Lowest.{none-lowest, one-lowest}
 use Rattle.book.specs.Tables.{atomsIn}
-use Rattle.book.proofs.AtomSets.{of-place}
 use Rattle.writer.specs.Steps.{newOn, newOff}
 
 -- no rule below n is in s
@@ -47,15 +45,15 @@ module _ (s : Rules) where
 pub record Sifts (s t : Rules) (l : List Bool) : Type 0 where
   pub is : (r : RuleNo) → s r ≡ less t (of l) r
 
-module _ {s t : Rules} {l : List Bool} (sifts : Sifts s t l) {i r : ℕ} (e : i ≡ r) where
-  pub sifts-yes : {x : Bool} → x ≡ t (ruleNo r) → x ≡ true → getD l i false ≡ false → s (ruleNo r) ≡ true
-  sifts-yes f y o = sifts .is _ ∙ both (sym f ∙ y) (ap not (of-place l i r false e o))
+module _ {s t : Rules} {l : List Bool} (sifts : Sifts s t l) {r : ℕ} where
+  pub sifts-yes : {x : Bool} → x ≡ t (ruleNo r) → x ≡ true → of l (ruleNo r) ≡ false → s (ruleNo r) ≡ true
+  sifts-yes f y o = sifts .is _ ∙ both (sym f ∙ y) (ap not o)
 
   pub sifts-not : {x : Bool} → x ≡ t (ruleNo r) → x ≡ false → s (ruleNo r) ≡ false
   sifts-not f n = sifts .is _ ∙ not-first _ (sym f ∙ n)
 
-  pub sifts-in : getD l i false ≡ true → s (ruleNo r) ≡ false
-  sifts-in o = sifts .is _ ∙ not-second (t (ruleNo r)) (ap not (of-place l i r true e o))
+  pub sifts-in : of l (ruleNo r) ≡ true → s (ruleNo r) ≡ false
+  sifts-in o = sifts .is _ ∙ not-second (t (ruleNo r)) (ap not o)
 
 -- 41
 pub new-on-sifts : (b : Book) (headed lost on : List Bool)

@@ -6,7 +6,7 @@ use mathlib.Core.List.{List, [], _∷_, _++_, map}
 use Prim.Native.Nat.{ℕ, zero, suc, _+_, _-_, _≤_, _<_}
 use native.Mathlib.Nat.{sub-zero}
 use native.Mathlib.Omega.{arith}
-use lib.ListN.{length, getD, set, replicate, length-append, length-set}
+use lib.ListN.{length, set, replicate, length-append, length-replicate, length-set}
 use Rattle.meaning.specs.declared.RuleNo.{RuleNo}
 use Rattle.meaning.specs.Sets.{every, some}
 use Rattle.meaning.specs.Books.{Rules, atomNo, among, Book, count, rule}
@@ -22,7 +22,6 @@ use Rattle.book.specs.declared.reader.Shape.{Shape}
 use Rattle.book.specs.Format.{bookIn, ReadAs}
 use Rattle.book.specs.Tables.{atomTable, atomsIn}
 use Rattle.book.specs.Writing.{atomBytes}
-use Rattle.book.proofs.AtomSets.{of-place}
 use Rattle.book.proofs.Bodies.{every-part}
 use Rattle.book.proofs.Asked.{every-table, pos-small}
 use Rattle.writer.specs.Draft.{Writes}
@@ -33,26 +32,26 @@ use Rattle.writer.proofs.Lists.{numbers-append, put-end}
 -- ---- one rule
 
 module _ (b : Book) (s : Rules) (l : List Bool) (r : RuleNo) where
-  pub list-listed : {i : ℕ} → i ≡ r .0 → getD l i false ≡ true → false ≡ mayList b s l r
+  pub list-listed : of l r ≡ true → false ≡ mayList b s l r
   unfolding mayList
-  list-listed e t = sym (not-first _ (not-second (s r) (ap not (of-place l _ (r .0) true e t))))
+  list-listed t = sym (not-first _ (not-second (s r) (ap not t)))
 
   pub list-other : {g : Bool} → g ≡ s r → g ≡ false → false ≡ mayList b s l r
   unfolding mayList
   list-other e t = sym (not-first _ (not-first _ (sym e ∙ t)))
 
-  list-by : {i : ℕ} → i ≡ r .0 → getD l i false ≡ false → {g : Bool} → g ≡ s r → g ≡ true → {x : Bool}
+  list-by : of l r ≡ false → {g : Bool} → g ≡ s r → g ≡ true → {x : Bool}
       → x ≡ every (heads b (of l)) (rule b r .pos) → x ≡ mayList b s l r
   unfolding mayList
-  list-by e t f u x = rw (sym f ∙ u, of-place l _ (r .0) false e t) x
+  list-by t f u x = rw (sym f ∙ u, t) x
 
 -- the positive atoms, asked by the table
 module _ (s : List ℕ) (h : Shape) (e : ReadAs s h) (n : h .atoms < 256) (r : RuleNo) (m : r .0 < h .rules) (l headed : List Bool)
     (f : headed ≡ atomTable (heads (bookIn s) (of l))) where
-  pub list-may : (part : List ℕ) → part ≡ atomBytes (rule (bookIn s) r .pos) → {i : ℕ} → i ≡ r .0 → getD l i false ≡ false
+  pub list-may : (part : List ℕ) → part ≡ atomBytes (rule (bookIn s) r .pos) → of l r ≡ false
       → {g : Bool} (t : Rules) → g ≡ t r → g ≡ true → {x : Bool} → x ≡ every (atomsIn headed) (map atomNo part)
       → x ≡ mayList (bookIn s) t l r
-  list-may part p i q t u v x = list-by (bookIn s) t l r i q u v
+  list-may part p q t u v x = list-by (bookIn s) t l r q u v
       (x ∙ every-part _ _ _ p ∙ ap (λ z. every (atomsIn z) (rule (bookIn s) r .pos)) f ∙ every-table _ _ (pos-small s h e n r m))
 
 -- ---- the list as it grows
@@ -74,19 +73,19 @@ module _ (b : Book) (s : Rules) (w : List RuleNo) where
 
 pub record Listing (b : Book) (s : Rules) (at : ℕ) (before : List ℕ) (m : ℕ) (l : List Bool) (n : ℕ) (out : List ℕ) : Type 0 where
   pub rules : List RuleNo
-  pub long : length l ≡ 255
+  pub long : length l ≡ 256
   pub held : of l ≡ among rules
   pub counted : m ≡ length rules
   pub whole : listing b s (count b) [] ≡ listing b s (count b - m) rules
   pub written : Writes (numbers rules) at before n out
 
 module _ (b : Book) (s : Rules) (at : ℕ) (before : List ℕ) where
-  pub listing-start : Listing b s at before 0 (replicate 255 false) at before
+  pub listing-start : (l : List Bool) → l ≡ replicate 256 false → Listing b s at before 0 l at before
   unfolding some
-  listing-start = record {
+  listing-start l e = record {
     rules = [];
-    long = refl;
-    held = fun-ext (of-none 255);
+    long = rw e (length-replicate 256 false);
+    held = rw e (fun-ext (of-none 256));
     counted = refl;
     whole = rw sub-zero;
     written = writes-nil at before;
@@ -106,12 +105,12 @@ module _ (b : Book) (s : Rules) (at : ℕ) (before : List ℕ) where
       pub listed-below : count b ≤ 255 → r .0 < 255
       listed-below h = omega (arith, lowest-one b _ r (sym e) .0)
 
-      pub listing-more : {i j : ℕ} {out' : List ℕ} → count b ≤ 255 → i ≡ r .0 → m < count b → Writes (r .0 ∷ []) n out j out'
-          → Listing b s at before (m + 1) (set l i true) j out'
-      listing-more {i} h f g w = record {
+      pub listing-more : {j : ℕ} {now : List Bool} {out' : List ℕ} → count b ≤ 255 → now ≡ set l (r .0) true → m < count b → Writes (r .0 ∷ []) n out j out'
+          → Listing b s at before (m + 1) now j out'
+      listing-more h f g w = record {
         rules = d .rules ++ (r ∷ []);
-        long = length-set l i true ∙ d .long;
-        held = put-end (λ q. false) (d .rules) l r f (omega (arith, d .long, listed-below h)) (d .held);
+        long = ap length f ∙ length-set l (r .0) true ∙ d .long;
+        held = rw f (put-end (λ q. false) (d .rules) l r refl (omega (arith, d .long, listed-below h)) (d .held));
         counted = rw length-append (omega (arith, d .counted));
         whole = d .whole ∙ one-more b s (d .rules) r (e ∙ ap (lowest b) asked) m g;
         written = rw numbers-append (writes-then (d .written) w);

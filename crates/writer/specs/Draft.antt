@@ -12,7 +12,7 @@ use Prim.Native.Nat.{ℕ, _≤_, _<_}
 use lib.ListN.{length, take}
 use Rattle.meaning.specs.Colours.{Pair}
 use Rattle.meaning.specs.Paper.{codeSplit, codeEnd, paperBytes}
-use Rattle.meaning.specs.Written.{pair}
+use Rattle.meaning.specs.Written.{written, pair}
 use Rattle.writer.specs.Branches.{Branch, ended, parted, unsettled}
 use Rattle.writer.specs.Branches.{Tip as End}
 use Rattle.writer.specs.Scan.{Progress, writing, limited, refuted}
@@ -43,7 +43,7 @@ tipBytes Unsettled = []
 
 pub record Wrote (t : Branch) (m : ℕ) (before : List ℕ) (w : Written) (after : List ℕ) : Type 0 where
   pub bytes : Writes (t .bytes) m before (w .length) after
-  pub tip : tipOf (w .tip) (pair (w .colours)) ≡ t .tip
+  pub tip : tipOf (w .tip) (pair (written (w .colours))) ≡ t .tip
 
 abbrev pub courseOf : Course → Way
 courseOf Writing = writing

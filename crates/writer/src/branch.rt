@@ -1,7 +1,7 @@
 // One branch of the engine's own paper: steps up to its 45 or its split.
 ghost use Prim.Native.Nat.{_<_};
 ghost use Rattle.meaning.specs.Claim.{claimed};
-ghost use Rattle.meaning.specs.Written.{pair};
+ghost use Rattle.meaning.specs.Written.{written, pair};
 ghost use Rattle.book.specs.Format.{bookIn, ReadAs};
 ghost use Rattle.writer.specs.Branches.{branch};
 ghost use Rattle.writer.specs.Draft.{Writes, Wrote, tipBytes};
@@ -12,7 +12,7 @@ use crate::step::Step;
 use crate::step::Tip;
 use crate::step::next_step;
 use book::Shape;
-use book::wide;
+use meaning::Bits;
 use meaning::Claim;
 use meaning::Colouring;
 use meaning::PAPER_BYTES;
@@ -21,6 +21,7 @@ use meaning::STEP_OFF;
 use meaning::STEP_ON;
 use meaning::STEP_SPLIT;
 use meaning::STEP_UNFOUNDED;
+use meaning::put;
 
 // What a branch ends by, with the colouring there and the draft's length behind it.
 pub struct Written {
@@ -50,24 +51,26 @@ pub fn write_branch(
     at: usize,
 ) -> Written
     requires { ⌜ ReadAs (now book) shape × (claimed claim .0 < shape .atoms) ⌝ }
-    ensures { λ w. ⌜ Wrote (branch (bookIn (now (book .entry))) claim (pair c))
+    ensures { λ w. ⌜ Wrote (branch (bookIn (now (book .entry))) claim (pair (written c)))
         at (now (draft .entry)) w (now (draft .exit)) ⌝ }
 {
-    let mut on = c.on;
-    let mut off = c.off;
+    let c_on = c.on;
+    let c_off = c.off;
+    let mut on = c_on.w;
+    let mut off = c_off.w;
     let marks = c.marks;
     let level = c.level;
     let levels = c.levels;
-    let mut dropped = [false; Colouring::RULES];
+    let mut dropped = [0u64; 4];
     let mut n = at;
     loop {
         match next_step(book, shape, claim, &on, &off, &mut dropped) {
             Step::On(r) => {
-                on[wide(r.0)] = true;
+                put(&mut on, r.0);
                 n = write_step(draft, n, STEP_ON, r);
             }
             Step::Off(r) => {
-                off[wide(r.0)] = true;
+                put(&mut off, r.0);
                 n = write_step(draft, n, STEP_OFF, r);
             }
             Step::Unfounded(m) => {
@@ -78,8 +81,8 @@ pub fn write_branch(
             Step::Stops(tip) => {
                 return Written {
                     colours: Colouring {
-                        on,
-                        off,
+                        on: Bits { w: on },
+                        off: Bits { w: off },
                         marks,
                         level,
                         levels,

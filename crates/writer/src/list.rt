@@ -8,36 +8,36 @@ ghost use Rattle.meaning.specs.Colours.{plus};
 ghost use Rattle.meaning.specs.Paper.{numbers};
 ghost use Rattle.meaning.specs.Engine.{unsupported};
 ghost use Rattle.meaning.specs.Lowest.{rulesIn};
+ghost use Rattle.meaning.specs.Bits.{listed};
 ghost use Rattle.meaning.specs.Written.{of, lent};
 ghost use Rattle.book.specs.Format.{bookIn, ReadAs};
 ghost use Rattle.writer.specs.Draft.{Writes};
 ghost use Rattle.writer.specs.Steps.{outside, Listed};
 use crate::draft::write;
 use book::Shape;
-use book::wide;
 use closing::support;
-use meaning::Colouring;
 use meaning::PAPER_BYTES;
+use meaning::has;
+use meaning::put;
 
-// Writes the rules that are neither marked nor off over whatever the array held; how many they
+// Writes the rules that are neither marked nor off over whatever the set held; how many they
 // are.
 fn list_unmarked<'a>(
     rules: u8,
-    marks: &'a [bool; Colouring::RULES],
-    off: &'a [bool; Colouring::RULES],
-    dropped: &mut [bool; Colouring::RULES],
+    marks: &'a [u64; 4],
+    off: &'a [u64; 4],
+    dropped: &mut [u64; 4],
 ) -> u8
-    ensures { λ m. ⌜ ((b : Book) → count b ≡ rules → Listed b m (now (dropped .exit))
-        (rulesIn b (outside (now (marks .entry)) (now (off .entry))))) ⌝ }
+    ensures { λ m. ⌜ ((b : Book) → count b ≡ rules → Listed b m (listed (now (dropped .exit)))
+        (rulesIn b (outside (listed (now (marks .entry))) (listed (now (off .entry)))))) ⌝ }
 {
-    *dropped = [false; Colouring::RULES];
+    *dropped = [0; 4];
     let mut m: u8 = 0;
     let mut r: u8 = 0;
     while r < rules {
-        let i = wide(r);
-        if !marks[i] {
-            if !off[i] {
-                dropped[i] = true;
+        if !has(marks, r) {
+            if !has(off, r) {
+                put(dropped, r);
                 m += 1;
             }
         }
@@ -46,20 +46,16 @@ fn list_unmarked<'a>(
     m
 }
 
-// Writes the rules outside support that aren't off over whatever the array held; how many they
+// Writes the rules outside support that aren't off over whatever the set held; how many they
 // are. Whatever is on, this asks only of what is off.
-pub fn list_unsupported(
-    book: &[u8],
-    shape: Shape,
-    off: &[bool; Colouring::RULES],
-    dropped: &mut [bool; Colouring::RULES],
-) -> u8
+pub fn list_unsupported(book: &[u8], shape: Shape, off: &[u64; 4], dropped: &mut [u64; 4]) -> u8
     requires { ⌜ ReadAs (now book) shape ⌝ }
-    ensures { λ m. ⌜ ((on : List Bool) → Listed (bookIn (now (book .entry))) m (now (dropped .exit))
+    ensures { λ m. ⌜ ((on : List Bool) → Listed (bookIn (now (book .entry))) m
+        (listed (now (dropped .exit)))
         (rulesIn (bookIn (now (book .entry)))
-        (unsupported (bookIn (now (book .entry))) (lent on (now (off .entry)))))) ⌝ }
+        (unsupported (bookIn (now (book .entry))) (lent on (listed (now (off .entry))))))) ⌝ }
 {
-    let mut marks = [false; Colouring::RULES];
+    let mut marks = [0u64; 4];
     support(book, shape, off, &mut marks);
     list_unmarked(shape.rules, &marks, off, dropped)
 }
@@ -67,24 +63,21 @@ pub fn list_unsupported(
 // Writes the listed rules and puts them in off; the length afterwards.
 pub fn drop_rules(
     rules: u8,
-    dropped: &[bool; Colouring::RULES],
-    off: &mut [bool; Colouring::RULES],
+    dropped: &[u64; 4],
+    off: &mut [u64; 4],
     draft: &mut [u8; PAPER_BYTES],
     at: usize,
 ) -> usize
-    requires { ⌜ length (now off) ≡ 255 ⌝ }
-    ensures { λ n. ⌜ ((b : Book) → count b ≡ rules → (length (now (off .exit)) ≡ 255)
-        × (of (now (off .exit)) ≡
-        plus (of (now (off .entry))) (rulesIn b (of (now (dropped .entry)))))
-        × Writes (numbers (rulesIn b (of (now (dropped .entry))))) at
+    ensures { λ n. ⌜ ((b : Book) → count b ≡ rules → (of (listed (now (off .exit))) ≡
+        plus (of (listed (now (off .entry)))) (rulesIn b (of (listed (now (dropped .entry))))))
+        × Writes (numbers (rulesIn b (of (listed (now (dropped .entry)))))) at
         (now (draft .entry)) n (now (draft .exit))) ⌝ }
 {
     let mut n = at;
     let mut r: u8 = 0;
     while r < rules {
-        let i = wide(r);
-        if dropped[i] {
-            off[i] = true;
+        if has(dropped, r) {
+            put(off, r);
             n = write(draft, n, r);
         }
         r += 1;

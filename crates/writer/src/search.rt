@@ -1,6 +1,7 @@
 // The lowest rule that a step is written for. Tables of atoms are made for the step, so that a
 // search asks of an atom in one step.
 ghost use mathlib.Core.Path.{_≡_};
+ghost use Rattle.meaning.specs.Bits.{listed};
 ghost use Rattle.meaning.specs.Lowest.{lowest};
 ghost use Rattle.book.specs.Format.{bookIn, ReadAs};
 ghost use Rattle.closing.specs.Picked.{picked};
@@ -8,27 +9,27 @@ ghost use Rattle.writer.specs.Steps.{newOn, newOff};
 use book::Shape;
 use book::goes_on;
 use book::is_blocked;
-use book::wide;
 use closing::Picked;
 use meaning::Colouring;
 use meaning::RuleNo;
+use meaning::has;
 
 // 41: the lowest rule that may go on and isn't on.
 pub fn lowest_on<'a>(
     book: &[u8],
     shape: Shape,
-    on: &[bool; Colouring::RULES],
+    on: &[u64; 4],
     headed: &'a [bool; Colouring::ATOMS],
     lost: &'a [bool; Colouring::ATOMS],
 ) -> Picked
     requires { ⌜ ReadAs (now book) shape ⌝ }
     ensures { λ x. ⌜ picked x ≡ lowest (bookIn (now (book .entry)))
         (newOn (bookIn (now (book .entry))) (now (headed .entry)) (now (lost .entry))
-        (now (on .entry))) ⌝ }
+        (listed (now (on .entry)))) ⌝ }
 {
     let mut r: u8 = 0;
     while r < shape.rules {
-        if !on[wide(r)] {
+        if !has(on, r) {
             if goes_on(book, shape, RuleNo(r), headed, lost) {
                 return Picked::Rule(RuleNo(r));
             }
@@ -42,16 +43,16 @@ pub fn lowest_on<'a>(
 pub fn lowest_off(
     book: &[u8],
     shape: Shape,
-    off: &[bool; Colouring::RULES],
+    off: &[u64; 4],
     headed: &[bool; Colouring::ATOMS],
 ) -> Picked
     requires { ⌜ ReadAs (now book) shape ⌝ }
     ensures { λ x. ⌜ picked x ≡ lowest (bookIn (now (book .entry)))
-        (newOff (bookIn (now (book .entry))) (now (headed .entry)) (now (off .entry))) ⌝ }
+        (newOff (bookIn (now (book .entry))) (now (headed .entry)) (listed (now (off .entry)))) ⌝ }
 {
     let mut r: u8 = 0;
     while r < shape.rules {
-        if !off[wide(r)] {
+        if !has(off, r) {
             if is_blocked(book, shape, RuleNo(r), headed) {
                 return Picked::Rule(RuleNo(r));
             }

@@ -2,7 +2,7 @@
 // the rule off. Each branch is one try.
 ghost use Prim.Native.Nat.{_<_, _≤_};
 ghost use Rattle.meaning.specs.Claim.{claimed};
-ghost use Rattle.meaning.specs.Written.{pair};
+ghost use Rattle.meaning.specs.Written.{written, pair};
 ghost use Rattle.book.specs.Format.{bookIn, ReadAs};
 ghost use Rattle.writer.specs.Branches.{branches};
 ghost use Rattle.writer.specs.Scan.{Progress, scan};
@@ -43,7 +43,7 @@ pub fn write_branches(
     requires { ⌜ ReadAs (now book) shape × (claimed claim .0 < shape .atoms) ⌝ }
     ensures { λ q. ⌜ ((s : Progress) → Stage p (now (draft .entry)) s → s .tries ≤ limit →
         Stage q (now (draft .exit))
-        (scan limit s (branches (bookIn (now (book .entry))) claim (pair c)))) ⌝ }
+        (scan limit s (branches (bookIn (now (book .entry))) claim (pair (written c))))) ⌝ }
 {
     let course = p.course;
     let Course::Writing = course else {

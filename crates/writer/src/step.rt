@@ -3,6 +3,7 @@ ghost use mathlib.Core.Path.{_≡_};
 ghost use Prim.Native.Nat.{_<_};
 ghost use Rattle.meaning.specs.Colours.{clashing};
 ghost use Rattle.meaning.specs.Claim.{claimed};
+ghost use Rattle.meaning.specs.Bits.{listed};
 ghost use Rattle.meaning.specs.Written.{lent};
 ghost use Rattle.meaning.specs.Engine.{next};
 ghost use Rattle.book.specs.Format.{bookIn, ReadAs};
@@ -20,6 +21,7 @@ use meaning::Claim;
 use meaning::Colouring;
 use meaning::Kind;
 use meaning::RuleNo;
+use meaning::whole;
 use walk::lowest_uncoloured;
 
 // A step that the branch goes on after, or what it stops by.
@@ -27,7 +29,7 @@ pub enum Step {
     // 41 and 42, with their rule.
     On(RuleNo),
     Off(RuleNo),
-    // 55, with the length of its list. The rules are those of the array beside it.
+    // 55, with the length of its list. The rules are those of the set beside it.
     Unfounded(u8),
     Stops(Tip),
 }
@@ -42,17 +44,12 @@ pub enum Tip {
 }
 
 // Some rule is in both sets.
-fn is_clashing<'a>(
-    book: &[u8],
-    shape: Shape,
-    on: &'a [bool; Colouring::RULES],
-    off: &'a [bool; Colouring::RULES],
-) -> bool
+fn is_clashing<'a>(book: &[u8], shape: Shape, on: &'a [u64; 4], off: &'a [u64; 4]) -> bool
     requires { ⌜ ReadAs (now book) shape ⌝ }
     ensures { λ r. ⌜ r ≡
-        clashing (bookIn (now (book .entry))) (lent (now (on .entry)) (now (off .entry))) ⌝ }
+        clashing (bookIn (now (book .entry))) (lent (listed (now (on .entry))) (listed (now (off .entry)))) ⌝ }
 {
-    match lowest_clash(shape.rules, on, off) {
+    match lowest_clash(shape.rules, whole(on), whole(off)) {
         Picked::Nothing => false,
         Picked::Rule(_) => true,
     }
@@ -76,19 +73,19 @@ fn is_shown<'a>(
 }
 
 // 45 as soon as allowed; else the first of 41, 42, 55 and 53 that there is a rule for. The rules of
-// 55 are written over whatever the array held.
+// 55 are written over whatever the set held.
 pub fn next_step<'a>(
     book: &[u8],
     shape: Shape,
     claim: Claim,
-    on: &'a [bool; Colouring::RULES],
-    off: &'a [bool; Colouring::RULES],
-    dropped: &mut [bool; Colouring::RULES],
+    on: &'a [u64; 4],
+    off: &'a [u64; 4],
+    dropped: &mut [u64; 4],
 ) -> Step
     requires { ⌜ ReadAs (now book) shape × (claimed claim .0 < shape .atoms) ⌝ }
-    ensures { λ x. ⌜ Does (bookIn (now (book .entry))) (now (dropped .exit)) x
+    ensures { λ x. ⌜ Does (bookIn (now (book .entry))) (listed (now (dropped .exit))) x
         (next (bookIn (now (book .entry))) claim
-        (lent (now (on .entry)) (now (off .entry)))) ⌝ }
+        (lent (listed (now (on .entry))) (listed (now (off .entry))))) ⌝ }
 {
     if is_clashing(book, shape, on, off) {
         return Step::Stops(Tip::Ended);
@@ -110,7 +107,7 @@ pub fn next_step<'a>(
     if m != 0 {
         return Step::Unfounded(m);
     }
-    if let Picked::Rule(r) = lowest_uncoloured(shape.rules, on, off) {
+    if let Picked::Rule(r) = lowest_uncoloured(shape.rules, whole(on), whole(off)) {
         return Step::Stops(Tip::Parted(r));
     }
     Step::Stops(Tip::Unsettled)

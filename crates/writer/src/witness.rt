@@ -7,6 +7,7 @@ ghost use Rattle.meaning.specs.Colours.{heads};
 ghost use Rattle.meaning.specs.Paper.{numbers};
 ghost use Rattle.meaning.specs.Engine.{witnessOf};
 ghost use Rattle.meaning.specs.Lowest.{lowest};
+ghost use Rattle.meaning.specs.Bits.{listed};
 ghost use Rattle.meaning.specs.Written.{of};
 ghost use Rattle.book.specs.Format.{bookIn, ReadAs};
 ghost use Rattle.book.specs.Tables.{atomTable};
@@ -19,11 +20,12 @@ use book::Shape;
 use book::every_in;
 use book::heads_of;
 use book::positives;
-use book::wide;
 use closing::Picked;
 use meaning::Colouring;
 use meaning::PAPER_BYTES;
 use meaning::RuleNo;
+use meaning::has;
+use meaning::put;
 use walk::generates;
 
 // How many rules the witness lists, and the draft's length behind it.
@@ -38,16 +40,16 @@ fn may_list(
     shape: Shape,
     r: RuleNo,
     row: &[u8; Colouring::ATOMS],
-    listed: &[bool; Colouring::RULES],
+    taken: &[u64; 4],
     headed: &[bool; Colouring::ATOMS],
 ) -> bool
     requires { ⌜ ReadAs (now book) shape × (r .0 < shape .rules)
-        × (now headed ≡ atomTable (heads (bookIn (now book)) (of (now listed)))) ⌝ }
+        × (now headed ≡ atomTable (heads (bookIn (now book)) (of (listed (now taken))))) ⌝ }
     ensures { λ x. ⌜ x ≡ mayList (bookIn (now (book .entry)))
         (generating (bookIn (now (book .entry))) (setIn (now (row .entry))))
-        (now (listed .entry)) r ⌝ }
+        (listed (now (taken .entry))) r ⌝ }
 {
-    if listed[wide(r.0)] {
+    if has(taken, r.0) {
         return false;
     }
     if !generates(book, shape, r, row) {
@@ -57,23 +59,18 @@ fn may_list(
 }
 
 // The lowest rule that may be listed next.
-fn next_listed(
-    book: &[u8],
-    shape: Shape,
-    row: &[u8; Colouring::ATOMS],
-    listed: &[bool; Colouring::RULES],
-) -> Picked
+fn next_listed(book: &[u8], shape: Shape, row: &[u8; Colouring::ATOMS], taken: &[u64; 4]) -> Picked
     requires { ⌜ ReadAs (now book) shape ⌝ }
     ensures { λ x. ⌜ picked x ≡ lowest (bookIn (now (book .entry)))
         (mayList (bookIn (now (book .entry)))
         (generating (bookIn (now (book .entry))) (setIn (now (row .entry))))
-        (now (listed .entry))) ⌝ }
+        (listed (now (taken .entry)))) ⌝ }
 {
     let mut headed = [false; Colouring::ATOMS];
-    heads_of(book, shape, listed, &mut headed);
+    heads_of(book, shape, taken, &mut headed);
     let mut r: u8 = 0;
     while r < shape.rules {
-        if may_list(book, shape, RuleNo(r), row, listed, &headed) {
+        if may_list(book, shape, RuleNo(r), row, taken, &headed) {
             return Picked::Rule(RuleNo(r));
         }
         r += 1;
@@ -95,14 +92,14 @@ pub fn write_witness(
         × Writes (numbers (witnessOf (bookIn (now (book .entry))) (setIn (now (row .entry))))) at
         (now (draft .entry)) (w .length) (now (draft .exit)) ⌝ }
 {
-    let mut listed = [false; Colouring::RULES];
+    let mut taken = [0u64; 4];
     let mut n = at;
     let mut count: u8 = 0;
     while count < shape.rules {
-        let Picked::Rule(r) = next_listed(book, shape, row, &listed) else {
+        let Picked::Rule(r) = next_listed(book, shape, row, &taken) else {
             return Witness { count, length: n };
         };
-        listed[wide(r.0)] = true;
+        put(&mut taken, r.0);
         n = write(draft, n, r.0);
         count += 1;
     }

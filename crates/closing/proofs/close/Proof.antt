@@ -1,6 +1,6 @@
 -- The invariant: the sets, the marks and the tables go on from the start within every closed pair above it (UnderWay), and the rules that
 -- are on neither side become fewer. Where neither pass adds a rule the pair is closed. Blueprint C2.
-use mathlib.Core.Path.{_≡_}
+use mathlib.Core.Path.{_≡_, ap}
 use mathlib.Core.Bool.{Bool}
 use mathlib.Core.List.{List}
 use Prim.Native.Nat.{ℕ, _+_}
@@ -8,7 +8,10 @@ use native.Mathlib.Omega.{arith}
 use borrow.Author.Tests.{not-true, not-false}
 use borrow.Author.Needs.{needs}
 use Rattle.meaning.specs.Books.{Book}
+use Rattle.meaning.specs.Bits.{listed}
+use Rattle.meaning.specs.Written.{written, pair}
 use Rattle.meaning.proofs.Written.{Sized}
+use Rattle.meaning.proofs.Listed.{sized-written}
 use Rattle.book.specs.Format.{bookIn}
 use Rattle.book.proofs.Places.{shape-count}
 use Rattle.closing.specs.Growing.{Condition, Pass}
@@ -19,16 +22,17 @@ use Rattle.closing.proofs.close.Statement.{statement}
 use Rattle.closing.proofs.close.Tie as tie
 
 abbrev Inv-loop : tie.InvT-loop
-Inv-loop book shape c on₀ off₀ marks₀ headed₀ lost₀ on off marks headed lost = UnderWay (bookIn book) on₀ off₀ on off marks headed lost
+Inv-loop book shape rows c on₀ off₀ marks₀ headed₀ lost₀ on off marks headed lost =
+    UnderWay (bookIn book) (listed on₀) (listed off₀) (listed on) (listed off) (listed marks) headed lost
 
 abbrev μ-loop : tie.MeasureT-loop
-μ-loop book shape c on₀ off₀ marks₀ headed₀ lost₀ on off marks headed lost = room (bookIn book) on + room (bookIn book) off
+μ-loop book shape rows c on₀ off₀ marks₀ headed₀ lost₀ on off marks headed lost = room (bookIn book) (listed on) + room (bookIn book) (listed off)
 
 -- ---- the places on the way, with what is known there
 
--- the book is good, and each array of the colouring has 255 elements
-start-good : (s : tie.Start Inv-loop μ-loop) → Good (s .args .book .now) (s .args .shape) × Sized (s .args .t3)
-start-good s = (search needs, search needs)
+-- the book is good, and the tables of the colouring have their length
+start-good : (s : tie.Start Inv-loop μ-loop) → Good (s .args .book .now) (s .args .shape) × Sized (written (s .args .c))
+start-good s = (search needs, sized-written (s .args .c) (search needs))
 
 -- where the loop begins: behind lost_in, before it heads_of, before that support
 module _ (c : tie.After-lost-in Inv-loop μ-loop) where
@@ -39,7 +43,7 @@ module _ (c : tie.After-lost-in Inv-loop μ-loop) where
   supported = headed .before .before .before
 
   abbrev start : tie.Start Inv-loop μ-loop
-  start = supported .before .before .before .before .before .before
+  start = supported .before .before .before .before .before .before .before .before
 
 -- where a turn begins, from before its first pass
 abbrev turn : tie.After-headed2 Inv-loop μ-loop → tie.At-loop Inv-loop μ-loop
@@ -63,13 +67,6 @@ module _ (d : tie.After-grow-off Inv-loop μ-loop) where
   asks : Asks (bookIn (entry .args .book .now))
   asks = good-asks (start-good entry .0)
 
--- behind the search for a contradiction, the stamping; and before it, the tests that nothing was added
-abbrev stamping : tie.After-lowest-clash Inv-loop μ-loop → tie.After-stamp Inv-loop μ-loop
-stamping c = c .before .before .before
-
-abbrev tests : tie.After-levels2 Inv-loop μ-loop → tie.Then2 Inv-loop μ-loop
-tests c = c .before .before .before .before .before .before .before
-
 -- ---- the needs
 
 -- what a pass tells, by the test that was made on it
@@ -82,29 +79,26 @@ loop-holds c =
     closes-start _ (good-asks g) (s .on) (s .off) (headed c .heads-of .ensures) (c .lost-in .ensures) (supported c .support .ensures)
 
 pass-on-requires : tie.Need-pass-on-requires Inv-loop μ-loop
-pass-on-requires c κs = let l = turn c in (start (l .before) .pre, l .loop .inv .on-long, l .loop .inv .heads-table)
+pass-on-requires c κs = let l = turn c in (start (l .before) .pre .0, l .loop .inv .heads-table)
 
 grow-off-requires : tie.Need-grow-off-requires Inv-loop μ-loop
 grow-off-requires c κs =
     let l = turn (passed c .before) in
-    (start (l .before) .pre, l .loop .inv .off-long, l .loop .inv .lost-table, l .loop .inv .supported)
-
-stamp-requires : tie.Need-stamp-requires Inv-loop μ-loop
-stamp-requires c κs = start-good (entry (tests c .before .before)) .1 .levels
+    (start (l .before) .pre .0, l .loop .inv .lost-table, l .loop .inv .supported, start (l .before) .pre .1)
 
 returns : tie.Need-returns Inv-loop μ-loop
 returns c =
-    let m = stamping c in
-    let t = tests (m .before) in
+    let t = c .before in
     let d = t .before .before in
     let p = first d .pass-on .ensures in
     let q = d .grow-off .ensures in
     let x = not-true (first d .pass-on .result) (t .before .if1 .taken) in
     let y = not-true (d .grow-off .result) (t .if2 .taken) in
-    let n = shape-count _ _ (entry d .pre) in
-    let e = closes-end _ (asks d) (entry d .args .t3) (start-good (entry d) .1) (begun d .loop .inv) (tested x (p .0)) (p .1) (tested y (q .0))
-    (q .1) (q .2) n (m .stamp .ensures) in
-    (e, clash-end _ _ n e (c .lowest-clash .ensures))
+    let n = shape-count _ _ (entry d .pre .0) in
+    let z = c .ended .ensures in
+    let e = closes-end _ (asks d) (written (entry d .args .c)) (start-good (entry d) .1) (begun d .loop .inv) (tested x (p .0)) (p .1) (tested y (q .0))
+    (q .1) (q .2) n (z .0) in
+    (e, clash-end _ _ n e _ _ (ap pair (z .0)) (z .1))
 
 -- a pass that adds a rule leaves fewer, and the other pass no more
 loop-less : tie.Need-loop-less Inv-loop μ-loop
@@ -136,4 +130,4 @@ loop-again-2 c =
 pub close-spec : {M : Type 1} → statement M
 close-spec =
     tie.close (tie.spec Inv-loop μ-loop (λ c κs. search needs) (λ c κs. search needs) (λ c κs. search needs) loop-holds
-    pass-on-requires grow-off-requires stamp-requires (λ c κs. search needs) returns loop-less loop-again loop-less-2 loop-again-2)
+    pass-on-requires grow-off-requires (λ c κs. search needs) returns loop-less loop-again loop-less-2 loop-again-2)

@@ -12,17 +12,18 @@ use borrow.Author.Tests.{not-true, not-false}
 use Rattle.meaning.specs.Books.{atomNo}
 use Rattle.meaning.specs.Colours.{allIn}
 use Rattle.meaning.specs.Sets.{some}
+use Rattle.meaning.specs.Bits.{listed}
 use Rattle.meaning.specs.Written.{of}
 use Rattle.meaning.proofs.Tests.{or-left}
 use Rattle.book.specs.Format.{bookIn}
-use Rattle.book.proofs.AtomSets.{of-place, allTo, all-at-none, all-at-skip, all-at-other, all-at-end}
+use Rattle.book.proofs.AtomSets.{allTo, all-at-none, all-at-skip, all-at-other, all-at-end}
 use Rattle.book.proofs.Bodies.{some-end, some-turn, some-part, not-all-in}
 use Rattle.book.proofs.Places.{shape-count}
 use Rattle.book.proofs.conditions.is_starved.Statement.{statement}
 use Rattle.book.proofs.conditions.is_starved.Tie as tie
 
 abbrev Inv-loop : tie.InvT-loop
-Inv-loop book shape off body starved i a q₀ q = (q ≤ shape .rules) × (allTo (bookIn book) (of off) q (atomNo a) ≡ true)
+Inv-loop book shape off body starved i a q₀ q = (q ≤ shape .rules) × (allTo (bookIn book) (of (listed off)) q (atomNo a) ≡ true)
 
 abbrev μ-loop : tie.MeasureT-loop
 μ-loop book shape off body starved i a q₀ q = shape .rules - q
@@ -31,7 +32,7 @@ abbrev Inv-atoms : tie.InvT-atoms
 Inv-atoms book shape off body starved₀ i₀ starved i =
     (i ≤ length body)
     ×
-    (some (allIn (bookIn book) (of off)) (map atomNo body) ≡ some (allIn (bookIn book) (of off))
+    (some (allIn (bookIn book) (of (listed off))) (map atomNo body) ≡ some (allIn (bookIn book) (of (listed off)))
     (map atomNo (drop i body)))
     × (starved ≡ false)
 
@@ -55,12 +56,12 @@ module _ (l : tie.At-loop Inv-loop μ-loop Inv-atoms μ-atoms) where
 atoms-again : tie.Need-atoms-again Inv-loop μ-loop Inv-atoms μ-atoms
 atoms-again c =
     let t = c .before .before .before in
-    let w = t .before .before in
+    let w = t .before in
     let l = w .before .before .before in
     let k = outer l in
     let n = shape-count _ (start l .args .shape) (start l .pre .0) in
-    let e = not-all-in (bookIn (start l .args .book .now)) (of (start l .args .off .now)) (l .loop .q) _ _ (omega arith)
-    (c .before .before .head .ensures) (c .if3 .taken) (of-place _ _ _ _ (w .wide .ensures .0) (not-true _ (t .if2 .taken))) in (
+    let e = not-all-in (bookIn (start l .args .book .now)) (of (listed (start l .args .off .now))) (l .loop .q) _ _ (omega arith)
+    (c .before .before .head .ensures) (c .if3 .taken) (sym (w .has .ensures) ∙ not-true _ (t .if2 .taken)) in (
       search needs,
       k .atoms .inv .1 ∙ some-turn _ (k .before .positives .result .now) (k .atoms .i) (omega arith) ∙ rw e,
       k .atoms .inv .2,
@@ -68,11 +69,11 @@ atoms-again c =
 
 loop-again : tie.Need-loop-again Inv-loop μ-loop Inv-atoms μ-atoms
 loop-again c =
-    let l = c .before .before .before .before .before in (
+    let l = c .before .before .before .before in (
       search needs,
       ⊎-elim (λ w. all-at-other _ _ (l .loop .q) _ _ (w .1 .ensures) (w .3 .left) (l .loop .inv .1))
           (λ w. all-at-skip _ _ (l .loop .q) _
-          (of-place _ _ _ _ (c .before .before .wide .ensures .0) (not-false _ (w .left))) (l .loop .inv .1))
+          (sym (c .before .has .ensures) ∙ not-false _ (w .left)) (l .loop .inv .1))
           (c .if2 .came),
     )
 
@@ -99,5 +100,5 @@ returns-2 c =
 pub is-starved-spec : {M : Type 1} → statement M
 is-starved-spec =
     tie.close (tie.spec Inv-loop μ-loop Inv-atoms μ-atoms (λ c κs. search needs) atoms-holds (λ c. search needs)
-    (λ c. search needs) loop-holds (λ c κs. search needs) (λ c. search needs) (λ c κs. search needs)
+    (λ c. search needs) loop-holds (λ c κs. search needs) (λ c κs. search needs)
     (λ c. search needs) atoms-again (λ c. search needs) (λ c. search needs) loop-again returns returns-2)

@@ -8,6 +8,8 @@ use mathlib.Core.Path.{_≡_, refl, ap}
 use borrow.Fn.Kinds.{In}
 use borrow.Fn.PlainCycle.{Measures, is, falls, and}
 use Rattle.meaning.specs.Books.{count}
+use Rattle.meaning.specs.Written.{written}
+use Rattle.meaning.proofs.Listed.{listed-long}
 use Rattle.book.specs.Format.{bookIn}
 use Rattle.book.proofs.Places.{shape-count}
 use Rattle.checker.specs.Parts.{Ready, RuleWithin, walked}
@@ -101,13 +103,6 @@ module _ (t : ℕ) (s : split-lts.Start (split-calls t) (split-at t) split.Post)
   few : count (bookIn (s .args .book .now)) ≤ 255
   few = omega (arith, shape-count _ _ (ready .read))
 
-  -- the colouring's arrays have their length
-  on-long : length (s .args .c .on) ≡ 255
-  on-long = search needs
-
-  off-long : length (s .args .c .off) ≡ 255
-  off-long = search needs
-
 module _ (t : ℕ) where
   -- behind the rule's going on: the start
   abbrev split-start : split-lts.After-with-on (split-calls t) (split-at t) split.Post
@@ -125,26 +120,20 @@ module _ (t : ℕ) where
     start = split-start (c .before)
 
     parted : let s = start .args in
-        Parted (bookIn (s .book .now)) (s .trailer .claim) (s .paper .now) (s .trailer .from) (s .at) (s .r) (s .c)
-        (c .before .with-on .result) (c .branch .result)
+        Parted (bookIn (s .book .now)) (s .trailer .claim) (s .paper .now) (s .trailer .from) (s .at) (s .r) (written (s .c))
+        (written (c .before .with-on .result)) (c .branch .result)
     parted = record {
       within = within t start;
       splits = start .pre .1 .2;
       few = few t start;
-      on-long = on-long t start;
-      off-long = off-long t start;
+      on-long = listed-long _;
+      off-long = listed-long _;
       on = c .before .with-on .ensures;
       comes = c .branch .ensures;
     }
 
-  split-with-on-requires : split-lts.Need-with-on-requires (split-calls t) (split-at t) split.Post
-  split-with-on-requires c κs = let s = c .before .before in omega (arith, few t s, within t s .0)
-
   split-branch-requires : split-lts.Need-branch-requires (split-calls t) (split-at t) split.Post
   split-branch-requires c κs = let s = split-start c in (omega (arith, within t s .1), ready t s)
-
-  split-with-off-requires : split-lts.Need-with-off-requires (split-calls t) (split-at t) split.Post
-  split-with-off-requires c κs = let s = start (first c) in omega (arith, few t s, within t s .0)
 
   split-branch-requires-2 : split-lts.Need-branch-requires-2 (split-calls t) (split-at t) split.Post
   split-branch-requires-2 c κs =
@@ -168,6 +157,6 @@ pub +branch+split-spec : {M : Type 1} → statement M
     (λ t. branch-lts.spec (branch-calls t) (branch-at t) branch.Post (λ c κs. search needs) (λ c. search needs) (branch-add-t13 t)
     (λ c. search needs) (branch-split-requires t) (λ c. search needs) (λ c. search needs) (branch-returns t) (branch-returns-2 t)
     (branch-returns-3 t) (branch-returns-4 t))
-    (λ t. split-lts.spec (split-calls t) (split-at t) split.Post (λ c. search needs) (split-with-on-requires t) (split-branch-requires t)
-    (λ c. search needs) (split-with-off-requires t) (split-branch-requires-2 t) (λ c. search needs) (λ c. search needs) (split-returns t)
+    (λ t. split-lts.spec (split-calls t) (split-at t) split.Post (λ c. search needs) (λ c κs. search needs) (split-branch-requires t)
+    (λ c. search needs) (λ c κs. search needs) (split-branch-requires-2 t) (λ c. search needs) (λ c. search needs) (split-returns t)
     (split-returns-2 t) (split-returns-3 t))

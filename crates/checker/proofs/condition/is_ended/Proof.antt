@@ -11,10 +11,10 @@ use Rattle.checker.proofs.condition.is_ended.Tie as tie
 -- rule by rule it was asked whether one is in both sets, for as many rules as the book has
 module _ (c : tie.After-is-clashing) where
   abbrev start : tie.Start
-  start = c .before .before .before
+  start = c .before .before
 
-  counted : c .before .wide .result ≡ count (bookIn (start .args .book .now))
-  counted = c .before .wide .ensures .0 ∙ sym (shape-count _ _ (start .pre))
+  counted : start .args .shape .rules ≡ count (bookIn (start .args .book .now))
+  counted = sym (shape-count _ _ (start .pre))
 
 returns : tie.Need-returns
 returns c = let p = c .before in sym (ended-clash _ _ _ _ _ (counted p) (sym (p .is-clashing .ensures) ∙ c .if1 .taken))
@@ -26,4 +26,4 @@ returns-2 c =
 
 pub is-ended-spec : {M : Type 1} → statement M
 is-ended-spec =
-    tie.close (tie.spec (λ c κs. search needs) (λ c κs. search needs) returns (λ c κs. search needs) returns-2)
+    tie.close (tie.spec (λ c κs. search needs) returns (λ c κs. search needs) returns-2)

@@ -1,24 +1,24 @@
 -- No rule below r that is outside the set has the atom as head, until one is found.
 use borrow.Author.Needs.{needs}
 use native.Mathlib.Omega.{arith}
-use mathlib.Core.Path.{_≡_}
+use mathlib.Core.Path.{_≡_, sym, ap, _∙_}
 use mathlib.Core.Logic.{⊎-elim}
 use mathlib.Core.Bool.{Bool, true, false, not, _&&_}
 use Prim.Native.Nat.{_-_, _≤_}
-use lib.ListN.{getD}
 use Rattle.meaning.specs.Sets.{someBelow}
 use Rattle.meaning.specs.Books.{Rules, ruleNo, sameAtom, Book, rule}
+use Rattle.meaning.specs.Bits.{listed}
 use Rattle.meaning.specs.Written.{of}
 use Rattle.meaning.proofs.Sets.{none-next, none-end}
 use Rattle.book.specs.Format.{bookIn}
 use Rattle.book.proofs.Places.{shape-count, shape-in}
-use Rattle.checker.proofs.Conditions.{rule-says, head-here, head-other, head-out, head-none, lost-by}
+use Rattle.checker.proofs.Conditions.{head-here, head-other, head-out, head-none, lost-by}
 use Rattle.checker.proofs.condition.is_lost.Statement.{statement}
 use Rattle.checker.proofs.condition.is_lost.Tie as tie
 
 abbrev Inv-loop : tie.InvT-loop
 Inv-loop book shape a set r₀ r = (r ≤ shape .rules)
-    × (someBelow r (λ n. not (of set (ruleNo n)) && sameAtom (rule (bookIn book) (ruleNo n) .head) a) ≡ false)
+    × (someBelow r (λ n. not (of (listed set) (ruleNo n)) && sameAtom (rule (bookIn book) (ruleNo n) .head) a) ≡ false)
 
 abbrev μ-loop : tie.MeasureT-loop
 μ-loop book shape a set r₀ r = shape .rules - r
@@ -28,7 +28,7 @@ unfolding someBelow
 loop-holds c = search needs
 
 -- rule r is looked up in the set: the turn of the loop, and the start
-module _ (c : tie.After-wide Inv-loop μ-loop) where
+module _ (c : tie.After-has Inv-loop μ-loop) where
   abbrev turn : tie.At-loop Inv-loop μ-loop
   turn = c .before .before .before
 
@@ -39,22 +39,22 @@ module _ (c : tie.After-wide Inv-loop μ-loop) where
   b = bookIn (start .args .book .now)
 
   abbrev outside : Rules
-  outside r = not (of (start .args .set .now) r)
+  outside r = not (of (listed (start .args .set .now)) r)
 
-  -- what place r of the table says of rule r
-  says : (v : Bool) → not (getD (start .args .set .now) (c .wide .result) false) ≡ v → outside (ruleNo (turn .loop .r)) ≡ v
-  says v t = rule-says not _ _ _ v (c .wide .ensures .0) t
+  -- what the code was told of rule r
+  says : (v : Bool) → not (c .has .result) ≡ v → outside (ruleNo (turn .loop .r)) ≡ v
+  says v t = ap not (sym (c .has .ensures)) ∙ t
 
 returns : tie.Need-returns Inv-loop μ-loop
 returns c =
     let h = c .before .before .before in
-    let p = h .before .before .before in
+    let p = h .before .before in
     lost-by _ _ _ true (head-here (b p) (outside p) _ _ (turn p .loop .r) (h .head .ensures)
     (shape-in _ _ (start p .pre) (ruleNo (turn p .loop .r)) (omega arith)) (says p true (h .before .if2 .taken)) (c .if3 .taken))
 
 loop-again : tie.Need-loop-again Inv-loop μ-loop
 loop-again c =
-    let p = c .before .before in (
+    let p = c .before in (
       omega arith,
       none-next _ _ (⊎-elim (λ w. head-other (b p) (outside p) _ _ (turn p .loop .r) (w .1 .ensures) (w .4 .left))
           (λ w. head-out (b p) (outside p) _ (turn p .loop .r) (says p false (w .left))) (c .if2 .came)) (turn p .loop .inv .1),
@@ -68,5 +68,5 @@ returns-2 c =
 
 pub is-lost-spec : {M : Type 1} → statement M
 is-lost-spec =
-    tie.close (tie.spec Inv-loop μ-loop loop-holds (λ c κs. search needs) (λ c. search needs) (λ c κs. search needs) returns
+    tie.close (tie.spec Inv-loop μ-loop loop-holds (λ c κs. search needs) (λ c κs. search needs) returns
     (λ c. search needs) (λ c. search needs) loop-again returns-2)

@@ -1,7 +1,13 @@
--- The set that is off or listed, and the atoms all of whose rules it holds, are those of the step's condition.
+-- The set that is off or listed is that of the step's condition.
 use borrow.Author.Needs.{needs}
 use native.Mathlib.Omega.{arith}
-use mathlib.Core.Path.{_∙_}
+use mathlib.Core.Path.{_∙_, ap}
+use mathlib.Core.List.{List, map}
+use Prim.Native.Nat.{ℕ}
+use Rattle.meaning.specs.Books.{ruleNo}
+use Rattle.meaning.specs.Bits.{listed}
+use Rattle.meaning.specs.Colours.{plus}
+use Rattle.meaning.specs.Written.{of}
 use Rattle.checker.proofs.Lists.{below-more}
 use Rattle.checker.proofs.Conditions.{unfounded-by}
 use Rattle.checker.proofs.list.is_unfounded.Statement.{statement}
@@ -12,12 +18,13 @@ with-rules-requires c κs = below-more (omega arith) (c .before .before .before 
 
 returns : tie.Need-returns
 returns c =
-    let l = c .before .before in
-    let g = l .before .before .before in
-    let s = g .before .before .before .before in
-    c .each-has-in .ensures
-    ∙ unfounded-by _ _ (s .pre .0) (omega arith) _ _ _ _ (g .with-rules .ensures) (l .lost-in .ensures) (s .pre .1)
+    let g = c .before .before .before in
+    let w = g .before in
+    let s = w .before .before .before .args in
+    c .each-starves .ensures
+    ∙ unfounded-by _ (of (listed (s .off .now))) (of (listed (g .with-rules .result .w))) (s .list .now)
+    (g .with-rules .ensures ∙ ap (λ (v : List ℕ). plus (of (listed v)) (map ruleNo (s .list .now))) (w .whole .ensures))
 
 pub is-unfounded-spec : {M : Type 1} → statement M
 is-unfounded-spec =
-    tie.close (tie.spec with-rules-requires (λ c κs. search needs) (λ c κs. search needs) returns)
+    tie.close (tie.spec (λ c κs. search needs) with-rules-requires (λ c κs. search needs) returns)

@@ -3,8 +3,11 @@
 use borrow.Author.Needs.{needs}
 use native.Mathlib.Omega.{arith}
 use Prim.Native.Nat.{_+_, _-_, _≤_}
+use mir.Syntax.{w64}
+use mir.Val.{Fits}
 use Rattle.meaning.specs.Books.{count}
-use Rattle.meaning.specs.Written.{pair}
+use Rattle.meaning.specs.Written.{written, pair}
+use Rattle.meaning.proofs.Listed.{listed-long}
 use Rattle.book.specs.Format.{bookIn}
 use Rattle.book.proofs.Places.{shape-count}
 use Rattle.checker.specs.Parts.Leads.{here}
@@ -14,7 +17,7 @@ use Rattle.checker.proofs.run.run_steps.Tie as tie
 
 abbrev Inv-loop : tie.InvT-loop
 Inv-loop book shape paper trailer at colours₀ i₀ colours i =
-    Led (bookIn book) (trailer .claim) paper (trailer .from) at (pair colours₀) i colours
+    Led (bookIn book) (trailer .claim) paper (trailer .from) at (pair (written colours₀)) i (written colours)
 
 abbrev μ-loop : tie.MeasureT-loop
 μ-loop book shape paper trailer at colours₀ i₀ colours i = trailer .from - i
@@ -22,7 +25,7 @@ abbrev μ-loop : tie.MeasureT-loop
 -- behind the step that was found: the turn of the loop, the start, and that a good book has at most 255 rules
 module _ (c : tie.After-check-step Inv-loop μ-loop) where
   abbrev turn : tie.At-loop Inv-loop μ-loop
-  turn = c .before .before .before .before
+  turn = c .before .before .before .before .before .before .before
 
   abbrev start : tie.Start Inv-loop μ-loop
   start = turn .before .before .before
@@ -30,25 +33,24 @@ module _ (c : tie.After-check-step Inv-loop μ-loop) where
   few : count (bookIn (start .args .book .now)) ≤ 255
   few = omega (arith, shape-count _ _ (start .pre .read))
 
+-- where the witness starts is a number of the machine
+from-fits : (s : tie.Start Inv-loop μ-loop) → Fits w64 (s .args .trailer .from)
+from-fits s = search needs
+
 loop-holds : tie.Need-loop-holds Inv-loop μ-loop
-loop-holds c = record { leads = here; on-long = search needs; off-long = search needs }
+loop-holds c = record { leads = here; on-long = listed-long _; off-long = listed-long _ }
 
 -- ---- 41
 
 abbrev on-found : tie.After-r Inv-loop μ-loop → tie.After-check-step Inv-loop μ-loop
 on-found c = c .before .before
 
-with-on-requires : tie.Need-with-on-requires Inv-loop μ-loop
-with-on-requires c κs =
-    let k = c .before in
-    let p = on-found k in
-    omega (arith, few p, found-by (p .check-step .ensures) (k .r .given .1) .0)
-
 add-i : tie.Need-add-i Inv-loop μ-loop
 add-i c =
     let k = c .before .before in
-    let (h, room) = found-by (on-found k .check-step .ensures) (k .r .given .1) in
-    search needs
+    let p = on-found k in
+    let (h, room) = found-by (p .check-step .ensures) (k .r .given .1) in
+    record { fits = omega (arith, room, from-fits (start p) .fits) }
 
 loop-less : tie.Need-loop-less Inv-loop μ-loop
 loop-less c = let k = c .before .before in omega (arith, found-by (on-found k .check-step .ensures) (k .r .given .1) .1)
@@ -64,17 +66,12 @@ loop-again c =
 abbrev off-found : tie.After-r2 Inv-loop μ-loop → tie.After-check-step Inv-loop μ-loop
 off-found c = c .before .before
 
-with-off-requires : tie.Need-with-off-requires Inv-loop μ-loop
-with-off-requires c κs =
-    let k = c .before in
-    let p = off-found k in
-    omega (arith, few p, found-by (p .check-step .ensures) (k .r2 .given .1) .0)
-
 add-i-2 : tie.Need-add-i-2 Inv-loop μ-loop
 add-i-2 c =
     let k = c .before .before in
-    let (h, room) = found-by (off-found k .check-step .ensures) (k .r2 .given .1) in
-    search needs
+    let p = off-found k in
+    let (h, room) = found-by (p .check-step .ensures) (k .r2 .given .1) in
+    record { fits = omega (arith, room, from-fits (start p) .fits) }
 
 loop-less-2 : tie.Need-loop-less-2 Inv-loop μ-loop
 loop-less-2 c = let k = c .before .before in omega (arith, found-by (off-found k .check-step .ensures) (k .r2 .given .1) .1)
@@ -94,8 +91,8 @@ module _ (c : tie.After-m Inv-loop μ-loop) where
   room : turn found .loop .i + 2 + c .m .given .0 .0 ≤ start found .args .trailer .from
   room = found-by (found .check-step .ensures) (c .m .given .1) .0
 
-abbrev listed : tie.After-with-rules-arg Inv-loop μ-loop → tie.After-m Inv-loop μ-loop
-listed c = c .before .before .before
+abbrev taken : tie.After-with-rules-arg Inv-loop μ-loop → tie.After-m Inv-loop μ-loop
+taken c = c .before .before
 
 add-first : tie.Need-add-first Inv-loop μ-loop
 add-first c = let h = room (c .before) in search needs
@@ -104,19 +101,19 @@ add-end : tie.Need-add-end Inv-loop μ-loop
 add-end c = let h = room (c .before) in search needs
 
 part-with-rules-end : tie.Need-part-with-rules-end Inv-loop μ-loop
-part-with-rules-end c = let h = room (c .before .before) in search needs
+part-with-rules-end c = let h = room (c .before) in search needs
 
 with-rules-requires : tie.Need-with-rules-requires Inv-loop μ-loop
 with-rules-requires c κs =
-    let m = listed c in list-small (found m .check-step .ensures) (m .m .given .1) (few (found m))
+    let m = taken c in list-small (found m .check-step .ensures) (m .m .given .1) (few (found m))
 
 loop-less-3 : tie.Need-loop-less-3 Inv-loop μ-loop
-loop-less-3 c = omega (arith, room (listed (c .before)))
+loop-less-3 c = omega (arith, room (taken (c .before)))
 
 loop-again-3 : tie.Need-loop-again-3 Inv-loop μ-loop
 loop-again-3 c =
-    let m = listed (c .before) in
-    led-list (turn (found m) .loop .inv) (few (found m)) _ (found m .check-step .ensures) _ _ (m .m .given .1) (search needs)
+    let m = taken (c .before) in
+    led-list (turn (found m) .loop .inv) (few (found m)) _ (found m .check-step .ensures) _ _ (m .m .given .1) (listed-long _)
     (c .with-rules .ensures)
 
 -- ---- the stop
@@ -133,7 +130,7 @@ returns c =
 
 pub run-steps-spec : {M : Type 1} → statement M
 run-steps-spec =
-    tie.close (tie.spec Inv-loop μ-loop loop-holds (λ c κs. search needs) (λ c. search needs) with-on-requires add-i loop-less
-    loop-again (λ c. search needs) with-off-requires add-i-2 loop-less-2 loop-again-2 (λ c. search needs) add-first add-end
+    tie.close (tie.spec Inv-loop μ-loop loop-holds (λ c κs. search needs) (λ c. search needs) (λ c κs. search needs) add-i loop-less
+    loop-again (λ c. search needs) (λ c κs. search needs) add-i-2 loop-less-2 loop-again-2 (λ c. search needs) add-first add-end
     (λ c. search needs) (λ c. search needs) part-with-rules-end with-rules-requires loop-less-3 loop-again-3 (λ c. search needs)
     returns)

@@ -2,6 +2,7 @@
 use borrow.Author.Needs.{needs}
 use native.Mathlib.Omega.{arith}
 use mathlib.Core.Path.{sym, _∙_}
+use Rattle.meaning.specs.Bits.{listed}
 use Rattle.checker.proofs.StepChecked.{step-late, end-holds, end-fails}
 use Rattle.checker.proofs.step.check_step.Statement.{statement}
 use Rattle.checker.proofs.step.check_step.Tie as tie
@@ -12,7 +13,7 @@ returns c = step-late _ _ _ _ _ _ (omega arith)
 returns-2 : tie.Need-returns-2
 returns-2 c =
     let start = c .before .before .before .before .before .before .before in
-    c .check-list-step .ensures (start .args .on .now)
+    c .check-list-step .ensures (listed (start .args .on .now))
 
 returns-3 : tie.Need-returns-3
 returns-3 c =

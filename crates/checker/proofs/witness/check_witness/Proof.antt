@@ -7,6 +7,8 @@ use mathlib.Core.List.{List, []}
 use Prim.Native.Nat.{ℕ, _+_, _-_, _≤_}
 use lib.ListN.{take, drop}
 use borrow.Author.Tests.{not-true, not-false}
+use Rattle.meaning.specs.Bits.{listed}
+use Rattle.meaning.proofs.Listed.{listed-empty}
 use Rattle.book.specs.Format.{bookIn}
 use Rattle.book.specs.Tables.{Below}
 use Rattle.book.proofs.Places.{shape-count}
@@ -42,10 +44,10 @@ module _ (c : tie.After-enum-told) where
 -- the tables are made
 module _ (c : tie.After-heads-of) where
   abbrev made : tie.After-with-rules
-  made = c .before .before .before
+  made = c .before .before .before .before
 
   abbrev right : tie.After-enum-told
-  right = made .before .before
+  right = made .before .before .before
 
   -- the last argument of heads_of, as it left it
   abbrev headed : List Bool
@@ -53,12 +55,14 @@ module _ (c : tie.After-heads-of) where
 
   tabled : let s = start (first right) .args in
       Tabled (s .book .now) (s .shape) (s .paper .now) (s .trailer .from) (s .trailer .count) (list (first right))
-      (made .with-rules .result) headed
+      (listed (made .with-rules .result .w)) headed
   tabled = record {
     read = start (first right) .pre .0;
     small = omega arith;
     part = refl;
     order = ordered right;
+    none = listed (made .before .before .empty .result .w);
+    empty = listed-empty _ (made .before .before .empty .ensures);
     rules = made .with-rules .ensures;
     table = c .heads-of .ensures;
   }
@@ -68,7 +72,7 @@ returns c =
     let k = c .before in finds-order _ _ _ _ _ refl _ (k .before .before .check-order .ensures) _ (k .at .given .1)
 
 with-rules-requires : tie.Need-with-rules-requires
-with-rules-requires c κs = below (c .before) _ (omega arith)
+with-rules-requires c κs = below (c .before .before) _ (omega arith)
 
 check-unblocked-requires : tie.Need-check-unblocked-requires
 check-unblocked-requires c κs =
@@ -89,6 +93,9 @@ returns-2 c =
 abbrev unblocked : tie.After-rest-fails → tie.After-enum-told2
 unblocked c = c .before .before .before
 
+sub-t34 : tie.Need-sub-t34
+sub-t34 c = let p = unblocked (c .before) .before .before in omega (arith, start (first (right (tables p))) .pre .1)
+
 returns-3 : tie.Need-returns-3
 returns-3 c =
     let q = unblocked (c .before) in
@@ -106,6 +113,6 @@ returns-4 c =
 pub check-witness-spec : {M : Type 1} → statement M
 check-witness-spec =
     tie.close (tie.spec (λ c. search needs) (λ c. search needs) (λ c. search needs) (λ c. search needs) (λ c κs. search needs)
-    (λ c. search needs) returns (λ c. search needs) (λ c. search needs) (λ c. search needs) (λ c. search needs) with-rules-requires
+    (λ c. search needs) returns (λ c. search needs) (λ c κs. search needs) (λ c. search needs) (λ c. search needs) (λ c. search needs) with-rules-requires
     (λ c κs. search needs) (λ c. search needs) (λ c. search needs) (λ c. search needs) check-unblocked-requires (λ c. search needs)
-    returns-2 (λ c. search needs) (λ c κs. search needs) (λ c. search needs) returns-3 returns-4)
+    returns-2 (λ c. search needs) (λ c κs. search needs) sub-t34 returns-3 returns-4)

@@ -1,16 +1,20 @@
 -- The marks are grown from nothing, and the rules without a mark become fewer; a sweep that marks none has found the support set.
-use mathlib.Core.Path.{_≡_, _∙_}
+use mathlib.Core.Path.{_≡_}
 use mathlib.Core.Bool.{false}
-use lib.ListN.{replicate, length-replicate}
+use Prim.Native.Nat.{ℕ}
+use lib.ListN.{replicate}
 use borrow.Author.Tests.{not-true, not-false}
 use borrow.Author.Needs.{needs}
 use Rattle.meaning.specs.Colours.{heads}
+use Rattle.meaning.specs.Bits.{listed}
 use Rattle.meaning.specs.Written.{of}
+use Rattle.meaning.proofs.Four.{members-nothing}
+use Rattle.meaning.proofs.Listed.{listed-empty}
 use Rattle.book.specs.Tables.{atomTable}
 use Rattle.book.specs.Format.{bookIn}
 use Rattle.closing.specs.Growing.{Grown}
 use Rattle.closing.specs.Conditions.{marking}
-use Rattle.closing.proofs.Growing.{room, grown-start, grown-more, pass-less}
+use Rattle.closing.proofs.Growing.{room, grown-none, grown-more, pass-less}
 use Rattle.closing.proofs.Good.{Good, good-few}
 use Rattle.closing.proofs.Headed.{headed-none}
 use Rattle.closing.proofs.Supporting.{marks-support}
@@ -19,11 +23,11 @@ use Rattle.closing.proofs.marking.support.Tie as tie
 
 abbrev Inv-loop : tie.InvT-loop
 Inv-loop book shape off marks₀ supported₀ marks supported =
-    Grown (bookIn book) (marking (bookIn book) (of off)) (replicate 255 false) marks
-    × (supported ≡ atomTable (heads (bookIn book) (of marks)))
+    Grown (bookIn book) (marking (bookIn book) (of (listed off))) (replicate 256 false) (listed marks)
+    × (supported ≡ atomTable (heads (bookIn book) (of (listed marks))))
 
 abbrev μ-loop : tie.MeasureT-loop
-μ-loop book shape off marks₀ supported₀ marks supported = room (bookIn book) marks
+μ-loop book shape off marks₀ supported₀ marks supported = room (bookIn book) (listed marks)
 
 -- where a sweep begins: the turn of the loop, and the start
 abbrev turn : tie.After-supported Inv-loop μ-loop → tie.At-loop Inv-loop μ-loop
@@ -33,12 +37,12 @@ abbrev start : tie.At-loop Inv-loop μ-loop → tie.Start Inv-loop μ-loop
 start l = l .before .before .before
 
 loop-holds : tie.Need-loop-holds Inv-loop μ-loop
-loop-holds c = (grown-start _, headed-none _)
+loop-holds c = let e = listed-empty (replicate {A = ℕ} 4 0) members-nothing in (grown-none _ _ e, headed-none _ _ e)
 
 sweep-requires : tie.Need-sweep-requires Inv-loop μ-loop
 sweep-requires c κs =
     let k = turn c in
-    (search needs, k .loop .inv .0 .long ∙ length-replicate 255 false, k .loop .inv .1)
+    (search needs, k .loop .inv .1)
 
 returns : tie.Need-returns Inv-loop μ-loop
 returns c =

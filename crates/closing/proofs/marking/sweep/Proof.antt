@@ -4,7 +4,9 @@ use Prim.Native.Nat.{_≤_, _-_}
 use native.Mathlib.Omega.{arith}
 use borrow.Author.Needs.{needs}
 use Rattle.meaning.specs.Colours.{heads}
+use Rattle.meaning.specs.Bits.{listed}
 use Rattle.meaning.specs.Written.{of}
+use Rattle.meaning.proofs.Listed.{listed-long}
 use Rattle.book.specs.Tables.{atomTable}
 use Rattle.book.specs.Format.{bookIn}
 use Rattle.book.proofs.Places.{shape-count}
@@ -17,20 +19,20 @@ use Rattle.closing.proofs.marking.sweep.Tie as tie
 
 abbrev Inv-loop : tie.InvT-loop
 Inv-loop book shape off marks₀ supported₀ more₀ r₀ marks supported more r =
-    (r ≤ shape .rules) × Pass (bookIn book) (marking (bookIn book) (of off)) r marks₀ marks more
-    × (supported ≡ atomTable (heads (bookIn book) (of marks)))
+    (r ≤ shape .rules) × Pass (bookIn book) (marking (bookIn book) (of (listed off))) r (listed marks₀) (listed marks) more
+    × (supported ≡ atomTable (heads (bookIn book) (of (listed marks))))
 
 abbrev μ-loop : tie.MeasureT-loop
 μ-loop book shape off marks₀ supported₀ more₀ r₀ marks supported more r = shape .rules - r
 
 loop-holds : tie.Need-loop-holds Inv-loop μ-loop
-loop-holds c = (search needs, pass-start _, c .before .pre .2)
+loop-holds c = (search needs, pass-start _, c .before .pre .1)
 
 loop-again : tie.Need-loop-again Inv-loop μ-loop
 loop-again c =
     let k = c .before .before .before .before .before in
     let e = shape-count _ (k .before .before .args .shape) (k .before .before .pre .0) in
-    let f = k .loop .inv .1 .grown .long in (
+    let f = listed-long (k .loop .marks) in (
       search needs,
       pass-turn (marking-mono _ _) (k .loop .r) (omega arith) (omega arith) (k .loop .inv .1) (c .try-rule .ensures .0),
       c .try-rule .ensures .1,

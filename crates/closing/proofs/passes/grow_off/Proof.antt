@@ -9,7 +9,7 @@ returns : tie.Need-returns
 returns c =
     let k = c .before .before .before .before .before in
     let p = rw (not-true (c .before .pass-off .result) (c .if1 .taken)) at (c .before .pass-off .ensures) in
-    (p, rw (← p .none-same refl) (k .pre .2), rw (← p .none-same refl) (k .pre .3))
+    (p, rw (← p .none-same refl) (k .pre .1), rw (← p .none-same refl) (k .pre .2))
 
 returns-2 : tie.Need-returns-2
 returns-2 c =

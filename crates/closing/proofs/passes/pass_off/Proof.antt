@@ -2,6 +2,8 @@
 use Prim.Native.Nat.{_≤_, _-_}
 use native.Mathlib.Omega.{arith}
 use borrow.Author.Needs.{needs}
+use Rattle.meaning.specs.Bits.{listed}
+use Rattle.meaning.proofs.Listed.{listed-long}
 use Rattle.book.specs.Format.{bookIn}
 use Rattle.book.proofs.Places.{shape-count}
 use Rattle.closing.specs.Growing.{Pass}
@@ -12,11 +14,11 @@ use Rattle.closing.proofs.passes.pass_off.Statement.{statement}
 use Rattle.closing.proofs.passes.pass_off.Tie as tie
 
 abbrev Inv-loop : tie.InvT-loop
-Inv-loop book shape headed marks off₀ dropped₀ more₀ r₀ off dropped more r =
-    (r ≤ shape .rules) × Pass (bookIn book) (goingOff (bookIn book) headed marks) r off₀ off more
+Inv-loop book shape rows headed marks off₀ dropped₀ more₀ r₀ off dropped more r =
+    (r ≤ shape .rules) × Pass (bookIn book) (goingOff (bookIn book) headed (listed marks)) r (listed off₀) (listed off) more
 
 abbrev μ-loop : tie.MeasureT-loop
-μ-loop book shape headed marks off₀ dropped₀ more₀ r₀ off dropped more r = shape .rules - r
+μ-loop book shape rows headed marks off₀ dropped₀ more₀ r₀ off dropped more r = shape .rules - r
 
 loop-holds : tie.Need-loop-holds Inv-loop μ-loop
 loop-holds c = (search needs, pass-start _)
@@ -25,7 +27,7 @@ loop-again : tie.Need-loop-again Inv-loop μ-loop
 loop-again c =
     let k = c .before .before .before .before .before in
     let e = shape-count _ (k .before .before .args .shape) (k .before .before .pre .0) in
-    let f = k .loop .inv .1 .grown .long in
+    let f = listed-long (k .loop .off) in
     (search needs, pass-turn (going-off-mono _ _ _) (k .loop .r) (omega arith) (omega arith) (k .loop .inv .1) (c .try-off .ensures))
 
 returns : tie.Need-returns Inv-loop μ-loop

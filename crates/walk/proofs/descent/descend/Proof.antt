@@ -2,7 +2,7 @@
 use mathlib.Core.Path.{_≡_}
 use Prim.Native.Nat.{_<_}
 use borrow.Author.Needs.{needs}
-use Rattle.meaning.specs.Written.{pair}
+use Rattle.meaning.specs.Written.{written, pair}
 use Rattle.meaning.specs.Lowest.{none, clashed}
 use Rattle.book.specs.Format.{bookIn}
 use Rattle.book.proofs.Places.{in-shape}
@@ -16,10 +16,10 @@ use Rattle.walk.proofs.descent.descend.Statement.{statement}
 use Rattle.walk.proofs.descent.descend.Tie as tie
 
 abbrev Inv-loop : tie.InvT-loop
-Inv-loop book shape row c₀ c = Descends (bookIn book) (setIn row) c
+Inv-loop book shape rows row c₀ c = Descends (bookIn book) (setIn row) (written c)
 
 abbrev μ-loop : tie.MeasureT-loop
-μ-loop book shape row c₀ c = left (bookIn book) c
+μ-loop book shape rows row c₀ c = left (bookIn book) (written c)
 
 -- ---- the places on the way, with what is known there
 
@@ -35,18 +35,18 @@ module _ (c : tie.After-close Inv-loop μ-loop) where
   abbrev start : tie.Start Inv-loop μ-loop
   start = turn .before .before .before .before
 
-  closes : Closes (bookIn (start .args .book .now)) (turn .loop .c) (c .close .result .colours)
-  closes = record { few = few _ _ (start .pre) (few-rules start); sized = turn .loop .inv .sized; closed = c .close .ensures .0 }
+  closes : Closes (bookIn (start .args .book .now)) (written (turn .loop .c)) (written (c .close .result .colours))
+  closes = record { few = few _ _ (start .pre .0) (few-rules start); sized = turn .loop .inv .sized; closed = c .close .ensures .0 }
 
 -- behind the search for a rule to choose: there was no contradiction
 module _ (c : tie.After-lowest-uncoloured Inv-loop μ-loop) where
   abbrev quiet : tie.After-enum-told2 Inv-loop μ-loop
-  quiet = c .before .before .before .before
+  quiet = c .before
 
   abbrev closing : tie.After-close Inv-loop μ-loop
   closing = quiet .before .before .before
 
-  calm : clashed (bookIn (start closing .args .book .now)) (pair (closing .close .result .colours)) ≡ none
+  calm : clashed (bookIn (start closing .args .book .now)) (pair (written (closing .close .result .colours))) ≡ none
   calm = clash-told (closes closing) (closing .close .ensures .1) (quiet .enum-told2 .given .1)
 
 -- where there is such a rule
@@ -57,16 +57,16 @@ module _ (c : tie.After-known-told Inv-loop μ-loop) where
   abbrev closed : tie.After-close Inv-loop μ-loop
   closed = closing searched
 
-  forks : Forks (bookIn (start closed .args .book .now)) (turn closed .loop .c) (closed .close .result .colours) (c .before .r .given .0 .0)
+  forks : Forks (bookIn (start closed .args .book .now)) (written (turn closed .loop .c)) (written (closed .close .result .colours)) (c .before .r .given .0 .0)
   forks =
-      forks-told _ _ (start closed .pre) (closes closed) (calm searched) (searched .lowest-uncoloured .ensures) (c .before .r .given .1)
+      forks-told _ _ (start closed .pre .0) (closes closed) (calm searched) (searched .lowest-uncoloured .ensures) (c .before .r .given .1)
 
 -- ---- the needs
 
 loop-holds : tie.Need-loop-holds Inv-loop μ-loop
 loop-holds c =
     let s = c .before .before .before in
-    descends-start _ _ (shallow-start _ _ (s .pre) (few-rules s) (c .empty .ensures)) (c .empty .ensures)
+    descends-start _ _ (shallow-start _ _ (s .pre .0) (few-rules s) (c .empty .ensures)) (c .empty .ensures)
 
 returns : tie.Need-returns Inv-loop μ-loop
 returns c =
@@ -78,12 +78,12 @@ returns-2 c =
     let p = c .before .before in
     let k = closing p in
     descends-reading (turn k .loop .inv) (closes k) (calm p)
-    (lowest-told _ _ (start k .pre) _ _ (p .lowest-uncoloured .ensures) (c .enum-told3 .given .1))
+    (lowest-told _ _ (start k .pre .0) _ _ (p .lowest-uncoloured .ensures) (c .enum-told3 .given .1))
 
 follow-requires : tie.Need-follow-requires Inv-loop μ-loop
 follow-requires c κs =
     let k = closed c in
-    let s = start k .pre in
+    let s = start k .pre .0 in
     (s, in-shape _ _ s _ (fork-in-book (forks c)), fork-level (forks c) (turn k .loop .inv .shallow))
 
 loop-less : tie.Need-loop-less Inv-loop μ-loop

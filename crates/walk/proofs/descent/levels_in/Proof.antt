@@ -37,7 +37,7 @@ returns-4 : tie.Need-returns-4
 returns-4 c =
     let v = c .before .before .before in
     let d = descended v in
-    let f = d .before .before in
+    let f = d .before .before .before .before .before in
     let w = f .before .before .before in
     levels-full _ _ (start w .pre) _ _ _ (numbered w .if1 .left) (roomy w .if2 .left) (w .kth .ensures) (c .tell2 .ensures)
     (f .enum-told .given .1) (d .descend .ensures) (v .write-levels .ensures)
@@ -45,5 +45,6 @@ returns-4 c =
 pub levels-in-spec : {M : Type 1} → statement M
 levels-in-spec =
     tie.close (tie.spec returns (λ c. search needs) returns-2 (λ c. search needs) (λ c κs. search needs) (λ c. search needs)
-    (λ c κs. search needs) returns-3 (λ c. search needs) (λ c κs. search needs) (λ c κs. search needs) (λ c κs. search needs)
+    (λ c κs. search needs) returns-3 (λ c κs. search needs) (λ c. search needs) (λ c κs. search needs) (λ c κs. search needs)
+    (λ c κs. search needs)
     (λ c. search needs) returns-4)

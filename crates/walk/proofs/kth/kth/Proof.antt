@@ -12,11 +12,13 @@ few-rules s = search needs
 
 walk-requires : tie.Need-walk-requires
 walk-requires c κs =
-    let s = c .before .before .before .before in
+    let m = c .before .before .before in
+    let s = m .before .before .before .before in
     let a = s .args in (
       s .pre .0,
       room-start _ (a .k - 1) 1 0 _ (omega arith) (one-row _ _ (s .pre .0) (a .answer .now) (s .pre .2)),
       shallow-start _ _ (s .pre .0) (few-rules s) (c .before .empty .ensures),
+      m .make-rows .ensures,
     )
 
 returns : tie.Need-returns
@@ -26,4 +28,4 @@ returns c =
 
 pub kth-spec : {M : Type 1} → statement M
 kth-spec =
-    tie.close (tie.spec (λ c κs. search needs) (λ c. search needs) walk-requires (λ c. search needs) returns)
+    tie.close (tie.spec (λ c κs. search needs) (λ c κs. search needs) (λ c. search needs) walk-requires (λ c. search needs) returns)

@@ -20,7 +20,7 @@ module _ (c : tie.Else1) where
 
 -- behind the heads of the on rules: the reading is not passed over
 abbrev wanted : tie.After-heads-of → tie.Else1
-wanted c = c .before .before
+wanted c = c .before .before .before .before
 
 returns : tie.Need-returns
 returns c = met-passed _ _ _ _ (c .before .before .if1 .taken) (c .tried .ensures)

@@ -18,30 +18,38 @@ returns c = page-no-room _ _ (c .before .before .before .before .before .pre) _ 
 
 walk-requires : tie.Need-walk-requires
 walk-requires c κs =
-    let r = c .before .before .before in
-    page-room _ _ (start r .pre) _ _ (r .before .if1 .left) (r .rows-in .ensures) (few-rules (start r)) (c .before .empty .ensures)
+    let m = c .before .before .before .before in
+    let r = m .before .before in
+    let (read, room, shallow) =
+    page-room _ _ (start r .pre) _ _ (r .before .if1 .left) (r .rows-in .ensures) (few-rules (start r)) (c .before .empty .ensures) in
+    (read, room, shallow, m .make-rows .ensures)
 
 returns-2 : tie.Need-returns-2
 returns-2 c =
     let e = c .before .before .before .before .before in
-    let r = e .before .before in
+    let t = e .before .before in
+    let r = t .before .before .before in
     page-first _ _ (start r .pre) _ _ (r .before .if1 .left) (r .rows-in .ensures) _ _ (c .tell .ensures) (e .empty .ensures)
-    (e .before .if2 .taken) (c .before .before .before .walk .ensures)
+    (t .if2 .taken) (c .before .before .before .walk .ensures)
 
 resume-requires : tie.Need-resume-requires
 resume-requires c κs =
-    let r = c .before .before .before in
-    page-room _ _ (start r .pre) _ _ (r .before .if1 .left) (r .rows-in .ensures) (few-rules (start r)) (c .before .empty2 .ensures)
+    let m = c .before .before .before .before in
+    let r = m .before .before in
+    let (read, room, shallow) =
+    page-room _ _ (start r .pre) _ _ (r .before .if1 .left) (r .rows-in .ensures) (few-rules (start r)) (c .before .empty2 .ensures) in
+    (read, room, shallow, m .make-rows .ensures)
 
 returns-3 : tie.Need-returns-3
 returns-3 c =
     let e = c .before .before .before .before .before in
-    let r = e .before .before in
+    let t = e .before .before in
+    let r = t .before .before .before in
     page-later _ _ (start r .pre) _ _ (r .before .if1 .left) (r .rows-in .ensures) _ _ (c .tell2 .ensures) (e .empty2 .ensures)
-    (e .before .if2 .left) (c .before .before .before .resume .ensures)
+    (t .if2 .left) (c .before .before .before .resume .ensures)
 
 pub page-in-spec : {M : Type 1} → statement M
 page-in-spec =
-    tie.close (tie.spec (λ c. search needs) returns (λ c κs. search needs) (λ c κs. search needs) walk-requires
+    tie.close (tie.spec (λ c. search needs) returns (λ c κs. search needs) (λ c κs. search needs) (λ c κs. search needs) walk-requires
     (λ c κs. search needs) (λ c. search needs) returns-2 (λ c κs. search needs) resume-requires
     (λ c κs. search needs) (λ c. search needs) returns-3)

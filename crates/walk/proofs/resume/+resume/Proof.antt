@@ -7,9 +7,10 @@ use borrow.Author.Tests.{not-true, not-false}
 use borrow.Fn.Kinds.{In}
 use borrow.Fn.PlainCycle.{Measures, is, falls, and}
 use Rattle.meaning.specs.Colours.{onSide, offSide}
-use Rattle.meaning.specs.Written.{pair}
+use Rattle.meaning.specs.Written.{written, pair}
 use Rattle.meaning.specs.Lowest.{none, clashed}
 use Rattle.meaning.proofs.Written.{Sized}
+use Rattle.meaning.proofs.Listed.{sized-written}
 use Rattle.book.specs.Format.{bookIn}
 use Rattle.book.proofs.Places.{in-shape}
 use Rattle.closing.specs.Left.{left}
@@ -28,16 +29,16 @@ use Rattle.walk.proofs.walk.walk.Reads as walk-reads
 use Rattle.walk.proofs.resume.+resume.{statement}
 use Rattle.walk.proofs.resume.+resume.Tie.{close}
 
-abbrev μ-resume : Measures 3 kinds.ps ℕ
-μ-resume κs a = let (book, (shape, (c, more))) = a in left (bookIn (book .now)) c
+abbrev μ-resume : Measures 4 kinds.ps ℕ
+μ-resume κs a = let (book, (shape, (rows, (c, more)))) = a in left (bookIn (book .now)) (written c)
 
 module _ (t : ℕ) where
   -- this call's measure is t, that of the calls below is less
-  abbrev here : In 3 kinds.ps
-  here = and 3 kinds.ps (is 3 kinds.ps μ-resume t) resume.Pre
+  abbrev here : In 4 kinds.ps
+  here = and 4 kinds.ps (is 4 kinds.ps μ-resume t) resume.Pre
 
-  abbrev below : In 3 kinds.ps
-  below = and 3 kinds.ps (falls 3 kinds.ps _<_ μ-resume t) resume.Pre
+  abbrev below : In 4 kinds.ps
+  below = and 4 kinds.ps (falls 4 kinds.ps _<_ μ-resume t) resume.Pre
 
   abbrev calls : lts.Claims
   calls = (
@@ -59,26 +60,26 @@ module _ (t : ℕ) where
 
   -- ---- the places on the way, with what is known there
 
-  sized : (c : lts.Start calls here resume.Post) → Sized (c .args .c)
-  sized c = search needs
+  sized : (c : lts.Start calls here resume.Post) → Sized (written (c .args .c))
+  sized c = sized-written (c .args .c) (search needs)
 
   -- behind the closing
   module _ (c : lts.After-close calls here resume.Post) where
     abbrev start : lts.Start calls here resume.Post
     start = c .before .before .before .before
 
-    closes : Closes (bookIn (start .args .book .now)) (start .args .c) (c .close .result .colours)
+    closes : Closes (bookIn (start .args .book .now)) (written (start .args .c)) (written (c .close .result .colours))
     closes = record { few = few _ _ (start .pre .1 .0) (search needs); sized = sized start; closed = c .close .ensures .0 }
 
   -- behind the search for a rule to choose: there was no contradiction
   module _ (c : lts.After-lowest-uncoloured calls here resume.Post) where
     abbrev quiet : lts.After-enum-told2 calls here resume.Post
-    quiet = c .before .before .before .before .before
+    quiet = c .before .before
 
     abbrev closing : lts.After-close calls here resume.Post
     closing = quiet .before .before
 
-    calm : clashed (bookIn (start closing .args .book .now)) (pair (closing .close .result .colours)) ≡ none
+    calm : clashed (bookIn (start closing .args .book .now)) (pair (written (closing .close .result .colours))) ≡ none
     calm = clash-told (closes closing) (closing .close .ensures .1) (quiet .enum-told2 .given .1)
 
   -- where there is such a rule
@@ -92,7 +93,7 @@ module _ (t : ℕ) where
     abbrev first : lts.Start calls here resume.Post
     first = start closed
 
-    forks : Forks (bookIn (first .args .book .now)) (first .args .c) (closed .close .result .colours) (c .before .r .given .0 .0)
+    forks : Forks (bookIn (first .args .book .now)) (written (first .args .c)) (written (closed .close .result .colours)) (c .before .r .given .0 .0)
     forks =
         forks-told _ _ (first .pre .1 .0) (closes closed) (calm searched) (searched .lowest-uncoloured .ensures) (c .before .r .given .1)
 
@@ -137,7 +138,7 @@ module _ (t : ℕ) where
       let f = c .before .before .before .before in
       let s = first f .pre .1 in
       let e = c .before .choose-off .ensures in
-      (side-falls (forks f) (first f .pre .0) offSide e, (s .0, s .1, side-shallow (forks f) (s .2) offSide e))
+      (side-falls (forks f) (first f .pre .0) offSide e, (s .0, s .1, side-shallow (forks f) (s .2) offSide e, s .3))
 
   returns-3 : lts.Need-returns-3 calls here resume.Post
   returns-3 c =
@@ -154,7 +155,7 @@ module _ (t : ℕ) where
       let f = c .before .before .before .before in
       let s = first f .pre .1 in
       let e = c .before .choose-on .ensures in
-      (side-falls (forks f) (first f .pre .0) onSide e, (s .0, s .1, side-shallow (forks f) (s .2) onSide e))
+      (side-falls (forks f) (first f .pre .0) onSide e, (s .0, s .1, side-shallow (forks f) (s .2) onSide e, s .3))
 
   choose-off-requires-2 : lts.Need-choose-off-requires-2 calls here resume.Post
   choose-off-requires-2 c κs = low (forked (c .before .before))
@@ -164,7 +165,7 @@ module _ (t : ℕ) where
       let w = resumed (c .before) in
       let f = forked w in
       let s = first f .pre .1 in
-      (s .0, room-run (s .1) _ _ (w .resume2 .ensures), side-shallow (forks f) (s .2) offSide (c .before .choose-off2 .ensures))
+      (s .0, room-run (s .1) _ _ (w .resume2 .ensures), side-shallow (forks f) (s .2) offSide (c .before .choose-off2 .ensures), s .3)
 
   returns-4 : lts.Need-returns-4 calls here resume.Post
   returns-4 c =

@@ -6,9 +6,10 @@ use borrow.Author.Needs.{needs}
 use borrow.Fn.Kinds.{In}
 use borrow.Fn.PlainCycle.{Measures, is, falls, and}
 use Rattle.meaning.specs.Colours.{onSide, offSide}
-use Rattle.meaning.specs.Written.{pair}
+use Rattle.meaning.specs.Written.{written, pair}
 use Rattle.meaning.specs.Lowest.{none, clashed}
 use Rattle.meaning.proofs.Written.{Sized}
+use Rattle.meaning.proofs.Listed.{sized-written}
 use Rattle.book.specs.Format.{bookIn}
 use Rattle.closing.specs.Left.{left}
 use Rattle.walk.specs.declared.tally.Halt.the-variants.{Going}
@@ -28,16 +29,16 @@ use Rattle.walk.proofs.tally.Tally.tried.Reads as tried-reads
 use Rattle.walk.proofs.walk.+walk.{statement}
 use Rattle.walk.proofs.walk.+walk.Tie.{close}
 
-abbrev μ-walk : Measures 2 kinds.ps ℕ
-μ-walk κs a = let (book, (shape, (c, more))) = a in left (bookIn (book .now)) c
+abbrev μ-walk : Measures 3 kinds.ps ℕ
+μ-walk κs a = let (book, (shape, (rows, (c, more)))) = a in left (bookIn (book .now)) (written c)
 
 module _ (t : ℕ) where
   -- this call's measure is t, that of the calls below is less
-  abbrev here : In 2 kinds.ps
-  here = and 2 kinds.ps (is 2 kinds.ps μ-walk t) walk.Pre
+  abbrev here : In 3 kinds.ps
+  here = and 3 kinds.ps (is 3 kinds.ps μ-walk t) walk.Pre
 
-  abbrev below : In 2 kinds.ps
-  below = and 2 kinds.ps (falls 2 kinds.ps _<_ μ-walk t) walk.Pre
+  abbrev below : In 3 kinds.ps
+  below = and 3 kinds.ps (falls 3 kinds.ps _<_ μ-walk t) walk.Pre
 
   abbrev calls : lts.Claims
   calls = (
@@ -61,15 +62,15 @@ module _ (t : ℕ) where
 
   -- ---- the places on the way, with what is known there
 
-  sized : (c : lts.Start calls here walk.Post) → Sized (c .args .c)
-  sized c = search needs
+  sized : (c : lts.Start calls here walk.Post) → Sized (written (c .args .c))
+  sized c = sized-written (c .args .c) (search needs)
 
   -- behind the closing
   module _ (c : lts.After-close calls here walk.Post) where
     abbrev start : lts.Start calls here walk.Post
     start = c .before .before .before .before .before .before .before
 
-    closes : Closes (bookIn (start .args .book .now)) (start .args .c) (c .close .result .colours)
+    closes : Closes (bookIn (start .args .book .now)) (written (start .args .c)) (written (c .close .result .colours))
     closes = record { few = few _ _ (start .pre .1 .0) (search needs); sized = sized start; closed = c .close .ensures .0 }
 
     going : start .args .t .halt ≡ Going
@@ -78,12 +79,12 @@ module _ (t : ℕ) where
   -- behind the search for a rule to choose: there was no contradiction
   module _ (c : lts.After-lowest-uncoloured calls here walk.Post) where
     abbrev quiet : lts.After-enum-told2 calls here walk.Post
-    quiet = c .before .before .before .before .before
+    quiet = c .before .before
 
     abbrev closing : lts.After-close calls here walk.Post
     closing = quiet .before .before
 
-    calm : clashed (bookIn (start closing .args .book .now)) (pair (closing .close .result .colours)) ≡ none
+    calm : clashed (bookIn (start closing .args .book .now)) (pair (written (closing .close .result .colours))) ≡ none
     calm = clash-told (closes closing) (closing .close .ensures .1) (quiet .enum-told2 .given .1)
 
   -- where there is such a rule
@@ -97,7 +98,7 @@ module _ (t : ℕ) where
     abbrev first : lts.Start calls here walk.Post
     first = start closed
 
-    forks : Forks (bookIn (first .args .book .now)) (first .args .c) (closed .close .result .colours) (c .before .r .given .0 .0)
+    forks : Forks (bookIn (first .args .book .now)) (written (first .args .c)) (written (closed .close .result .colours)) (c .before .r .given .0 .0)
     forks =
         forks-told _ _ (first .pre .1 .0) (closes closed) (calm searched) (searched .lowest-uncoloured .ensures) (c .before .r .given .1)
 
@@ -130,7 +131,7 @@ module _ (t : ℕ) where
   returns-4 : lts.Need-returns-4 calls here walk.Post
   returns-4 c =
       let m = c .before .before in
-      let n = m .before .before .before .before in
+      let n = m .before .before in
       let p = n .before .before in
       let k = closing p in
       walk-reading _ _ _ _ (going k) (k .before .if1 .left) (closes k) (calm p)
@@ -145,7 +146,7 @@ module _ (t : ℕ) where
       let f = u .before in
       let s = first f .pre .1 in (
         side-falls (forks f) (first f .pre .0) onSide (c .before .choose-on .ensures),
-        (s .0, room-tried (s .1) (going (closed f)) (u .tried .ensures), side-shallow (forks f) (s .2) onSide (c .before .choose-on .ensures)),
+        (s .0, room-tried (s .1) (going (closed f)) (u .tried .ensures), side-shallow (forks f) (s .2) onSide (c .before .choose-on .ensures), s .3),
       )
 
   choose-off-requires : lts.Need-choose-off-requires calls here walk.Post
@@ -162,6 +163,7 @@ module _ (t : ℕ) where
           s .0,
           room-run (room-tried (s .1) (going (closed f)) (tried w .tried .ensures)) _ _ (w .walk .ensures),
           side-shallow (forks f) (s .2) offSide (v .choose-off .ensures),
+          s .3,
         ),
       )
 

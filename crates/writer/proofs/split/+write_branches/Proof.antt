@@ -8,10 +8,9 @@ use borrow.Author.Needs.{needs}
 use borrow.Fn.Kinds.{In}
 use borrow.Fn.PlainCycle.{Measures, is, falls, and}
 use Rattle.meaning.specs.declared.RuleNo.{RuleNo}
-use Rattle.meaning.specs.declared.colouring.Colouring.{Colouring}
 use Rattle.meaning.specs.Books.{count}
 use Rattle.meaning.specs.Colours.{Pair, Side, onSide, offSide, put}
-use Rattle.meaning.specs.Written.{colourOn, colourOff, pair}
+use Rattle.meaning.specs.Written.{Tables, written, colourOn, colourOff, pair}
 use Rattle.book.specs.Format.{bookIn}
 use Rattle.book.proofs.Places.{shape-count}
 use Rattle.writer.specs.declared.step.Tip.the-variants.{Parted}
@@ -29,7 +28,7 @@ use Rattle.writer.proofs.split.+write_branches.{statement}
 use Rattle.writer.proofs.split.+write_branches.Tie.{close}
 
 abbrev μ-branches : Measures 2 kinds.ps ℕ
-μ-branches κs a = left (bookIn (a .0 .now)) (pair (a .1 .1 .1 .0))
+μ-branches κs a = left (bookIn (a .0 .now)) (pair (written (a .1 .1 .1 .0)))
 
 abbrev at-measure : ℕ → In 2 kinds.ps
 at-measure t = and 2 kinds.ps (is 2 kinds.ps μ-branches t) branches.Pre
@@ -53,7 +52,7 @@ calls t = (
 few : (t : ℕ) (s : lts.Start (calls t) (at-measure t) branches.Post) → count (bookIn (s .args .book .now)) ≤ 255
 few t s = omega (arith, shape-count _ _ (s .pre .1 .0))
 
--- behind a branch that was written: the start, where the walk was writing and had tries left
+-- behind a branch that was wrote: the start, where the walk was writing and had tries left
 module _ (t : ℕ) (c : lts.After-write-branch (calls t) (at-measure t) branches.Post) where
   abbrev start : lts.Start (calls t) (at-measure t) branches.Post
   start = c .before .before .before .before .before .before .before
@@ -66,39 +65,30 @@ module _ (t : ℕ) (c : lts.After-write-branch (calls t) (at-measure t) branches
 
 -- behind a branch that ends with a split on r
 module _ (t : ℕ) (c : lts.After-d (calls t) (at-measure t) branches.Post) where
-  abbrev written : lts.After-write-branch (calls t) (at-measure t) branches.Post
-  written = c .before .before .before .before .before
+  abbrev wrote : lts.After-write-branch (calls t) (at-measure t) branches.Post
+  wrote = c .before .before .before .before .before
 
   abbrev first : lts.Start (calls t) (at-measure t) branches.Post
-  first = start t written
+  first = start t wrote
 
   abbrev r : RuleNo
   r = c .before .before .tip .given .0 .0
 
-  abbrev d : Colouring
-  d = written .write-branch .result .colours
+  abbrev d : Tables
+  d = written (wrote .write-branch .result .colours)
 
-  on-long : length (d .on) ≡ 255
-  on-long = search needs
-
-  off-long : length (d .off) ≡ 255
-  off-long = search needs
-
-  cut : written .write-branch .result .tip ≡ Parted r
+  cut : wrote .write-branch .result .tip ≡ Parted r
   cut = c .before .before .tip .given .1
 
-  low : r .0 < 255
-  low = part-below _ _ (few t first) _ (written .write-branch .ensures) cut
+  on-pair : {x : Tables} → x ≡ colourOn r d → pair x ≡ put onSide (r ∷ []) (pair d)
+  on-pair e = part-on _ _ (few t first) _ (wrote .write-branch .ensures) cut e
 
-  on-pair : {x : Colouring} → x ≡ colourOn r d → pair x ≡ put onSide (r ∷ []) (pair d)
-  on-pair e = part-on _ _ (few t first) _ (written .write-branch .ensures) cut on-long e
-
-  off-pair : {x : Colouring} → x ≡ colourOff r d → pair x ≡ put offSide (r ∷ []) (pair d)
-  off-pair e = part-off _ _ (few t first) _ (written .write-branch .ensures) cut off-long e
+  off-pair : {x : Tables} → x ≡ colourOff r d → pair x ≡ put offSide (r ∷ []) (pair d)
+  off-pair e = part-off _ _ (few t first) _ (wrote .write-branch .ensures) cut e
 
   fewer : (x : Side) (q : Pair) → q ≡ put x (r ∷ []) (pair d) → left (bookIn (first .args .book .now)) q < t
   fewer x q e =
-      let f = part-fewer _ _ (few t first) _ (written .write-branch .ensures) cut x q e in
+      let f = part-fewer _ _ (few t first) _ (wrote .write-branch .ensures) cut x q e in
       omega (arith, first .pre .0)
 
 need-returns : (t : ℕ) → lts.Need-returns (calls t) (at-measure t) branches.Post
@@ -109,16 +99,10 @@ need-returns-2 t c = λ s g l.
     let p = c .before .before in
     stage-stopped _ _ (few t (p .before .before .before)) _ _ g (p .enum-told .given .1) (omega arith) l
 
-need-with-on-requires : (t : ℕ) → lts.Need-with-on-requires (calls t) (at-measure t) branches.Post
-need-with-on-requires t c κs = low t c
-
 need-write-branches-requires : (t : ℕ) → lts.Need-write-branches-requires (calls t) (at-measure t) branches.Post
 need-write-branches-requires t c κs =
     let p = c .before .before in
     (fewer t p onSide _ (on-pair t p (c .before .with-on .ensures)), first t p .pre .1)
-
-need-with-off-requires : (t : ℕ) → lts.Need-with-off-requires (calls t) (at-measure t) branches.Post
-need-with-off-requires t c κs = low t (c .before .before .before)
 
 need-write-branches-requires-2 : (t : ℕ) → lts.Need-write-branches-requires-2 (calls t) (at-measure t) branches.Post
 need-write-branches-requires-2 t c κs =
@@ -138,7 +122,7 @@ need-returns-4 t c = λ s g l.
 need-returns-5 : (t : ℕ) → lts.Need-returns-5 (calls t) (at-measure t) branches.Post
 need-returns-5 t c = λ s g l.
     let p = c .before .before .before .before .before .before in
-    let w = written t p in
+    let w = wrote t p in
     let on = on-pair t p (c .before .before .before .before .before .with-on .ensures) in
     let off = off-pair t p (c .before .before .with-off .ensures) in
     stage-parted _ _ (few t (first t p)) _ _ g (going t w) (room t w) (w .write-branch .ensures) (cut t p) on off l
@@ -147,5 +131,5 @@ need-returns-5 t c = λ s g l.
 pub +write-branches-spec : {M : Type 1} → statement M
 +write-branches-spec = close μ-branches λ t. lts.spec (calls t) (at-measure t) branches.Post
     (λ c. search needs) (need-returns t) (need-returns-2 t) (λ c κs. search needs) (λ c. search needs) (λ c. search needs)
-    (λ c. search needs) (λ c. search needs) (need-with-on-requires t) (need-write-branches-requires t) (need-with-off-requires t)
+    (λ c. search needs) (λ c. search needs) (λ c κs. search needs) (need-write-branches-requires t) (λ c κs. search needs)
     (need-write-branches-requires-2 t) (need-returns-3 t) (need-returns-4 t) (need-returns-5 t)

@@ -1,15 +1,17 @@
 -- The next step: each return is a law of the choice between the five, over what the searches before it have found.
-use mathlib.Core.Path.{_≡_, sym, _∙_}
+use mathlib.Core.Path.{_≡_, sym, ap₂, _∙_}
 use mathlib.Core.Bool.{false}
-use Prim.Native.Nat.{_<_}
+use mathlib.Core.List.{List}
+use Prim.Native.Nat.{ℕ, _<_}
 use native.Mathlib.Omega.{arith}
 use borrow.Author.Needs.{needs}
 use Rattle.meaning.specs.Books.{Book}
 use Rattle.meaning.specs.Colours.{Pair, mayOn, blocked, uncoloured}
 use Rattle.meaning.specs.declared.kind.Claim.{Claim}
 use Rattle.meaning.specs.Claim.{claimed, ended}
+use Rattle.meaning.specs.Bits.{listed}
 use Rattle.meaning.specs.Written.{lent}
-use Rattle.meaning.specs.Lowest.{Pick, lowest, none}
+use Rattle.meaning.specs.Lowest.{Pick, lowestFrom, lowest, none}
 use Rattle.meaning.specs.Engine.{less}
 use Rattle.book.specs.Format.{bookIn}
 use Rattle.book.proofs.Places.{shape-count}
@@ -30,7 +32,7 @@ abbrev claimAt : tie.Start → Claim
 claimAt s = s .args .claim
 
 abbrev pairAt : tie.Start → Pair
-pairAt s = lent (s .args .on .now) (s .args .off .now)
+pairAt s = lent (listed (s .args .on .now)) (listed (s .args .off .now))
 
 -- the rules that 41 and 42 are for, the lowest of each
 abbrev onAt : tie.Start → Pick
@@ -95,7 +97,7 @@ module _ (c : tie.After-lowest-off) where
 
   off-lowest : picked (c .lowest-off .result) ≡ offAt first
   off-lowest =
-      c .lowest-off .ensures ∙ new-off-lowest _ _ (first .pre .0) (small first) (first .args .on .now) _ _
+      c .lowest-off .ensures ∙ new-off-lowest _ _ (first .pre .0) (small first) (listed (first .args .on .now)) _ _
       (headed (not-45 not-41 .before) .heads-of .ensures)
 
 -- 55, where there is none for 42 either
@@ -109,10 +111,11 @@ module _ (c : tie.After-list-unsupported) where
 -- 53, where there is none for 55 either
 module _ (c : tie.After-lowest-uncoloured) where
   abbrev not-55 : tie.After-list-unsupported
-  not-55 = c .before .before
+  not-55 = c .before .before .before .before
 
   split-lowest : let s = first (not-42 not-55) in picked (c .lowest-uncoloured .result) ≡ lowest (bookAt s) (uncoloured (pairAt s))
-  split-lowest = let s = first (not-42 not-55) in lowest-in (bookAt s) (shape-count _ _ (s .pre .0)) _ (c .lowest-uncoloured .ensures)
+  split-lowest = let s = first (not-42 not-55) in lowest-in (bookAt s) (shape-count _ _ (s .pre .0)) _ (c .lowest-uncoloured .ensures ∙ ap₂ (λ (a b : List ℕ). lowestFrom 0 (s .args .shape .rules) (uncoloured (lent (listed a) (listed b))))
+      (c .before .before .whole .ensures) (c .before .whole2 .ensures))
 
 is-shown-requires : tie.Need-is-shown-requires
 unfolding claimed
@@ -145,14 +148,14 @@ returns-5 : tie.Need-returns-5
 returns-5 c =
     let p = c .before in
     let q = not-42 p in
-    let l = p .list-unsupported .ensures (first q .args .on .now) in
+    let l = p .list-unsupported .ensures (listed (first q .args .on .now)) in
     does-next (next-drop _ _ _ (quiet (not-45 (not-41 q))) (on-none q) (off-none p) (omega (arith, l .counted))) (does-drop l)
 
 returns-6 : tie.Need-returns-6
 returns-6 c =
     let p = c .before .before .before in
     let q = not-42 (not-55 p) in
-    let l = not-55 p .list-unsupported .ensures (first q .args .on .now) in
+    let l = not-55 p .list-unsupported .ensures (listed (first q .args .on .now)) in
     let found = picked-one (split-lowest p) (c .before .r3 .given .1) in
     does-next (next-split _ _ _ (quiet (not-45 (not-41 q))) (on-none q) (off-none (not-55 p)) (omega (arith, l .counted)) found)
     does-split
@@ -161,7 +164,7 @@ returns-7 : tie.Need-returns-7
 returns-7 c =
     let p = c .before .before in
     let q = not-42 (not-55 p) in
-    let l = not-55 p .list-unsupported .ensures (first q .args .on .now) in
+    let l = not-55 p .list-unsupported .ensures (listed (first q .args .on .now)) in
     let found = picked-none (split-lowest p) (c .enum-told3 .given .1) in
     does-next (next-nothing _ _ _ (quiet (not-45 (not-41 q))) (on-none q) (off-none (not-55 p)) (omega (arith, l .counted)) found)
     does-nothing
@@ -170,5 +173,5 @@ pub next-step-spec : {M : Type 1} → statement M
 next-step-spec =
     tie.close (tie.spec (λ c κs. search needs) returns (λ c κs. search needs) (λ c κs. search needs) is-shown-requires returns-2
     (λ c κs. search needs) (λ c. search needs) returns-3 (λ c. search needs) (λ c κs. search needs)
-    (λ c. search needs) returns-4 (λ c. search needs) (λ c κs. search needs) returns-5 (λ c κs. search needs) (λ c. search needs)
+    (λ c. search needs) returns-4 (λ c. search needs) (λ c κs. search needs) returns-5 (λ c κs. search needs) (λ c κs. search needs) (λ c κs. search needs) (λ c. search needs)
     returns-6 (λ c. search needs) returns-7)

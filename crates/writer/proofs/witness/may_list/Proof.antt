@@ -1,4 +1,5 @@
 -- Whether one rule may be listed next: each return is a law of the test.
+use mathlib.Core.Path.{sym, _∙_}
 use Prim.Native.Nat.{_<_}
 use borrow.Author.Needs.{needs}
 use borrow.Author.Tests.{not-true, not-false}
@@ -12,26 +13,26 @@ small : (s : tie.Start) → s .args .shape .atoms < 256
 small s = search needs
 
 returns : tie.Need-returns
-returns c = list-listed _ _ _ _ (c .before .before .wide .ensures .0) (c .if1 .taken)
+returns c = list-listed _ _ _ _ (sym (c .before .has .ensures) ∙ c .if1 .taken)
 
 returns-2 : tie.Need-returns-2
 returns-2 c = list-other _ _ _ _ (c .before .generates .ensures) (not-true _ (c .if2 .taken))
 
 every-in-requires : tie.Need-every-in-requires
 every-in-requires c κs =
-    let s = c .before .before .before .before .before .before .before .before in
+    let s = c .before .before .before .before .before .before .before in
     pos-below _ (s .args .shape) (s .pre .0) (s .args .r) (s .pre .1) (small s) _ (c .positives .ensures)
 
 returns-3 : tie.Need-returns-3
 returns-3 c =
     let g = c .before .before .before in
     let l = g .before .before in
-    let w = l .before .before in
+    let w = l .before in
     let s = w .before .before in
     list-may _ (s .args .shape) (s .pre .0) (small s) (s .args .r) (s .pre .1) _ _ (s .pre .2) _ (c .before .positives .ensures)
-    (w .wide .ensures .0) (l .if1 .left) _ (g .generates .ensures) (not-false _ (c .before .before .if2 .left)) (c .every-in .ensures)
+    (sym (w .has .ensures) ∙ l .if1 .left) _ (g .generates .ensures) (not-false _ (c .before .before .if2 .left)) (c .every-in .ensures)
 
 pub may-list-spec : {M : Type 1} → statement M
 may-list-spec =
-    tie.close (tie.spec (λ c κs. search needs) (λ c. search needs) returns (λ c κs. search needs) returns-2 (λ c κs. search needs)
+    tie.close (tie.spec (λ c κs. search needs) returns (λ c κs. search needs) returns-2 (λ c κs. search needs)
     every-in-requires returns-3)

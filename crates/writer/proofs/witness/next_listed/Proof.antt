@@ -5,6 +5,7 @@ use mathlib.Core.Path.{_≡_, sym, _∙_}
 use borrow.Author.Needs.{needs}
 use Rattle.meaning.specs.Books.{count}
 use Rattle.meaning.specs.AnswerSet.{generating}
+use Rattle.meaning.specs.Bits.{listed}
 use Rattle.book.specs.Format.{bookIn}
 use Rattle.book.proofs.Places.{shape-count}
 use Rattle.walk.specs.Page.{setIn}
@@ -14,11 +15,11 @@ use Rattle.writer.proofs.witness.next_listed.Statement.{statement}
 use Rattle.writer.proofs.witness.next_listed.Tie as tie
 
 abbrev Inv-loop : tie.InvT-loop
-Inv-loop book shape row listed headed r₀ r =
-    (r ≤ shape .rules) × NoneBelow (mayList (bookIn book) (generating (bookIn book) (setIn row)) listed) r
+Inv-loop book shape row taken headed r₀ r =
+    (r ≤ shape .rules) × NoneBelow (mayList (bookIn book) (generating (bookIn book) (setIn row)) (listed taken)) r
 
 abbrev μ-loop : tie.MeasureT-loop
-μ-loop book shape row listed headed r₀ r = shape .rules - r
+μ-loop book shape row taken headed r₀ r = shape .rules - r
 
 -- the turn of the loop in which a rule was tried
 abbrev turn : tie.After-may-list Inv-loop μ-loop → tie.At-loop Inv-loop μ-loop

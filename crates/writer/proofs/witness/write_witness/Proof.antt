@@ -1,25 +1,29 @@
 -- The witness: what is listed so far, with what may still be listed behind it, is the whole witness.
 use mathlib.Core.Path.{_≡_}
-use Prim.Native.Nat.{_-_, _≤_, _<_}
+use Prim.Native.Nat.{ℕ, _-_, _≤_, _<_}
+use lib.ListN.{replicate}
 use native.Mathlib.Omega.{arith}
 use borrow.Author.Needs.{needs}
 use Rattle.meaning.specs.Books.{count}
 use Rattle.meaning.specs.AnswerSet.{generating}
 use Rattle.meaning.specs.Engine.{witnessOf}
+use Rattle.meaning.specs.Bits.{listed}
+use Rattle.meaning.proofs.Four.{members-nothing}
+use Rattle.meaning.proofs.Listed.{listed-empty}
 use Rattle.book.specs.Format.{bookIn}
 use Rattle.book.proofs.Places.{shape-count}
 use Rattle.walk.specs.Page.{setIn}
 use Rattle.writer.proofs.Choosing.{picked-one, picked-none}
-use Rattle.writer.proofs.Witnessing.{Listing, listing-start, listed-below, listing-more, listing-ends, listing-full}
+use Rattle.writer.proofs.Witnessing.{Listing, listing-start, listing-more, listing-ends, listing-full}
 use Rattle.writer.proofs.witness.write_witness.Statement.{statement}
 use Rattle.writer.proofs.witness.write_witness.Tie as tie
 
 abbrev Inv-loop : tie.InvT-loop
-Inv-loop book shape row draft₀ at listed₀ n₀ count₀ draft listed n count =
-    Listing (bookIn book) (generating (bookIn book) (setIn row)) n₀ draft₀ count listed n draft
+Inv-loop book shape row draft₀ at taken₀ n₀ count₀ draft taken n count =
+    Listing (bookIn book) (generating (bookIn book) (setIn row)) n₀ draft₀ count (listed taken) n draft
 
 abbrev μ-loop : tie.MeasureT-loop
-μ-loop book shape row draft₀ at listed₀ n₀ count₀ draft listed n count = shape .rules - count
+μ-loop book shape row draft₀ at taken₀ n₀ count₀ draft taken n count = shape .rules - count
 
 -- a good book has at most 255 rules
 module _ (s : tie.Start Inv-loop μ-loop) where
@@ -40,7 +44,7 @@ module _ (c : tie.After-next-listed Inv-loop μ-loop) where
   start = turn .before .before
 
 loop-holds : tie.Need-loop-holds Inv-loop μ-loop
-loop-holds c = listing-start _ _ _ _
+loop-holds c = listing-start _ _ _ _ _ (listed-empty (replicate {A = ℕ} 4 0) members-nothing)
 
 returns : tie.Need-returns Inv-loop μ-loop
 unfolding witnessOf
@@ -53,20 +57,13 @@ module _ (c : tie.After-r Inv-loop μ-loop) where
   abbrev searched : tie.After-next-listed Inv-loop μ-loop
   searched = c .before .before
 
-  low : c .r .given .0 .0 .0 < 255
-  low =
-      listed-below _ _ _ _ (turn searched .loop .inv) (picked-one (searched .next-listed .ensures) (c .r .given .1))
-      (few (start searched))
-
-array-write-listed : tie.Need-array-write-listed Inv-loop μ-loop
-array-write-listed c = let h = low (c .before .before) in search needs
-
 loop-again : tie.Need-loop-again Inv-loop μ-loop
 loop-again c =
     let w = c .before .before in
-    let p = searched (w .before .before) in
-    listing-more _ _ _ _ (turn p .loop .inv) (picked-one (p .next-listed .ensures) (w .before .before .r .given .1)) (few (start p))
-    (w .wide .ensures .0) (omega (arith, counted (start p))) (c .write .ensures)
+    let f = w .before .before .before in
+    let p = searched f in
+    listing-more _ _ _ _ (turn p .loop .inv) (picked-one (p .next-listed .ensures) (f .r .given .1)) (few (start p))
+    (w .put .ensures) (omega (arith, counted (start p))) (c .write .ensures)
 
 returns-2 : tie.Need-returns-2 Inv-loop μ-loop
 unfolding witnessOf
@@ -77,4 +74,4 @@ returns-2 c =
 pub write-witness-spec : {M : Type 1} → statement M
 write-witness-spec =
     tie.close (tie.spec Inv-loop μ-loop loop-holds (λ c κs. search needs) (λ c. search needs) (λ c. search needs) returns
-    (λ c κs. search needs) array-write-listed (λ c κs. search needs) (λ c. search needs) (λ c. search needs) loop-again returns-2)
+    (λ c κs. search needs) (λ c κs. search needs) (λ c. search needs) (λ c. search needs) loop-again returns-2)

@@ -1,0 +1,16 @@
+-- What a closing comes to that ends at some sets, written out: those sets, and the level of the closing for each rule that had no colour at
+-- its start and has one.
+use mathlib.Core.Bool.{Bool}
+use mathlib.Core.List.{List}
+use Prim.Native.Nat.{ℕ}
+use Rattle.meaning.specs.Written.{Tables, stampFrom, lent, pair}
+use Rattle.meaning.specs.Computed.{newly}
+
+abbrev pub endedAt : ℕ → Tables → List Bool → List Bool → List Bool → Tables
+endedAt n c on off marks = record {
+  on = on;
+  off = off;
+  marks = marks;
+  level = c .level;
+  levels = stampFrom 0 n (newly (pair c) (lent on off)) (c .level) (c .levels);
+}
