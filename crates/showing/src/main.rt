@@ -6,6 +6,7 @@
 
 mod atoms;
 
+ghost use Prim.Native.Nat.{_<_};
 ghost use Rattle.book.specs.Format.{ReadAs};
 use atoms::show_atoms;
 use book::Read;
@@ -18,6 +19,13 @@ use talk::open_call;
 use talk::print;
 use talk::show_rule;
 
+// Writes the rule, without a word for it.
+fn show_plain(book: &[u8], shape: Shape, r: RuleNo)
+    requires { ⌜ ReadAs (now book) shape × (r .0 < shape .rules) ⌝ }
+{
+    show_rule(book, shape, r, b"");
+}
+
 // Writes a line for each rule, or that there is none.
 fn show_rules(book: &[u8], shape: Shape)
     requires { ⌜ ReadAs (now book) shape ⌝ }
@@ -28,7 +36,7 @@ fn show_rules(book: &[u8], shape: Shape)
     }
     let mut r: u8 = 0;
     while r < shape.rules {
-        show_rule(book, shape, RuleNo(r), b"");
+        show_plain(book, shape, RuleNo(r));
         r += 1;
     }
 }
