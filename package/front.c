@@ -9,12 +9,14 @@
 #include <signal.h>
 #include <stddef.h>
 #include <string.h>
+#include <sys/stat.h>
 #include <sys/types.h>
 #include <unistd.h>
 
 struct program {
     const char *name;
     int (*start)(void);
+    int saved; /* which of its words names the file that it saves; 0 for none */
     const char *usage;
 };
 
@@ -133,6 +135,32 @@ static void keep_streams(void) {
     }
 }
 
+/* A file that gives way keeps its mode. A program cannot ask for it, and makes the new file with what the mask leaves: so the mask is what
+ * the old file's mode leaves out. No new file is marked as a program; that mark is put back at the end. */
+
+static const char *saved;
+static mode_t mode;
+
+static void mask_for(const struct program *program) {
+    struct stat there;
+    size_t at = (size_t)program->saved;
+    if (at == 0 || at >= count || stat(words[at], &there) != 0 || !S_ISREG(there.st_mode))
+        return;
+    saved = words[at];
+    mode = there.st_mode & 07777;
+    umask(0777 & ~mode);
+}
+
+static int keep_mode(int ended) {
+    struct stat there;
+    if (!saved || ended != 0)
+        return ended;
+    if (stat(saved, &there) == 0 && ((there.st_mode & 07777) == mode || chmod(saved, mode) == 0))
+        return 0;
+    say(2, "stickerpeck: the file that was saved has not kept its mode\n");
+    return 2;
+}
+
 static int help(const struct program *program) {
     if (program) {
         say(1, program->usage);
@@ -176,6 +204,7 @@ int main(int argc, char **argv) {
     words = argv + 1;
     if (strcmp(program->name, "desk") == 0)
         other_end = '|';
+    mask_for(program);
     program->start();
-    return status();
+    return keep_mode(status());
 }
