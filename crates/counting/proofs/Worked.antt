@@ -40,27 +40,22 @@ circle = 0 ∷ 0 ∷ 1 ∷ 1 ∷ 1 ∷ 1 ∷ 0 ∷ 1 ∷ 0 ∷ 0 ∷ 4 ∷ 0 ∷
 abbrev sevens : List ℕ
 sevens = replicate 255 7
 
--- "1 sets 1 atoms 1|2 sets 2 atoms 1 1|3 sets 0|4 sets 1 atoms 1 0|without 3|certain 2 some 2 none 1 of 5|"
-pub four-books : tableOf (bytes fact ∷ bytes choice ∷ bytes contrary ∷ bytes circle ∷ []) 1000000 sevens ≡ table
+-- the tables of four calls, each told by the line above it
+pub worked-tables :
+    -- "1 sets 1 atoms 1|2 sets 2 atoms 1 1|3 sets 0|4 sets 1 atoms 1 0|without 3|certain 2 some 2 none 1 of 5|"
+    (tableOf (bytes fact ∷ bytes choice ∷ bytes contrary ∷ bytes circle ∷ []) 1000000 sevens ≡ table
     (row 1 (1 ∷ []) ∷ row 2 (1 ∷ 1 ∷ []) ∷ no-sets ∷ row 1 (1 ∷ 0 ∷ []) ∷ []) (3 ∷ [])
-    (record { certain = 2; some = 2; none = 1; atoms = 5 })
-unfolding every some everyBelow someBelow sameAtom count rule everyRule someRule ifb ifLt ifEq heads allIn mayOn blocked starved
-    clashing uncoloured of addFrom added iterate upheld supportMore support goesOff closeMore marked stamped close oneOr lowestFrom lowest clashed
-    u16At partOf andThen bytesOf recordOf lengthOf ruleOf recordsOf rulesOf ifFine bodyOf readOf after eventsIn events readingsIn readings
-    standing numbersFrom countIn countRead countOf bookOf bookIn numberBelow totalsFrom totalsWith turnBy turnOf turnsOf withoutFrom tableOf
-four-books = refl
-
--- "without|certain 0 some 0 none 0 of 0|"; and 65 names: "refused 36" alone
-pub no-books : (tableOf [] 1000000 sevens ≡ table [] [] noTotals) × (tableOf (replicate 65 (bytes fact)) 1000000 sevens ≡ too-many)
-unfolding ifb ifLt turnsOf withoutFrom tableOf
-no-books = (refl, refl)
-
--- 37, 1 and 9, each in a line of its own, counted in no total; the fact beside them counts
-pub refused-books : tableOf (unread ∷ bytes [] ∷ bytes choice ∷ bytes fact ∷ []) 2 sevens ≡ table
+    (record { certain = 2; some = 2; none = 1; atoms = 5 }))
+    -- "without|certain 0 some 0 none 0 of 0|"
+    × (tableOf [] 1000000 sevens ≡ table [] [] noTotals)
+    -- 65 names: "refused 36" alone
+    × (tableOf (replicate 65 (bytes fact)) 1000000 sevens ≡ too-many)
+    -- 37, 1 and 9, each in a line of its own, counted in no total; the fact beside them counts
+    × (tableOf (unread ∷ bytes [] ∷ bytes choice ∷ bytes fact ∷ []) 2 sevens ≡ table
     (refuse 37 ∷ refuse 1 ∷ refuse 9 ∷ row 1 (1 ∷ []) ∷ []) []
-    (record { certain = 1; some = 0; none = 0; atoms = 1 })
+    (record { certain = 1; some = 0; none = 0; atoms = 1 }))
 unfolding every some everyBelow someBelow sameAtom count rule everyRule someRule ifb ifLt ifEq heads allIn mayOn blocked starved
     clashing uncoloured of addFrom added iterate upheld supportMore support goesOff closeMore marked stamped close oneOr lowestFrom lowest clashed
     u16At partOf andThen bytesOf recordOf lengthOf ruleOf recordsOf rulesOf ifFine bodyOf readOf after eventsIn events readingsIn readings
     standing numbersFrom countIn countRead countOf bookOf bookIn numberBelow totalsFrom totalsWith turnBy turnOf turnsOf withoutFrom tableOf
-refused-books = refl
+worked-tables = (refl, refl, refl, refl)

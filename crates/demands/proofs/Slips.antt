@@ -7,12 +7,9 @@ use Prim.Native.Nat.{ℕ}
 use Rattle.meaning.specs.declared.AtomNo.{AtomNo}
 use Rattle.meaning.specs.declared.kind.Kind.{Kind}
 use Rattle.meaning.specs.declared.kind.Kind.the-variants.{Naming, Clearing}
-use Rattle.meaning.specs.Sets.{every, some, everyBelow, someBelow, ascending}
-use Rattle.meaning.specs.Books.{Atoms, atomNo, sameAtom, sameRule, Book, count, rule, everyRule, someRule}
+use Rattle.meaning.specs.Books.{Atoms, atomNo, Book}
 use Rattle.meaning.specs.AnswerSet.{AnswerSet, Certain}
-use Rattle.meaning.specs.Colours.{put, heads, allIn, mayOn, blocked, clashing, uncoloured}
-use Rattle.meaning.specs.Claim.{claim, claimed, markedBy, shownBy, shown, ended, Holding}
-use Rattle.meaning.specs.Paper.{unfounded, fails}
+use Rattle.meaning.specs.Claim.{Holding}
 use Rattle.meaning.specs.Choice.{ifb, ifLt, ifEq}
 use Rattle.meaning.specs.Told.{refusedAt, refused}
 use Rattle.meaning.proofs.Tests.{true-and-false}
@@ -27,10 +24,7 @@ use Rattle.book.specs.Rows.{Bytes}
 use Rattle.walk.specs.Find.{set, findOf}
 use Rattle.writer.specs.Write.{paper, nameOf, clearOf}
 use Rattle.checker.specs.Numbers.{certain}
-use Rattle.checker.specs.Steps.{withRule, properList, withList, stepBy, stepOf}
-use Rattle.checker.specs.Branches.{andThen, afterStep, branchOf}
-use Rattle.checker.specs.Witness.{andThen as witnessThen, follows, orderOf, blockedOf, restFails, listOf, witnessVerdict}
-use Rattle.checker.specs.Check.{witnessTold, branchTold, stepsTold, trailerTold, markedTold, paperOf, checkRead, checkOf}
+use Rattle.checker.specs.Check.{checkOf}
 use Rattle.demands.specs.Engine.{Engine}
 use Rattle.demands.specs.Damaged.{GoodBook}
 use Rattle.demands.specs.Demand3.{Sound, WritesOnly}
@@ -106,10 +100,5 @@ choice-unclear g c =
 
 pub slips-refused : (checkOf choice carriedPaper ≡ refusedAt 25 3) × (checkOf barredBook barredPaper ≡ refusedAt 25 2)
     × (checkOf barredBook blockedPaper ≡ certain (atomNo 0))
-unfolding checkOf checkRead paperOf markedTold markedBy trailerTold claimed stepsTold branchTold witnessTold
-    witnessVerdict listOf restFails blockedOf orderOf follows witnessThen
-    branchOf afterStep andThen stepOf stepBy withList properList withRule
-    readOf bodyOf ifFine recordsOf rulesOf ruleOf lengthOf recordOf bytesOf partOf recordsThen u16At
-    unfounded fails ended shown shownBy clashing uncoloured blocked mayOn allIn heads put
-    someRule everyRule rule count sameRule sameAtom ascending someBelow everyBelow some every ifb ifLt ifEq
-slips-refused = (refl, refl, refl)
+unfolding At Holds
+slips-refused = (row 44, row 45, row 46)

@@ -50,8 +50,8 @@ worked =
     refl and refl and refl and refl and refl and refl and refl and refl and refl and
     refl and refl and refl and refl and refl and refl and refl and refl and refl and
     refl and refl and refl and refl and refl and refl and refl and refl and refl and
-    refl and refl and refl and refl and refl and refl and refl and refl and
-    no-more
+    refl and refl and refl and refl and refl and refl and refl and refl and refl and
+    refl and refl and no-more
 
 -- ---- a row of the table
 

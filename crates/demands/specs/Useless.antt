@@ -28,7 +28,6 @@ use Rattle.meaning.specs.Written.{Tables}
 use Rattle.meaning.specs.Books.{Book}
 use Rattle.meaning.specs.Colours.{Pair, onSide, put, start, clashing}
 use Rattle.meaning.specs.declared.kind.Claim.{Claim}
-use Rattle.meaning.specs.Claim.{claim}
 use Rattle.meaning.specs.Paper.{codeOn, codeOff, codeUnfounded, codeSplit, codeEnd}
 use Rattle.meaning.specs.Written.{nothing, pair}
 use Rattle.meaning.specs.Computed.{close}

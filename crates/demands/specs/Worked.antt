@@ -19,6 +19,7 @@ use Rattle.demands.specs.Engine.{Engine}
 use Rattle.demands.specs.Printed.{empty, fact, factPaper, hastyPaper, choice, contrary, circular, circularPaper, undone}
 use Rattle.demands.specs.Printed.{eitherWay, eitherWayPaper, six, factAsClearing, factUnmarked, circularCleared, circularAsNaming}
 use Rattle.demands.specs.Printed.{hastyCleared, sixCleared4, sixCleared5, lateClash}
+use Rattle.demands.specs.Forged.{carriedPaper, barredBook, barredPaper, blockedPaper}
 
 pub data Case : Type 0 where
   -- book, k, L, the buffer before; what is told, the buffer afterwards
@@ -105,4 +106,8 @@ cases =
     ∷ checking fact factUnmarked (refusedAt 21 8)
     -- document 02: "the lowest rule that is in both sets of the fully closed pair"
     ∷ finding lateClash 1 1000 (sevens 2) (fewer 5 0 0) (sevens 2)
+    -- "Slips to rule out": the second branch of a split starting from what the first had added; a rule under 55 that its negative atoms block
+    ∷ checking choice carriedPaper (refusedAt 25 3)
+    ∷ checking barredBook barredPaper (refusedAt 25 2)
+    ∷ checking barredBook blockedPaper (certain (atomNo 0))
     ∷ []
