@@ -1,6 +1,6 @@
 -- Sets of atoms written out: what is read from a table, that tables of the same set are equal, what one store does; and the tables of
 -- heads, and of atoms all of whose rules are in a set, as a loop over the rules fills them. Document 01, "Colours and closing".
-use mathlib.Core.Path.{_≡_, refl, sym, _∙_, ap}
+use mathlib.Core.Path.{_≡_, refl, sym, _∙_}
 use mathlib.Core.Bool.{Bool, true, false, not, _&&_, _||_}
 use mathlib.Core.List.{List}
 use Prim.Native.Nat.{ℕ, _+_, _<_}

@@ -9,21 +9,21 @@ use native.Mathlib.Numerals.{add-one}
 use native.Mathlib.Omega.{arith}
 use lib.Dec.{eqb, ltb}
 use lib.Bits.{bitOr}
-use lib.ListN.{length, getD, set, drop, replicate, length-set, length-replicate, drop-of-length-le}
+use lib.ListN.{length, getD, set, drop, replicate, length-set, drop-of-length-le}
 use lib.Seq.{ext-getD, drop-cons, getD-set-same, getD-set-other}
 use borrow.Author.Tests.{eq-eqb, ne-eqb, eqb-true, ltb-true, lt-ltb, le-ltb}
 use Rattle.meaning.specs.declared.AtomNo.{AtomNo}
 use Rattle.meaning.specs.Sets.{Set, some}
 use Rattle.meaning.specs.Books.{Rule, Book, atomNo, ruleNo, sameAtom, rule, count}
-use Rattle.meaning.specs.Bits.{none, one, plus, members}
-use Rattle.meaning.proofs.Tests.{same, or-left, neither}
+use Rattle.meaning.specs.Bits.{one, plus, members}
+use Rattle.meaning.proofs.Tests.{same, neither}
 use Rattle.meaning.proofs.Words.{shl-one}
 use Rattle.meaning.proofs.Four.{four, stored, members-put, members-nothing}
 use Rattle.book.specs.declared.reader.Shape.{Shape}
 use Rattle.book.specs.Format.{bookIn, ReadAs}
 use Rattle.book.specs.Writing.{atomBytes, RuleFits}
 use Rattle.book.specs.RuleRows.{row, sets, inPart, inRows, entered, RuleRows}
-use Rattle.book.proofs.Places.{shape-in, shape-count, rule-keeps}
+use Rattle.book.proofs.Places.{shape-count, rule-keeps}
 
 -- ---- one row
 

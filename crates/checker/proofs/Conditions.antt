@@ -10,7 +10,7 @@ use borrow.Author.Tests.{ne-eqb, ltb-true, lt-ltb}
 use Rattle.meaning.specs.declared.AtomNo.{AtomNo}
 use Rattle.meaning.specs.declared.RuleNo.{RuleNo}
 use Rattle.meaning.specs.Sets.{Set, every, some, someBelow}
-use Rattle.meaning.specs.Books.{Atoms, Rules, atomNo, ruleNo, sameAtom, Book, count, rule, someRule}
+use Rattle.meaning.specs.Books.{Atoms, Rules, ruleNo, sameAtom, Book, count, rule, someRule}
 use Rattle.meaning.specs.Colours.{heads, allIn, plus, clashing, uncoloured}
 use Rattle.meaning.specs.declared.kind.Kind.the-variants.{Naming, Clearing}
 use Rattle.meaning.specs.declared.kind.Claim.{Claim}

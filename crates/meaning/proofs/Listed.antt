@@ -17,7 +17,7 @@ use Rattle.meaning.specs.Bits.{none, one, plus, members, tableFrom, list
 use Rattle.meaning.specs.declared.colouring.Colouring.{Colouring}
 use Rattle.meaning.specs.Written.{of, written}
 use Rattle.meaning.proofs.Tests.{or-right}
-use Rattle.meaning.proofs.Four.{Words, members-out, members-nothing, words-one}
+use Rattle.meaning.proofs.Four.{Words, members-out, words-one}
 use Rattle.meaning.proofs.Written.{of-none, Sized}
 
 -- ---- tests written out

@@ -6,7 +6,7 @@ use native.Mathlib.Decide.{decLt}
 use native.Mathlib.Omega.{arith}
 use lib.ListN.{getD}
 use mathlib.Core.List.{List}
-use Rattle.meaning.specs.Sets.{Set, _∈_, _∉_}
+use Rattle.meaning.specs.Sets.{Set, _∉_}
 use Rattle.meaning.specs.Books.{Rules, ruleNo}
 use Rattle.meaning.specs.Lowest.{none, one, lowestFrom}
 use Rattle.meaning.specs.Bits.{bit, members, Lowers, NextIn}

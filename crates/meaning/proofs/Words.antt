@@ -2,7 +2,7 @@
 -- say. Each goes by induction along the digits, lowest first: bit 0 is n % 2, and bit k + 1 of n is bit k of n / 2.
 use mathlib.Core.Path.{_≡_, refl, sym, ap, _∙_}
 use mathlib.Core.Logic.{_⊎_, inl, inr}
-use mathlib.Core.Bool.{Bool, true, false, not, _||_, _&&_}
+use mathlib.Core.Bool.{true, false, not, _||_, _&&_}
 use Prim.Native.Nat.{ℕ, zero, suc, _<_, _≤_, _+_, _-_, _*_, _/_, _%_, _^_, min, max}
 use native.Mathlib.Nat.{not-suc-le-zero, div-div-eq-div-mul, pow-succ', mod-eq-of-lt, one-mul, div-one}
 use native.Mathlib.Decide.{ℕ-discrete}

@@ -5,7 +5,6 @@ use mathlib.Core.Bool.{Bool, not, _&&_, _||_}
 use mathlib.Core.List.{List}
 use Prim.Native.Nat.{ℕ, zero, suc, _+_, _<_}
 use native.Mathlib.Omega.{arith}
-use lib.Dec.{ltb}
 use borrow.Author.Tests.{lt-ltb}
 use Rattle.meaning.specs.declared.RuleNo.{RuleNo}
 use Rattle.meaning.specs.Sets.{Set}

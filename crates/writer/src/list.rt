@@ -2,7 +2,6 @@
 ghost use mathlib.Core.Path.{_≡_};
 ghost use mathlib.Core.Bool.{Bool};
 ghost use mathlib.Core.List.{List};
-ghost use lib.ListN.{length};
 ghost use Rattle.meaning.specs.Books.{Book, count};
 ghost use Rattle.meaning.specs.Colours.{plus};
 ghost use Rattle.meaning.specs.Paper.{numbers};

@@ -6,7 +6,9 @@ use Rattle.settling.proofs.show_book.Statement.{statement}
 use Rattle.settling.proofs.show_book.Tie as tie
 
 show-good-requires : tie.Need-show-good-requires
-show-good-requires c κs = sym (c .before .before .before .read-book .ensures) ∙ ap told (c .before .shape .given .1)
+show-good-requires c κs =
+    let after-read-book = c .before .before .before in
+    sym (after-read-book .read-book .ensures) ∙ ap told (c .before .shape .given .1)
 
 pub show-book-spec : {M : Type 1} → statement M
 show-book-spec =

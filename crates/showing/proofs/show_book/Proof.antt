@@ -7,7 +7,9 @@ use Rattle.showing.proofs.show_book.Statement.{statement}
 use Rattle.showing.proofs.show_book.Tie as tie
 
 show-all-requires : tie.Need-show-all-requires
-show-all-requires c κs = sym (c .before .before .before .read-book .ensures) ∙ ap told (c .before .shape .given .1)
+show-all-requires c κs =
+    let after-read-book = c .before .before .before in
+    sym (after-read-book .read-book .ensures) ∙ ap told (c .before .shape .given .1)
 
 pub show-book-spec : {M : Type 1} → statement M
 show-book-spec =

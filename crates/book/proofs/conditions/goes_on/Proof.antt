@@ -30,10 +30,12 @@ every-in-requires-2 c κs =
 
 returns-2 : tie.Need-returns-2
 returns-2 c =
+    let after-every-in = c .before .before .before in
+    let after-positives = c .before .before .before .before in
     then-decides
     (sym
-    (c .before .before .before .every-in .ensures
-    ∙ every-part _ _ _ (c .before .before .before .before .positives .ensures))
+    (after-every-in .every-in .ensures
+    ∙ every-part _ _ _ (after-positives .positives .ensures))
     ∙ not-false _ (c .before .before .if1 .left))
     (c .every-in2 .ensures ∙ every-part _ _ _ (c .before .negatives .ensures))
 

@@ -41,14 +41,17 @@ write-record-requires c κs =
     (omega arith, room-pos _ _ _ _ r, room-neg _ _ _ _ r)
 
 add-t8 : tie.Need-add-t8
-add-t8 c = let n = room-rules _ _ _ _ (room (c .before .before .before)) in search needs
+add-t8 c =
+    let earlier = c .before .before .before in
+    let n = room-rules _ _ _ _ (room earlier) in search needs
 
 returns-3 : tie.Need-returns-3
 returns-3 c =
     let e = c .before .before .before in
+    let tested = e .before .before .before .before in
     let r = room e in
     let a = start (e .before) .args in
-    adds-made _ _ (listed (a .pos .now)) (listed (a .neg .now)) (not-false _ (e .before .before .before .before .if1 .left)) r (listed-small (a .pos .now) (room-pos _ _ _ _ r))
+    adds-made _ _ (listed (a .pos .now)) (listed (a .neg .now)) (not-false _ (tested .if1 .left)) r (listed-small (a .pos .now) (room-pos _ _ _ _ r))
     (listed-small (a .neg .now) (room-neg _ _ _ _ r)) (c .before .write-record .ensures)
 
 pub add-rule-spec : {M : Type 1} → statement M

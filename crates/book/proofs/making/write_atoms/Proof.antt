@@ -1,10 +1,9 @@
 -- The atoms below the one that is tried are written.
-use mathlib.Core.Path.{_≡_, sym, _∙_, ap}
+use mathlib.Core.Path.{_≡_}
 use mathlib.Core.Logic.{⊎-elim}
 use Prim.Native.Nat.{_-_, _≤_}
 use native.Mathlib.Omega.{arith}
 use borrow.Author.Needs.{needs}
-use lib.ListN.{length}
 use Rattle.book.specs.Writing.{atomBytes}
 use Rattle.book.specs.Making.{saidOf, atomsFrom, Puts}
 use Rattle.book.proofs.Made.{atoms-begun, atoms-put, atoms-skipped, atoms-room}

@@ -5,7 +5,6 @@ use Prim.Native.Nat.{_+_, _-_, _≤_, _<_}
 use native.Mathlib.Omega.{arith}
 use borrow.Author.Needs.{needs}
 use lib.ListN.{length}
-use lib.Seq.{take-length}
 use Rattle.meaning.specs.Books.{Rule}
 use Rattle.book.specs.Making.{Made}
 use Rattle.book.proofs.Made.{Whole, made-whole, whole-size, Indexed, indexed-none, indexed-inside, indexed-room, indexed-more}

@@ -7,8 +7,10 @@ use Rattle.book.proofs.rules.positives.Tie as tie
 
 returns : tie.Need-returns
 returns c =
-    let p = c .before .before .before .start-of in
-    part-taken (c .before .before .before .before .before .args .book .now) (p .result + 3) _ _ _
+    let after-start-of = c .before .before .before in
+    let start = c .before .before .before .before .before in
+    let p = after-start-of .start-of in
+    part-taken (start .args .book .now) (p .result + 3) _ _ _
     (c .before .wide .ensures .0) (p .ensures .pos)
 
 pub positives-spec : {M : Type 1} → statement M

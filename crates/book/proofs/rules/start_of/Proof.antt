@@ -9,12 +9,14 @@ use Rattle.book.proofs.rules.start_of.Tie as tie
 
 add-u16-at : tie.Need-add-u16-at
 add-u16-at c =
-    let f = shape-length _ (c .before .before .before .args .shape) (c .before .before .before .pre .0) in
+    let start = c .before .before .before in
+    let f = shape-length _ (start .args .shape) (start .pre .0) in
     search needs
 
 u16-at-requires : tie.Need-u16-at-requires
 u16-at-requires c κs =
-    let f = shape-length _ (c .before .before .before .args .shape) (c .before .before .before .pre .0) in
+    let start = c .before .before .before in
+    let f = shape-length _ (start .args .shape) (start .pre .0) in
     search needs
 
 returns : tie.Need-returns

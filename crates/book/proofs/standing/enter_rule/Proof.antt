@@ -8,7 +8,9 @@ use Rattle.book.proofs.standing.enter_rule.Statement.{statement}
 use Rattle.book.proofs.standing.enter_rule.Tie as tie
 
 enter-requires : tie.Need-enter-requires
-enter-requires c κs = (omega (arith, c .wide .ensures .1), c .before .before .before .before .pre .2)
+enter-requires c κs =
+    let start = c .before .before .before .before in
+    (omega (arith, c .wide .ensures .1), start .pre .2)
 
 enter-part-requires : tie.Need-enter-part-requires
 enter-part-requires c κs = (omega arith, c .before .before .enter .ensures .1)

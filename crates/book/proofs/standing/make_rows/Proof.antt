@@ -22,7 +22,8 @@ loop-holds c = (omega arith, length-replicate {A = ℕ} 3072 0, rows-none _)
 enter-rule-requires : tie.Need-enter-rule-requires Inv-loop μ-loop
 enter-rule-requires c κs =
     let k = c .before .before .before in
-    (k .before .before .before .pre, omega arith, k .loop .inv .1)
+    let start = k .before .before .before in
+    (start .pre, omega arith, k .loop .inv .1)
 
 loop-again : tie.Need-loop-again Inv-loop μ-loop
 loop-again c =

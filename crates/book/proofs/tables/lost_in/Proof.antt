@@ -37,7 +37,9 @@ module _ (c : tie.After-has Inv-loop μ-loop) where
   small a e = head-small _ (start .args .shape) (start .pre) (ruleNo (turn .loop .r)) (omega arith) (search needs) a e
 
 element-write-out : tie.Need-element-write-out Inv-loop μ-loop
-element-write-out c = let h = small (c .before .before .before) _ (c .before .head .ensures) in search needs
+element-write-out c =
+    let earlier = c .before .before .before in
+    let h = small earlier _ (c .before .head .ensures) in search needs
 
 loop-again : tie.Need-loop-again Inv-loop μ-loop
 loop-again c =

@@ -14,13 +14,16 @@ use Rattle.checker.proofs.list.is_unfounded.Statement.{statement}
 use Rattle.checker.proofs.list.is_unfounded.Tie as tie
 
 with-rules-requires : tie.Need-with-rules-requires
-with-rules-requires c κs = below-more (omega arith) (c .before .before .before .pre .1)
+with-rules-requires c κs =
+    let start = c .before .before .before in
+    below-more (omega arith) (start .pre .1)
 
 returns : tie.Need-returns
 returns c =
     let g = c .before .before .before in
     let w = g .before in
-    let s = w .before .before .before .args in
+    let start = w .before .before .before in
+    let s = start .args in
     c .each-starves .ensures
     ∙ unfounded-by _ (of (listed (s .off .now))) (of (listed (g .with-rules .result .w))) (s .list .now)
     (g .with-rules .ensures ∙ ap (λ (v : List ℕ). plus (of (listed v)) (map ruleNo (s .list .now))) (w .whole .ensures))

@@ -7,14 +7,19 @@ use Rattle.checker.proofs.paper.check.Statement.{statement}
 use Rattle.checker.proofs.paper.check.Tie as tie
 
 check-paper-requires : tie.Need-check-paper-requires
-check-paper-requires c κs = sym (c .before .before .before .read-book .ensures) ∙ ap told (c .before .shape .given .1)
+check-paper-requires c κs =
+    let after-read-book = c .before .before .before in
+    sym (after-read-book .read-book .ensures) ∙ ap told (c .before .shape .given .1)
 
 returns : tie.Need-returns
-returns c = sym (check-refused _ _ _ _ (sym (c .before .before .before .read-book .ensures) ∙ ap told (c .before .why .given .1)))
+returns c =
+    let after-read-book = c .before .before .before in
+    sym (check-refused _ _ _ _ (sym (after-read-book .read-book .ensures) ∙ ap told (c .before .why .given .1)))
 
 returns-2 : tie.Need-returns-2
 returns-2 c =
-    c .check-paper .ensures ∙ sym (check-good _ _ _ (sym (c .before .before .before .before .read-book .ensures)
+    let after-read-book = c .before .before .before .before in
+    c .check-paper .ensures ∙ sym (check-good _ _ _ (sym (after-read-book .read-book .ensures)
     ∙ ap told (c .before .before .shape .given .1)))
 
 pub check-spec : {M : Type 1} → statement M

@@ -25,8 +25,9 @@ returns-2 c =
 
 returns-3 : tie.Need-returns-3
 returns-3 c =
+    let tested = c .before .before .before in
     let p = c .before .before .before .before in
-    atom-in _ _ _ (p .before .wide .ensures .0) (p .u16-at .ensures .0) (c .before .before .before .if1 .left)
+    atom-in _ _ _ (p .before .wide .ensures .0) (p .u16-at .ensures .0) (tested .if1 .left)
     (omega (arith, shape-atoms _ _ (start p .pre .0))) _ (c .check-steps .ensures)
 
 pub check-claim-spec : {M : Type 1} → statement M

@@ -19,7 +19,9 @@ abbrev begun : tie.After-struct-known → tie.Start
 begun c = c .before .before .before
 
 abbrev start : tie.After-wide → tie.Start
-start c = begun (c .before .before .before)
+start c =
+    let earlier = c .before .before .before in
+    begun earlier
 
 -- the list is read and tested
 module _ (c : tie.After-is-proper) where

@@ -13,12 +13,15 @@ count-in-requires c κs =
     let h = c .before .before in (read-as _ (h .before .before .read-book .ensures) (h .shape .given .1), search needs)
 
 returns : tie.Need-returns
-returns c = sym (count-bad-book _ _ _ _ _ (read-bad _ (c .before .before .before .read-book .ensures) (c .before .why .given .1)))
+returns c =
+    let after-read-book = c .before .before .before in
+    sym (count-bad-book _ _ _ _ _ (read-bad _ (after-read-book .read-book .ensures) (c .before .why .given .1)))
 
 returns-2 : tie.Need-returns-2
 returns-2 c =
     let h = c .before .before .before in
-    let s = h .before .before .before .before .args .book .now in
+    let start = h .before .before .before .before in
+    let s = start .args .book .now in
     c .count-in .ensures ∙ sym (count-good-book s _ _ _ _ _ _
     (told-good (readOf s) _ _ _ (read-as _ (h .before .before .read-book .ensures) (h .shape .given .1))))
 

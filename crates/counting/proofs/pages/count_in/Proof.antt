@@ -35,7 +35,8 @@ module _ (c : tie.After-count-page Inv-loop μ-loop) where
 last-part : tie.Need-slice-aggregate-count-page Inv-loop μ-loop
 last-part c =
     let l = c .before in
-    let n = l .before .before .before .before .args .shape .atoms in
+    let start = l .before .before .before .before in
+    let n = start .args .shape .atoms in
     let h : length (take n (l .loop .last)) ≡ n = length-take-le n (l .loop .last) (omega (arith, l .loop .inv .1)) in
     search needs
 

@@ -41,10 +41,14 @@ add-page-requires c κs =
     (search needs, search needs, start (asked k) .pre .1 .counts-long, λ i m. omega (arith, full-adds k .each i m))
 
 mul-end : tie.Need-mul-end
-mul-end c = let h = full-adds (c .before .before .before .before .before) .fits in search needs
+mul-end c =
+    let earlier = c .before .before .before .before .before in
+    let h = full-adds earlier .fits in search needs
 
 sub-keep-row : tie.Need-sub-keep-row
-sub-keep-row c = let h = row-fits (c .before .before .before .before .before .before) in search needs
+sub-keep-row c =
+    let earlier = c .before .before .before .before .before .before in
+    let h = row-fits earlier in search needs
 
 keep-row-requires : tie.Need-keep-row-requires
 keep-row-requires c κs =
@@ -55,7 +59,9 @@ keep-row-requires c κs =
     (search needs, s .pre .1 .last-long ∙ shape-atoms _ _ (s .pre .0))
 
 add-sets : tie.Need-add-t30
-add-sets c = let h = full-adds (c .before .before .before .before .before .before .before .before .before .before) .sum in search needs
+add-sets c =
+    let earlier = c .before .before .before .before .before .before .before .before .before .before in
+    let h = full-adds earlier .sum in search needs
 
 returns : tie.Need-returns
 returns c =
@@ -83,7 +89,9 @@ add-page-requires-2 c κs =
     (search needs, search needs, start (asked-last k) .pre .1 .counts-long, λ i m. omega (arith, last-adds k .each i m))
 
 add-sets-2 : tie.Need-add-t36
-add-sets-2 c = let h = last-adds (c .before .before .before .before .before) .sum in search needs
+add-sets-2 c =
+    let earlier = c .before .before .before .before .before in
+    let h = last-adds earlier .sum in search needs
 
 returns-2 : tie.Need-returns-2
 returns-2 c =

@@ -29,16 +29,20 @@ add-certain c = let h = most (counted (c .before)) in let v = one-most _ (c .bef
 
 add-some : tie.Need-add-t14 Inv-loop μ-loop
 add-some c =
-    let h = most (counted (c .before .before .before)) in let v = one-most _ (c .before .in-some .ensures) in search needs
+    let earlier = c .before .before .before in
+    let h = most (counted earlier) in let v = one-most _ (c .before .in-some .ensures) in search needs
 
 add-none : tie.Need-add-t16 Inv-loop μ-loop
 add-none c =
-    let h = most (counted (c .before .before .before .before .before)) in
+    let earlier = c .before .before .before .before .before in
+    let h = most (counted earlier) in
     let v = one-most _ (c .before .in-none .ensures) in
     search needs
 
 add-atoms : tie.Need-add-t17 Inv-loop μ-loop
-add-atoms c = let h = most (counted (c .before .before .before .before .before .before)) in search needs
+add-atoms c =
+    let earlier = c .before .before .before .before .before .before in
+    let h = most (counted earlier) in search needs
 
 loop-again : tie.Need-loop-again Inv-loop μ-loop
 loop-again c =

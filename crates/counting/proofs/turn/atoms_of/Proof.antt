@@ -5,7 +5,9 @@ use Rattle.counting.proofs.turn.atoms_of.Statement.{statement}
 use Rattle.counting.proofs.turn.atoms_of.Tie as tie
 
 returns : tie.Need-returns
-returns c = good-atoms _ (c .before .before .before .read-book .ensures) (c .before .shape .given .1)
+returns c =
+    let after-read-book = c .before .before .before in
+    good-atoms _ (after-read-book .read-book .ensures) (c .before .shape .given .1)
 
 returns-2 : tie.Need-returns-2
 returns-2 c = bad-atoms _ (c .before .before .read-book .ensures) (c .enum-told .given .1)

@@ -32,7 +32,9 @@ module _ (t : ℕ) where
   returns c = rw (decimal-small (c .before .before .args .n) (omega arith)) (stored-one _ _ _)
 
   put-number-requires : lts.Need-put-number-requires calls here put-number.Post
-  put-number-requires c κs = (search needs, omega (arith, decimal-longer (c .before .before .before .args .n) (omega arith)))
+  put-number-requires c κs =
+      let start = c .before .before .before in
+      (search needs, omega (arith, decimal-longer (start .args .n) (omega arith)))
 
   write-large : lts.Need-slice-write-out-2 calls here put-number.Post
   write-large c =

@@ -11,7 +11,9 @@ returns : tie.Need-returns
 returns c = (sym (lt-no _ _ _ _ (omega arith)), c .before .before .pre)
 
 returns-2 : tie.Need-returns-2
-returns-2 c = (sym (lt-yes _ _ _ _ (omega arith)), counts _ (c .before .before .before .before .args .piece .now) (omega arith))
+returns-2 c =
+    let start = c .before .before .before .before in
+    (sym (lt-yes _ _ _ _ (omega arith)), counts _ (start .args .piece .now) (omega arith))
 
 pub write-full-spec : {M : Type 1} → statement M
 write-full-spec = tie.close (tie.spec (λ c. search needs) returns (λ c. search needs) (λ c κs. search needs) returns-2)

@@ -8,7 +8,8 @@ use Rattle.saving.proofs.save.put_new_name.Tie as tie
 returns : tie.Need-returns
 unfolding dotNew
 returns c =
-    let path-copied = c .before .before .before .before .before .before .before .copy .ensures in
+    let after-copy = c .before .before .before .before .before .before .before in
+    let path-copied = after-copy .copy .ensures in
     let new-copied = c .before .before .copy2 .ensures in
     new-name-written _ _ _ _ (path-copied .0) (path-copied .1) (new-copied .0) (new-copied .1)
 

@@ -22,12 +22,15 @@ loop-holds c = search needs
 loop-again : tie.Need-loop-again Inv-loop μ-loop
 loop-again c =
     let k = c .before .before .before .before .before in
-    let w = k .before .before .before .args .word .now in
+    let start = k .before .before .before in
+    let w = start .args .word .now in
     let d = c .before .before .digit .ensures in
     (search needs, filled-turn w _ (k .loop .i) _ _ d (c .digit2 .ensures) _ (k .loop .inv .1), search needs)
 
 returns : tie.Need-returns Inv-loop μ-loop
-returns c = let e : c .before .loop .i ≡ c .before .before .before .before .args .n = omega arith in rw (← e) (c .before .loop .inv .1)
+returns c =
+    let start = c .before .before .before .before in
+    let e : c .before .loop .i ≡ start .args .n = omega arith in rw (← e) (c .before .loop .inv .1)
 
 pub fill-spec : {M : Type 1} → statement M
 fill-spec =

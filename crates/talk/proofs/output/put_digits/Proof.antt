@@ -33,7 +33,8 @@ loop-again c =
 
 returns : tie.Need-returns Inv-loop μ-loop
 returns c =
-    let e : c .before .loop .i ≡ c .before .before .before .before .args .n = omega arith in
+    let start = c .before .before .before .before in
+    let e : c .before .loop .i ≡ start .args .n = omega arith in
     ((refl, rw (← e) (c .before .loop .inv .1)), counts _ (c .before .loop .out) (omega arith))
 
 pub put-digits-spec : {M : Type 1} → statement M

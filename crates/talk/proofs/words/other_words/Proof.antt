@@ -7,10 +7,14 @@ use Rattle.talk.proofs.words.other_words.Statement.{statement}
 use Rattle.talk.proofs.words.other_words.Tie as tie
 
 returns : tie.Need-returns
-returns c = no-other-part (c .before .before .before .before .args .line .now) _ (c .before .before .find .ensures .0) (omega arith)
+returns c =
+    let start = c .before .before .before .before in
+    no-other-part (start .args .line .now) _ (c .before .before .find .ensures .0) (omega arith)
 
 returns-2 : tie.Need-returns-2
-returns-2 c = other-part (c .before .before .before .before .args .line .now) _ (c .before .before .find .ensures .0) _ refl
+returns-2 c =
+    let start = c .before .before .before .before in
+    other-part (start .args .line .now) _ (c .before .before .find .ensures .0) _ refl
 
 pub other-words-spec : {M : Type 1} → statement M
 other-words-spec =

@@ -104,8 +104,9 @@ loop-again-3 c =
 
 returns : tie.Need-returns Inv-loop μ-loop
 returns c =
+    let matched = c .before .before .before in
     let p = c .before .before .before .before .before in
-    let d = rw (c .before .before .before .tip .given .1) at (p .next-step .ensures) in
+    let d = rw (matched .tip .given .1) at (p .next-step .ensures) in
     ahead-stops (few (start p)) (turn p .loop .inv) d _ refl (c .write-tip .ensures)
 
 pub write-branch-spec : {M : Type 1} → statement M

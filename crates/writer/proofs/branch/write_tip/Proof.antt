@@ -8,7 +8,9 @@ returns : tie.Need-returns
 returns c = rw (c .before .before .enum-told .given .1) (c .write .ensures)
 
 returns-2 : tie.Need-returns-2
-returns-2 c = rw (c .before .before .before .tip .given .1) (c .write-step .ensures)
+returns-2 c =
+    let matched = c .before .before .before in
+    rw (matched .tip .given .1) (c .write-step .ensures)
 
 returns-3 : tie.Need-returns-3
 returns-3 c = rw (c .enum-told2 .given .1) (writes-nil _ _)

@@ -15,11 +15,14 @@ write-in-requires : tie.Need-write-in-requires
 unfolding claimed
 write-in-requires c κs =
     let g = c .before .before .before .before .before in
-    let a = g .before .before .before .before .before .args in
+    let start = g .before .before .before .before .before in
+    let a = start .args in
     (read-as (a .claim) (a .limit) (a .paper .now) _ (g .before .before .read-book .ensures) (g .shape .given .1), omega arith)
 
 returns-2 : tie.Need-returns-2
-returns-2 c = write-bad _ _ _ _ (c .before .before .before .read-book .ensures) (c .before .why .given .1)
+returns-2 c =
+    let after-read-book = c .before .before .before in
+    write-bad _ _ _ _ (after-read-book .read-book .ensures) (c .before .why .given .1)
 
 returns-3 : tie.Need-returns-3
 returns-3 c =

@@ -63,7 +63,8 @@ finish-requires c κs =
 hand-over-requires : tie.Need-hand-over-requires
 hand-over-requires c κs =
     let p = c .before .before in
-    stands-long (p .finish .ensures _ (drafted (p .before .before .before .before .before) .bytes))
+    let earlier = p .before .before .before .before .before in
+    stands-long (p .finish .ensures _ (drafted earlier .bytes))
 
 returns-3 : tie.Need-returns-3
 unfolding firstWalk

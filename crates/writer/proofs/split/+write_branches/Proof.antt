@@ -3,7 +3,6 @@ use mathlib.Core.Path.{_≡_}
 use mathlib.Core.List.{[], _∷_}
 use Prim.Native.Nat.{ℕ, _≤_, _<_}
 use native.Mathlib.Omega.{arith}
-use lib.ListN.{length}
 use borrow.Author.Needs.{needs}
 use borrow.Fn.Kinds.{In}
 use borrow.Fn.PlainCycle.{Measures, is, falls, and}
@@ -17,7 +16,7 @@ use Rattle.writer.specs.declared.step.Tip.the-variants.{Parted}
 use Rattle.writer.specs.declared.split.Course.the-variants.{Writing}
 use Rattle.writer.proofs.Branches.{left}
 use Rattle.writer.proofs.Drafting.{not-writing, stage-over, stage-stopped, stage-ended, stage-unsettled, stage-parted}
-use Rattle.writer.proofs.Drafting.{part-below, part-on, part-off, part-fewer}
+use Rattle.writer.proofs.Drafting.{part-on, part-off, part-fewer}
 use Rattle.writer.proofs.split.write_branches.Reads as branches
 use Rattle.writer.proofs.split.write_branches.Kinds as kinds
 use Rattle.writer.proofs.split.+write_branches.Lts-write_branches as lts
@@ -97,7 +96,8 @@ need-returns t c = λ s g l. stage-over g (not-writing _ (c .match .keys2)) _ _
 need-returns-2 : (t : ℕ) → lts.Need-returns-2 (calls t) (at-measure t) branches.Post
 need-returns-2 t c = λ s g l.
     let p = c .before .before in
-    stage-stopped _ _ (few t (p .before .before .before)) _ _ g (p .enum-told .given .1) (omega arith) l
+    let earlier = p .before .before .before in
+    stage-stopped _ _ (few t earlier) _ _ g (p .enum-told .given .1) (omega arith) l
 
 need-write-branches-requires : (t : ℕ) → lts.Need-write-branches-requires (calls t) (at-measure t) branches.Post
 need-write-branches-requires t c κs =
@@ -120,13 +120,16 @@ need-returns-4 t c = λ s g l.
     stage-unsettled _ _ (few t (start t w)) _ _ g (going t w) (room t w) (w .write-branch .ensures) (c .enum-told3 .given .1)
 
 need-returns-5 : (t : ℕ) → lts.Need-returns-5 (calls t) (at-measure t) branches.Post
-need-returns-5 t c = λ s g l.
+need-returns-5 t c =
+    let after-with-on = c .before .before .before .before .before in
+    let after-write-branches = c .before .before .before in
+    λ s g l.
     let p = c .before .before .before .before .before .before in
     let w = wrote t p in
-    let on = on-pair t p (c .before .before .before .before .before .with-on .ensures) in
+    let on = on-pair t p (after-with-on .with-on .ensures) in
     let off = off-pair t p (c .before .before .with-off .ensures) in
     stage-parted _ _ (few t (first t p)) _ _ g (going t w) (room t w) (w .write-branch .ensures) (cut t p) on off l
-    (c .before .before .before .write-branches .ensures) (c .write-branches2 .ensures)
+    (after-write-branches .write-branches .ensures) (c .write-branches2 .ensures)
 
 pub +write-branches-spec : {M : Type 1} → statement M
 +write-branches-spec = close μ-branches λ t. lts.spec (calls t) (at-measure t) branches.Post

@@ -119,7 +119,9 @@ module _ (c : tie.After-lowest-uncoloured) where
 
 is-shown-requires : tie.Need-is-shown-requires
 unfolding claimed
-is-shown-requires c κs = atom-small (c .before .before .before .before .before .before .before .before .before)
+is-shown-requires c κs =
+    let earlier = c .before .before .before .before .before .before .before .before .before in
+    atom-small earlier
 
 -- ---- the returns
 

@@ -27,7 +27,9 @@ turn c = c .before .before .before .before
 
 counted : (k : tie.At-loop Inv-loop μ-loop) → let s = k .before .before .before .before in
     count (bookIn (s .args .book .now)) ≡ s .args .shape .rules
-counted k = shape-count _ _ (k .before .before .before .before .pre)
+counted k =
+    let start = k .before .before .before .before in
+    shape-count _ _ (start .pre)
 
 loop-holds : tie.Need-loop-holds Inv-loop μ-loop
 loop-holds c = (search needs, none-yet _)

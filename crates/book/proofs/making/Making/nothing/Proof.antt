@@ -1,6 +1,5 @@
 -- Nothing is made, and nothing passed the limits.
 use mathlib.Core.Path.{refl}
-use borrow.Author.Needs.{needs}
 use Rattle.book.proofs.Made.{made-none}
 use Rattle.book.proofs.making.Making.nothing.Statement.{statement}
 use Rattle.book.proofs.making.Making.nothing.Tie as tie

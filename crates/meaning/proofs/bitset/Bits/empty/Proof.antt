@@ -1,5 +1,4 @@
 use Rattle.meaning.proofs.Four.{members-nothing}
-use borrow.Author.Needs.{needs}
 use Rattle.meaning.proofs.bitset.Bits.empty.Statement.{statement}
 use Rattle.meaning.proofs.bitset.Bits.empty.Tie as tie
 
