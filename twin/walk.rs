@@ -1,0 +1,116 @@
+// The walk and its tries: one try is one closing. Behind it is a contradiction, a reading, or two
+// walks from the closed colouring: with the lowest uncoloured rule on, then with it off.
+
+use book::{Book, Refusal};
+use closing::{close_chosen, close_first};
+use colouring::{Colouring, Side};
+use numbers::{Number, RuleNo};
+use rows::Rows;
+use set::Rules;
+
+/// What a call for the k-th reading comes to.
+pub enum Found {
+    /// The reading stands in the buffer; so many tries were made.
+    Set(u32),
+    /// 11: all tries, all readings, and the rule of the last contradictory try, if there was one.
+    Fewer { tries: u32, sets: u32, clash: Option<RuleNo> },
+    /// 9: the limit.
+    Stopped,
+    /// 1 to 7.
+    Book(Refusal),
+    /// 8: the buffer has fewer bytes than the book has atoms.
+    NoRoom,
+    /// 15: k is 0.
+    NoNumber,
+}
+
+/// Why a walk goes no further.
+enum Halt {
+    Found,
+    Limit,
+}
+
+/// Walks to the k-th reading and writes it to the front of the buffer, a byte for each atom.
+pub fn find(bytes: &[u8], k: u32, limit: u32, answer: &mut [u8]) -> Found {
+    let book = match Book::read(bytes) {
+        Ok(book) => book,
+        Err(refusal) => return Found::Book(refusal),
+    };
+    if k == 0 {
+        return Found::NoNumber;
+    }
+    if answer.len() < book.atoms as usize {
+        return Found::NoRoom;
+    }
+    let rows = Rows::new(&book);
+    let mut walk =
+        Walk { book: &book, rows: &rows, k, limit, tries: 0, sets: 0, clash: None, answer };
+    match walk.start() {
+        Err(Halt::Found) => Found::Set(walk.tries),
+        Err(Halt::Limit) => Found::Stopped,
+        Ok(()) => Found::Fewer { tries: walk.tries, sets: walk.sets, clash: walk.clash },
+    }
+}
+
+struct Walk<'a> {
+    book: &'a Book<'a>,
+    rows: &'a Rows,
+    k: u32,
+    limit: u32,
+    tries: u32,
+    sets: u32,
+    clash: Option<RuleNo>,
+    answer: &'a mut [u8],
+}
+
+impl<'a> Walk<'a> {
+    fn start(&mut self) -> Result<(), Halt> {
+        self.count_try()?;
+        self.go_on(&close_first(self.book, self.rows))
+    }
+
+    /// One try with the rule chosen, and what follows it.
+    fn choose(&mut self, d: &Colouring, r: RuleNo, side: Side) -> Result<(), Halt> {
+        self.count_try()?;
+        let mut c = *d;
+        close_chosen(self.book, self.rows, &mut c, r, side);
+        self.go_on(&c)
+    }
+
+    fn count_try(&mut self) -> Result<(), Halt> {
+        if self.tries >= self.limit {
+            return Err(Halt::Limit);
+        }
+        self.tries += 1;
+        Ok(())
+    }
+
+    /// Walks on from a closed colouring.
+    fn go_on(&mut self, d: &Colouring) -> Result<(), Halt> {
+        if let Some(r) = d.on.intersection(&d.off).lowest() {
+            self.clash = Some(r);
+            return Ok(());
+        }
+        match self.rows.all.difference(&d.coloured()).lowest() {
+            None => self.meet(&d.on),
+            Some(r) => {
+                self.choose(d, r, Side::On)?;
+                self.choose(d, r, Side::Off)
+            }
+        }
+    }
+
+    /// A reading, given by its on rules.
+    fn meet(&mut self, on: &Rules) -> Result<(), Halt> {
+        self.sets += 1;
+        if self.sets < self.k {
+            return Ok(());
+        }
+        let row = &mut self.answer[..self.book.atoms as usize];
+        row.fill(0);
+        for r in on.members() {
+            row[self.book.head(r).place()] = 1;
+        }
+        Err(Halt::Found)
+    }
+}
