@@ -1,7 +1,7 @@
 // A rule book: any bytes are read as a good book or refused, with document 01's number and place.
 
-use numbers::{AtomNo, Number, RuleNo};
-use set::{Atoms, Rules};
+use crate::numbers::{AtomNo, Number, RuleNo};
+use crate::set::{Atoms, Rules};
 
 const MOST_BYTES: usize = 255 * 35 + 510 + 6;
 const MOST_IN_PART: usize = 16;
@@ -32,7 +32,7 @@ impl<'a> Book<'a> {
     /// The trailer first, then each record in turn, then where the last one ends.
     pub fn read(bytes: &'a [u8]) -> Result<Book<'a>, Refusal> {
         let length = bytes.len();
-        if length < 6 || length > MOST_BYTES {
+        if !(6..=MOST_BYTES).contains(&length) {
             return refuse(1, 0);
         }
         if &bytes[length - 2..] != b"\x52\x42" {

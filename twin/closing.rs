@@ -1,13 +1,13 @@
 // Closing: the least closed colouring above one that is given. It goes on to its end also where a
 // rule comes to be in both sets, since the rule that is told of a contradiction is the lowest then.
 
-use book::Book;
-use colouring::{Colouring, Side};
-use numbers::RuleNo;
-use propagation::{drop_rules, propagate, Pending};
-use rows::Rows;
-use set::{Atoms, Rules};
-use support::{suspects, unsupported};
+use crate::book::Book;
+use crate::colouring::{Colouring, Side};
+use crate::numbers::RuleNo;
+use crate::propagation::{drop_rules, propagate, Pending};
+use crate::rows::Rows;
+use crate::set::{Atoms, Rules};
+use crate::support::{suspects, unsupported};
 
 /// The closing of the empty colouring: every rule is still to be looked at.
 pub fn close_first(book: &Book, rows: &Rows) -> Colouring {

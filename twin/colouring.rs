@@ -1,7 +1,7 @@
 // The colouring: which rules are on and off, and at how many choices each rule got its colour.
 
-use numbers::{Number, RuleNo};
-use set::Rules;
+use crate::numbers::{Number, RuleNo};
+use crate::set::Rules;
 
 #[derive(Clone, Copy)]
 pub enum Side {

@@ -1,7 +1,7 @@
 // The lines of `desk`, of its commands `find K L ROOM BOOK` alone: one line of answer each.
 
+use crate::walk::{find, Found};
 use std::io::{self, BufRead, Write};
-use walk::{find, Found};
 
 const MOST_NUMBER: u64 = 4_294_967_295;
 const MOST_ROOM: u64 = 65_536;

@@ -1,7 +1,7 @@
 // A book that is being made: its rules, and at the end its bytes.
 
-use numbers::AtomNo;
-use random::Random;
+use crate::numbers::AtomNo;
+use crate::random::Random;
 
 pub const MOST: usize = 255;
 

@@ -1,8 +1,8 @@
 // The four kinds of book that a year has. Each is told how far the year has come: books grow.
 
-use draft::{Draft, MOST};
-use numbers::AtomNo;
-use random::Random;
+use crate::draft::{Draft, MOST};
+use crate::numbers::AtomNo;
+use crate::random::Random;
 
 /// How far the year has come: which of its turns a kind has, and how many it has.
 #[derive(Clone, Copy)]
@@ -83,8 +83,8 @@ pub fn conflicts(season: Season, random: &mut Random) -> Draft {
         (0..nodes).flat_map(|v| (0..v).map(move |u| (u, v))).collect();
     random.shuffle(&mut edges);
     for (u, v) in edges.into_iter().take(nodes * 9 / 4) {
-        for c in 0..3 {
-            draft.forbid(f, colours[u][c], colours[v][c]);
+        for (x, y) in colours[u].iter().zip(&colours[v]) {
+            draft.forbid(f, *x, *y);
         }
     }
     draft

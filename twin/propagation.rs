@@ -1,11 +1,11 @@
 // Propagation by what is new: rules go off and on from the atoms that have become true or lost, and
 // only rules that such an atom stands in are looked at again.
 
-use book::Book;
-use colouring::Colouring;
-use numbers::{Number, RuleNo};
-use rows::Rows;
-use set::{Atoms, Rules};
+use crate::book::Book;
+use crate::colouring::Colouring;
+use crate::numbers::{Number, RuleNo};
+use crate::rows::Rows;
+use crate::set::{Atoms, Rules};
 
 /// What propagation has not gone into yet. An atom is true if an on rule has it as head, and lost
 /// if all its rules are off; the candidates are rules that may be able to go on.

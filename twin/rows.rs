@@ -1,8 +1,8 @@
 // Where each atom of a book stands, as sets of rules, made once for a book.
 
-use book::Book;
-use numbers::{AtomNo, Number};
-use set::Rules;
+use crate::book::Book;
+use crate::numbers::{AtomNo, Number};
+use crate::set::Rules;
 
 pub struct Rows {
     /// For each atom the rules with that head, those with the atom among their positive atoms, and

@@ -1,14 +1,14 @@
 // Worked lines with answers written by hand, closings with their levels, and that the year is the
 // one that is measured.
 
-use book::Book;
-use closing::{close_chosen, close_first};
-use colouring::{Colouring, Side};
-use desk;
-use draft::Draft;
-use numbers::RuleNo;
-use rows::Rows;
-use year;
+use crate::book::Book;
+use crate::closing::{close_chosen, close_first};
+use crate::colouring::{Colouring, Side};
+use crate::desk;
+use crate::draft::Draft;
+use crate::numbers::RuleNo;
+use crate::rows::Rows;
+use crate::year;
 
 /// Lines of document 01's worked books, of its refusals, and of what is no command.
 const LINES: [(&str, &str); 24] = [

@@ -1,6 +1,6 @@
 // Sets of 256 bits in four words: bit i % 64 of word i / 64 says whether i is a member.
 
-use numbers::{AtomNo, Number, RuleNo};
+use crate::numbers::{AtomNo, Number, RuleNo};
 use std::marker::PhantomData;
 
 #[derive(Clone, Copy, PartialEq, Eq)]

@@ -4,10 +4,10 @@
 // are off, only those can have lost their support that stand on the head of a rule which went off
 // since, or on that of such a rule in turn, unless a free rule that is not off has that head.
 
-use book::Book;
-use numbers::{Number, RuleNo};
-use rows::Rows;
-use set::{Atoms, Rules};
+use crate::book::Book;
+use crate::numbers::{Number, RuleNo};
+use crate::rows::Rows;
+use crate::set::{Atoms, Rules};
 
 /// The rules that may be unsupported with these off, where `settled` was off before.
 pub fn suspects(book: &Book, rows: &Rows, settled: &Rules, off: &Rules) -> Rules {

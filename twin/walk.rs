@@ -1,12 +1,12 @@
 // The walk and its tries: one try is one closing. Behind it is a contradiction, a reading, or two
 // walks from the closed colouring: with the lowest uncoloured rule on, then with it off.
 
-use book::{Book, Refusal};
-use closing::{close_chosen, close_first};
-use colouring::{Colouring, Side};
-use numbers::{Number, RuleNo};
-use rows::Rows;
-use set::Rules;
+use crate::book::{Book, Refusal};
+use crate::closing::{close_chosen, close_first};
+use crate::colouring::{Colouring, Side};
+use crate::numbers::{Number, RuleNo};
+use crate::rows::Rows;
+use crate::set::Rules;
 
 /// What a call for the k-th reading comes to.
 pub enum Found {

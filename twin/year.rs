@@ -2,9 +2,9 @@
 // those of examples/. Each is asked for a reading that it does not have, so that its whole walk is
 // gone, or 5,000 tries of it.
 
-use draft::Draft;
-use kinds::{blame, chance, conflicts, roster, Season};
-use random::Random;
+use crate::draft::Draft;
+use crate::kinds::{blame, chance, conflicts, roster, Season};
+use crate::random::Random;
 use std::fmt::Write as _;
 use std::io::{self, Write};
 
