@@ -20,7 +20,7 @@ use Rattle.walk.proofs.Needs.{kth-or-fewer, needs-one}
 use Rattle.walk.proofs.FirstWalk.{kth-answer, fewer-none, first-limited, first-none, first-found}
 use Rattle.crews.specs.Join.{joinedBytes}
 use Rattle.crews.specs.Log.{Entry, searched, passed, found, entryOf, afterSearch, logLaid, logIn}
-use Rattle.crews.specs.Rows.{Fitting, Within, Passes, Says, both-have, first-has-none, second-has-none, neither-has}
+use Rattle.crews.specs.Rows.{Fitting, Within, Says, both-have, first-has-none, second-has-none, neither-has}
 use Rattle.crews.specs.Rows.{Logs, within-both, first-passes, second-passes}
 use Rattle.crews.proofs.Laying.{laid-fitting}
 
@@ -119,6 +119,7 @@ module _ (b c : Book) (f : Fits b) (g : Fits c) (limit other : ℕ) (out : List 
   -- the log's answer, exactly
   pub log-exactly : (t : Told Entry) → (logIn b c limit other out .told ≡ t) ↔ Logs b c limit other n t
   log-exactly t = (
-    λ e. rw (sym (ap (λ (a : Answered Entry). a .told) log-searched) ∙ e) at (says (ends b limit (f .atoms) (f .rules)) (ends c other (g .atoms) (g .rules))),
+    λ e. rw (sym (ap (λ (a : Answered Entry). a .told) log-searched) ∙ e)
+        at (says (ends b limit (f .atoms) (f .rules)) (ends c other (g .atoms) (g .rules))),
     told-if,
   )

@@ -8,7 +8,6 @@ use native.Mathlib.Omega.{arith}
 use lib.ListN.{length, take, drop}
 use lib.Seq.{take-at}
 use Rattle.meaning.specs.Books.{Book}
-use Rattle.meaning.specs.Joined.{joined}
 use Rattle.meaning.specs.Told.{Told, success, refused, stopped, Answered}
 use Rattle.meaning.proofs.Tests.{apart}
 use Rattle.meaning.proofs.Choice.{lt-yes, lt-no, lt-either, b-either}
@@ -21,20 +20,20 @@ use Rattle.crews.specs.Rows.{Together, TooMany, TooShort, Fitting}
 
 -- ---- what is laid out
 
-data Lays (b c : Book) (room : ℕ) : Laid → Type 0 where
+pub data Lays (b c : Book) (room : ℕ) : Laid → Type 0 where
   lays-over : TooMany b c → Lays b c room Over
   lays-short : TooShort b c room → Lays b c room Short
   lays-book : Fitting b c room → Lays b c room (LaidBook (length (joinedBytes b c)))
 
 module _ (b c : Book) (room : ℕ) where
-  lays : Lays b c room (laidOf b c room)
+  pub lays : Lays b c room (laidOf b c room)
   unfolding laidOf
   lays = lt-either (Lays b c room) _ _ _ _ (λ h. lays-over (inl h))
       λ h. lt-either (Lays b c room) _ _ _ _ (λ g. lays-over (inr g))
       λ g. let t : Together b c = record { atoms = h; rules = g } in
       lt-either (Lays b c room) _ _ _ _ (λ k. lays-short (t, k)) (λ k. lays-book (t, k))
 
-  laid-as : {x : Laid} → Lays b c room x → laidOf b c room ≡ x
+  pub laid-as : {x : Laid} → Lays b c room x → laidOf b c room ≡ x
   unfolding laidOf
   laid-as (lays-over (inl h)) = lt-yes _ _ _ _ h
   laid-as (lays-over (inr h)) = lt-either (λ x. x ≡ Over) _ _ _ _ (λ _. refl) (λ _. lt-yes _ _ _ _ h)
@@ -140,7 +139,8 @@ log-leaves b c limit other out = go (laidOf b c (length out))
     go Short = refuses
 
 module _ {S : Type 0} (b c : Book) (out : List ℕ) where
-  pub leaves-written : {a : Answered S} → Leaves b c out a → {v : S} → a .told ≡ success v → take (length (joinedBytes b c)) (a .buffer) ≡ joinedBytes b c
+  pub leaves-written : {a : Answered S} → Leaves b c out a → {v : S} → a .told ≡ success v
+      → take (length (joinedBytes b c)) (a .buffer) ≡ joinedBytes b c
   leaves-written writes e = take-at (joinedBytes b c) _ _ refl
   leaves-written refuses e = apart cc
   leaves-written stops e = apart cc

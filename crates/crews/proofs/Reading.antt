@@ -1,7 +1,7 @@
 -- Two books read one after the other (specs/Join, onBooks): the first refusal decides and tells which book it is; else what is done with
 -- the two books that the bytes hold. And what is laid out of them: 17, 19, or the joined book.
 use mathlib.Core.Path.{_≡_, refl, sym, _∙_, ap}
-use mathlib.Core.Logic.{⊎-elim}
+use mathlib.Core.Logic.{inl, inr, ⊎-elim}
 use mathlib.Core.List.{List, _++_}
 use Prim.Native.Nat.{ℕ, _+_, _-_, _≤_, _<_}
 use native.Mathlib.Nat.{sub-zero}
@@ -12,7 +12,6 @@ use Rattle.meaning.specs.Books.{Book, count}
 use Rattle.meaning.specs.Joined.{joined}
 use Rattle.meaning.specs.Told.{success, refusedAt, refused, Answered}
 use Rattle.meaning.proofs.Tests.{lt-or-le, apart}
-use Rattle.meaning.proofs.Choice.{lt-yes, lt-no, lt-either}
 use Rattle.book.specs.declared.refusal.Refusal.{Refusal}
 use Rattle.book.specs.declared.reader.Shape.{Shape}
 use Rattle.book.specs.declared.reader.Read.{Read}
@@ -23,7 +22,9 @@ use Rattle.book.specs.Format.{BookRead, good, bad, readOf, toldOf, bookOf, book
 use Rattle.book.specs.Making.{Finished}
 use Rattle.crews.specs.declared.lay.Laid.{Laid}
 use Rattle.crews.specs.declared.lay.Laid.the-variants.{Book as LaidBook, TooMany as Over, NoRoom as Short}
-use Rattle.crews.specs.Join.{ofBook, only, joinedBytes, written, laidOf, joinLaid, onBooks}
+use Rattle.crews.specs.Join.{ofBook, only, joinedBytes, laidOf, joinLaid, onBooks}
+use Rattle.crews.specs.Rows.{Together}
+use Rattle.crews.proofs.Laying.{Lays, lays-over, lays-short, lays-book, lays, laid-as}
 
 -- ---- two books are read
 
@@ -70,32 +71,30 @@ module _ {S : Type 0} (out : List ℕ) (f : Book → Book → Answered S) where
 
 module _ (b c : Book) (room : ℕ) where
   pub over-atoms : 255 < b .atoms + c .atoms → Over ≡ laidOf b c room
-  unfolding laidOf
-  over-atoms h = sym (lt-yes _ _ _ _ h)
+  over-atoms h = sym (laid-as b c room (lays-over (inl h)))
 
   module _ (few : b .atoms + c .atoms ≤ 255) where
     pub over-rules : 255 < count b + count c → Over ≡ laidOf b c room
-    unfolding laidOf
-    over-rules h = sym (lt-no _ _ _ _ few ∙ lt-yes _ _ _ _ h)
+    over-rules h = sym (laid-as b c room (lays-over (inr h)))
 
     module _ (fewer : count b + count c ≤ 255) {n : ℕ} {draft : List ℕ} (f : Finished (joined b c) n draft) where
+      together : Together b c
+      together = record { atoms = few; rules = fewer }
+
       pub too-short : room < n → Short ≡ laidOf b c room
-      unfolding laidOf
-      too-short h = sym (lt-no _ _ _ _ few ∙ lt-no _ _ _ _ fewer ∙ lt-yes _ _ _ _ (rw (← f .size) h))
+      too-short h = sym (laid-as b c room (lays-short (together, rw (← f .size) h)))
 
       pub laid-out : n ≤ room → LaidBook n ≡ laidOf b c room
-      unfolding laidOf
-      laid-out h = ap LaidBook (f .size) ∙ sym (lt-no _ _ _ _ few ∙ lt-no _ _ _ _ fewer ∙ lt-no _ _ _ _ (rw (← f .size) h))
+      laid-out h = ap LaidBook (f .size) ∙ sym (laid-as b c room (lays-book (together, rw (← f .size) h)))
 
   -- a book that is laid out fits the room
   pub laid-room : {n : ℕ} → LaidBook n ≡ laidOf b c room → (n ≤ room) × (n ≡ length (joinedBytes b c))
-  unfolding laidOf
-  laid-room {n} = lt-either P _ _ _ _ (λ h e. apart cc)
-      λ h. lt-either P _ _ _ _ (λ g e. apart cc) λ g. lt-either P _ _ _ _ (λ k e. apart cc)
-      λ k e. let z : n ≡ length (joinedBytes b c) = cc in (omega arith, z)
+  laid-room {n} = go (lays b c room)
     where
-      P : Laid → Type 0
-      P x = LaidBook n ≡ x → (n ≤ room) × (n ≡ length (joinedBytes b c))
+      go : {x : Laid} → Lays b c room x → LaidBook n ≡ x → (n ≤ room) × (n ≡ length (joinedBytes b c))
+      go (lays-over h) e = apart cc
+      go (lays-short h) e = apart cc
+      go (lays-book (t, h)) e = let z : n ≡ length (joinedBytes b c) = cc in (omega (arith, h), z)
 
 -- which of the three it is
 pub over-book : {A : Type 0} {n : ℕ} → Over ≡ LaidBook n → A

@@ -1,11 +1,11 @@
 -- Which row of the table a call of join or log meets, said of the bytes of both books (document 02, request 9): "1 to 7 for the first and
 -- then the second book, telling which; then 17 ...; then 19 ...; 9 comes after all of these". On a refusal and on 9 the buffer stays; what
 -- is written is read as good and gives the joined book.
-use mathlib.Core.Path.{_≡_, refl, sym, _∙_, ap}
+use mathlib.Core.Path.{_≡_, refl, _∙_, ap}
 use mathlib.Core.Logic.{_↔_}
 use mathlib.Core.List.{List}
 use Prim.Native.Nat.{ℕ}
-use lib.ListN.{length, take}
+use lib.ListN.{length}
 use Rattle.meaning.specs.Books.{Rule, Book}
 use Rattle.meaning.specs.Joined.{joined}
 use Rattle.meaning.specs.Told.{Told, success, refused, Answered}
