@@ -1,7 +1,7 @@
 -- Useless versions of join and log (document 02, request 9), each wrong in one way: the second book is not moved up; the log goes by the
 -- first book alone; one limit serves both searches; the joined book is written though a search passed its limit.
-use mathlib.Core.List.{List, _++_}
-use Prim.Native.Nat.{ℕ, _+_}
+use mathlib.Core.List.{_++_}
+use Prim.Native.Nat.{_+_}
 use lib.ListN.{length, drop}
 use Rattle.meaning.specs.Books.{Book}
 use Rattle.meaning.specs.Told.{Told, success, refusedWith, refusedAt, refused}

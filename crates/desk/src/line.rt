@@ -7,6 +7,8 @@ use crate::paper_name::answer_name;
 use crate::readings::answer_readings;
 use crate::settled::answer_settled;
 use crate::table::answer_table;
+use crate::two_books::answer_join;
+use crate::two_books::answer_log;
 use check::same;
 use meaning::Kind;
 use talk::first_word;
@@ -60,6 +62,12 @@ fn answer_command(
 {
     let command = first_word(line);
     let words = other_words(line);
+    if same(command, b"join") {
+        return answer_join(words, book, other, room, out);
+    }
+    if same(command, b"log") {
+        return answer_log(words, book, other, room, out);
+    }
     answer_of_book(command, words, book, room, out)
 }
 
