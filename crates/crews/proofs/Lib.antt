@@ -1,6 +1,8 @@
 -- The laws of two crews. Read in this order.
 pub mod Moving
+pub mod Laying
 pub mod Reading
 pub mod Logging
-pub mod Told
+pub mod Rows
 pub mod Answers
+pub mod Told

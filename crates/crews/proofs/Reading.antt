@@ -1,7 +1,7 @@
 -- Two books read one after the other (specs/Join, onBooks): the first refusal decides and tells which book it is; else what is done with
 -- the two books that the bytes hold. And what is laid out of them: 17, 19, or the joined book.
 use mathlib.Core.Path.{_≡_, refl, sym, _∙_, ap}
-use mathlib.Core.Logic.{⊎-elim}
+use mathlib.Core.Logic.{inl, inr, ⊎-elim}
 use mathlib.Core.List.{List, _++_}
 use Prim.Native.Nat.{ℕ, _+_, _-_, _≤_, _<_}
 use native.Mathlib.Nat.{sub-zero}
@@ -11,8 +11,7 @@ use lib.Seq.{take-all}
 use Rattle.meaning.specs.Books.{Book, count}
 use Rattle.meaning.specs.Joined.{joined}
 use Rattle.meaning.specs.Told.{success, refusedAt, refused, Answered}
-use Rattle.meaning.proofs.Tests.{lt-or-le}
-use Rattle.meaning.proofs.Choice.{lt-yes, lt-no, lt-either}
+use Rattle.meaning.proofs.Tests.{lt-or-le, apart}
 use Rattle.book.specs.declared.refusal.Refusal.{Refusal}
 use Rattle.book.specs.declared.reader.Shape.{Shape}
 use Rattle.book.specs.declared.reader.Read.{Read}
@@ -23,36 +22,34 @@ use Rattle.book.specs.Format.{BookRead, good, bad, readOf, toldOf, bookOf, book
 use Rattle.book.specs.Making.{Finished}
 use Rattle.crews.specs.declared.lay.Laid.{Laid}
 use Rattle.crews.specs.declared.lay.Laid.the-variants.{Book as LaidBook, TooMany as Over, NoRoom as Short}
-use Rattle.crews.specs.Join.{ofBook, only, joinedBytes, written, laidOf, joinLaid, onBooks}
+use Rattle.crews.specs.Join.{ofBook, only, joinedBytes, laidOf, joinLaid, onBooks}
+use Rattle.crews.specs.Rows.{Together}
+use Rattle.crews.proofs.Laying.{Lays, lays-over, lays-short, lays-book, lays, laid-as}
 
 -- ---- two books are read
 
 pub read-as : (s : List ℕ) {x : Read} {h : Shape} → bookTold x ≡ toldOf (readOf s) → x ≡ Good h → ReadAs s h
 read-as s e g = sym e ∙ ap bookTold g
 
--- two kinds of answer
-kinds : {A : Type 0} → _≡_ {A = ℕ} 0 1 → A
-kinds e = absurd (omega arith)
-
 module _ {S : Type 0} (out : List ℕ) (f : Book → Book → Answered S) where
   bad-first : (x y : BookRead) {i at : ℕ} → refusedAt i at ≡ toldOf x → only out (ofBook 1 i at) ≡ onBooks x y out f
   unfolding toldOf onBooks
-  bad-first (good n k index l) y e = kinds cc
+  bad-first (good n k index l) y e = apart cc
   bad-first (bad j to) y e = cc
 
   bad-second : (h : Shape) (x y : BookRead) {i at : ℕ} → toldOf x ≡ toldOf (good (h .atoms) (h .rules) (h .index) (bookOf x .rules))
       → refusedAt i at ≡ toldOf y → only out (ofBook 2 i at) ≡ onBooks x y out f
   unfolding toldOf onBooks bookOf
-  bad-second h (good n k index l) (good m j start t) g e = kinds cc
+  bad-second h (good n k index l) (good m j start t) g e = apart cc
   bad-second h (good n k index l) (bad j to) g e = cc
-  bad-second h (bad j to) y g e = kinds cc
+  bad-second h (bad j to) y g e = apart cc
 
   good-both : (h k : Shape) (x y : BookRead) → toldOf x ≡ toldOf (good (h .atoms) (h .rules) (h .index) (bookOf x .rules))
       → toldOf y ≡ toldOf (good (k .atoms) (k .rules) (k .index) (bookOf y .rules)) → f (bookOf x) (bookOf y) ≡ onBooks x y out f
   unfolding toldOf onBooks bookOf
   good-both h k (good n r index l) (good m j start t) g e = refl
-  good-both h k (good n r index l) (bad j to) g e = kinds cc
-  good-both h k (bad j to) y g e = kinds cc
+  good-both h k (good n r index l) (bad j to) g e = apart cc
+  good-both h k (bad j to) y g e = apart cc
 
   module _ (s t : List ℕ) {x : Read} (e : bookTold x ≡ toldOf (readOf s)) where
     pub first-refused : {why : Refusal} → x ≡ Refused why
@@ -74,39 +71,37 @@ module _ {S : Type 0} (out : List ℕ) (f : Book → Book → Answered S) where
 
 module _ (b c : Book) (room : ℕ) where
   pub over-atoms : 255 < b .atoms + c .atoms → Over ≡ laidOf b c room
-  unfolding laidOf
-  over-atoms h = sym (lt-yes _ _ _ _ h)
+  over-atoms h = sym (laid-as b c room (lays-over (inl h)))
 
   module _ (few : b .atoms + c .atoms ≤ 255) where
     pub over-rules : 255 < count b + count c → Over ≡ laidOf b c room
-    unfolding laidOf
-    over-rules h = sym (lt-no _ _ _ _ few ∙ lt-yes _ _ _ _ h)
+    over-rules h = sym (laid-as b c room (lays-over (inr h)))
 
     module _ (fewer : count b + count c ≤ 255) {n : ℕ} {draft : List ℕ} (f : Finished (joined b c) n draft) where
+      together : Together b c
+      together = record { atoms = few; rules = fewer }
+
       pub too-short : room < n → Short ≡ laidOf b c room
-      unfolding laidOf
-      too-short h = sym (lt-no _ _ _ _ few ∙ lt-no _ _ _ _ fewer ∙ lt-yes _ _ _ _ (rw (← f .size) h))
+      too-short h = sym (laid-as b c room (lays-short (together, rw (← f .size) h)))
 
       pub laid-out : n ≤ room → LaidBook n ≡ laidOf b c room
-      unfolding laidOf
-      laid-out h = ap LaidBook (f .size) ∙ sym (lt-no _ _ _ _ few ∙ lt-no _ _ _ _ fewer ∙ lt-no _ _ _ _ (rw (← f .size) h))
+      laid-out h = ap LaidBook (f .size) ∙ sym (laid-as b c room (lays-book (together, rw (← f .size) h)))
 
   -- a book that is laid out fits the room
   pub laid-room : {n : ℕ} → LaidBook n ≡ laidOf b c room → (n ≤ room) × (n ≡ length (joinedBytes b c))
-  unfolding laidOf
-  laid-room {n} = lt-either P _ _ _ _ (λ h e. kinds cc)
-      λ h. lt-either P _ _ _ _ (λ g e. kinds cc) λ g. lt-either P _ _ _ _ (λ k e. kinds cc)
-      λ k e. let z : n ≡ length (joinedBytes b c) = cc in (omega arith, z)
+  laid-room {n} = go (lays b c room)
     where
-      P : Laid → Type 0
-      P x = LaidBook n ≡ x → (n ≤ room) × (n ≡ length (joinedBytes b c))
+      go : {x : Laid} → Lays b c room x → LaidBook n ≡ x → (n ≤ room) × (n ≡ length (joinedBytes b c))
+      go (lays-over h) e = apart cc
+      go (lays-short h) e = apart cc
+      go (lays-book (t, h)) e = let z : n ≡ length (joinedBytes b c) = cc in (omega (arith, h), z)
 
 -- which of the three it is
 pub over-book : {A : Type 0} {n : ℕ} → Over ≡ LaidBook n → A
-over-book e = kinds cc
+over-book e = apart cc
 
 pub short-book : {A : Type 0} {n : ℕ} → Short ≡ LaidBook n → A
-short-book e = kinds cc
+short-book e = apart cc
 
 pub laid-book : {b : Book} {n m : ℕ} {draft : List ℕ} → LaidBook n ≡ LaidBook m → Finished b n draft → Finished b m draft
 laid-book {n = n} {m} e f = let z : n ≡ m = cc in rw z at f

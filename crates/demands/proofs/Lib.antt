@@ -14,3 +14,7 @@ pub mod Slips
 pub mod Useless
 pub mod UselessComputed
 pub mod Determined
+pub mod OurCrews
+pub mod OnlyCrews
+pub mod WorkedCrews
+pub mod UselessCrews

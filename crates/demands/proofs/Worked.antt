@@ -61,7 +61,7 @@ At P [] i = Unit
 At P (x ∷ l) zero = P x
 At P (x ∷ l) (suc i) = At P l i
 
-each-at : {A : Type 0} {P : A → Type 0} {l : List A} → Each P l → (i : ℕ) → At P l i
+pub each-at : {A : Type 0} {P : A → Type 0} {l : List A} → Each P l → (i : ℕ) → At P l i
 unfolding At
 each-at no-more i = tt
 each-at (p and q) zero = p

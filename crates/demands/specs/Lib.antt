@@ -1,4 +1,4 @@
--- The three demands, as predicates over any engine. Read in this order.
+-- The three demands and the sentences of request 9, as predicates over any engine. Read in this order.
 pub mod Engine
 pub mod Damaged
 pub mod Demand1
@@ -8,3 +8,6 @@ pub mod Printed
 pub mod Worked
 pub mod Forged
 pub mod Useless
+pub mod TwoCrews
+pub mod WorkedCrews
+pub mod UselessCrews

@@ -43,6 +43,7 @@ pub use refusals::refused_paper;
 pub use rule::show_rule;
 pub use sentences::explain;
 pub use sentences::explain_book;
+pub use sentences::explain_book_of;
 pub use sentences::explain_paper;
 pub use sentences::put_refused;
 pub use words::first_word;

@@ -87,6 +87,7 @@ fn put_sentence(number: u8, kind: Kind, about: u64, line: &mut [u8], held: usize
 {
     let entry = b"the rules do not follow each other up to the index";
     let record = b"a rule is cut short or has over 16 atoms in a part";
+    let room = b"the buffer is shorter than the joined book";
     match number {
         1 => put_text(b"the book has under 6 or over 9,441 bytes", line, held),
         2 => put_text(b"the book's last two bytes are not 52 42", line, held),
@@ -95,6 +96,8 @@ fn put_sentence(number: u8, kind: Kind, about: u64, line: &mut [u8], held: usize
         5 => put_text(record, line, held),
         6 => put_text(b"an atom is not below the book's atom count", line, held),
         7 => put_text(b"the atoms of a part do not ascend", line, held),
+        17 => put_text(b"over 255 atoms or rules together", line, held),
+        19 => put_text(room, line, held),
         _ => put_paper_sentence(number, kind, about, line, held),
     }
 }
@@ -123,8 +126,16 @@ pub fn put_refused(refused: Refused, line: &mut [u8], held: usize) -> usize
     }
 }
 
-// `refused NUMBER at PLACE: SENTENCE`, or `refused NUMBER: SENTENCE` where there is no place.
-fn put_explained(refused: Refused, kind: Kind, about: u64, line: &mut [u8], held: usize) -> usize
+// `refused NUMBER at PLACE: SENTENCE`, or `refused NUMBER: SENTENCE` where there is no place. Behind
+// the place stands whose it is, where that must be said.
+fn put_explained(
+    refused: Refused,
+    whose: &[u8],
+    kind: Kind,
+    about: u64,
+    line: &mut [u8],
+    held: usize,
+) -> usize
     requires { ⌜ Counts held (now line) ⌝ }
     ensures { λ r. ⌜ Counts r (now (line .exit)) ⌝ }
 {
@@ -133,6 +144,7 @@ fn put_explained(refused: Refused, kind: Kind, about: u64, line: &mut [u8], held
             let held = put_refused_number(number, line, held);
             let held = put_text(b" at ", line, held);
             let held = put_number(place as u64, line, held);
+            let held = put_text(whose, line, held);
             let held = put_text(b": ", line, held);
             put_sentence(number, kind, about, line, held)
         }
@@ -148,24 +160,30 @@ fn put_explained(refused: Refused, kind: Kind, about: u64, line: &mut [u8], held
 // the number of tries that the sentence speaks of.
 pub fn explain(refused: Refused, kind: Kind, about: u64) {
     let mut line = [0u8; 256];
-    let held = put_explained(refused, kind, about, &mut line, 0);
+    let held = put_explained(refused, b"", kind, about, &mut line, 0);
     let held = put_text(b"\n", &mut line, held);
     print(&line[..held]);
 }
 
-// Writes why the bytes are no book, with a hint where they look like something else.
-pub fn explain_book(why: Refusal, book: &[u8]) {
+// Writes why the bytes are no book, with a hint where they look like something else. `whose` says
+// which book it is, behind the place, where there are two.
+pub fn explain_book_of(why: Refusal, whose: &[u8], book: &[u8]) {
     let mut line = [0u8; 256];
-    let held = put_explained(refused_book(why), Kind::Naming, 0, &mut line, 0);
+    let held = put_explained(refused_book(why), whose, Kind::Naming, 0, &mut line, 0);
     let held = put_hint_of_book(book, &mut line, held);
     let held = put_text(b"\n", &mut line, held);
     print(&line[..held]);
 }
 
+// The same of the one book that there is.
+pub fn explain_book(why: Refusal, book: &[u8]) {
+    explain_book_of(why, b"", book);
+}
+
 // Writes why the paper is refused, with a hint where its bytes look like something else.
 pub fn explain_paper(refused: Refused, paper: &[u8]) {
     let mut line = [0u8; 256];
-    let held = put_explained(refused, Kind::Naming, 0, &mut line, 0);
+    let held = put_explained(refused, b"", Kind::Naming, 0, &mut line, 0);
     let held = put_hint_of_paper(paper, &mut line, held);
     let held = put_text(b"\n", &mut line, held);
     print(&line[..held]);

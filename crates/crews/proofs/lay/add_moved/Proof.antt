@@ -1,7 +1,6 @@
 -- One rule moved up: its parts go to tables, and the rule of the tables is added.
 use mathlib.Core.Path.{ap}
 use Prim.Native.Nat.{_<_}
-use native.Mathlib.Omega.{arith}
 use borrow.Author.Needs.{needs}
 use Rattle.meaning.specs.declared.AtomNo.{AtomNo}
 use Rattle.meaning.specs.Books.{rule}

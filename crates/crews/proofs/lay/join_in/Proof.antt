@@ -1,8 +1,6 @@
 -- Both books, one behind the other, in a draft that they fit in.
 use native.Mathlib.Omega.{arith}
 use borrow.Author.Needs.{needs}
-use mathlib.Core.Path.{_≡_}
-use Prim.Native.Nat.{_+_}
 use Rattle.meaning.specs.Joined.{joined}
 use Rattle.book.specs.Format.{bookIn}
 use Rattle.book.specs.Making.{Made}

@@ -6,7 +6,6 @@ use borrow.Author.Needs.{needs}
 use Rattle.meaning.specs.Books.{count}
 use Rattle.book.specs.Format.{bookIn}
 use Rattle.book.proofs.Places.{shape-atoms, shape-count}
-use Rattle.crews.specs.declared.lay.Laid.the-variants.{Book as LaidBook, TooMany as Over, NoRoom as Short}
 use Rattle.crews.proofs.Reading.{over-atoms, over-rules, too-short, laid-out, over-book, short-book, laid-book}
 use Rattle.crews.proofs.lay.lay_out.Statement.{statement}
 use Rattle.crews.proofs.lay.lay_out.Tie as tie
