@@ -11,3 +11,4 @@ pub mod Entries
 pub mod Formed
 pub mod Remaining
 pub mod Turning
+pub mod Importing

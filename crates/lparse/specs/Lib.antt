@@ -5,3 +5,4 @@ pub mod Says
 pub mod Collect
 pub mod Forming
 pub mod Make
+pub mod Import

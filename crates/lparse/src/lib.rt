@@ -2,6 +2,7 @@
 // and a place, and a book is made of what the text says. Stands on imported, which says what a text
 // means, and on book.
 
+mod answer;
 mod due;
 mod form;
 mod gather;
@@ -10,6 +11,8 @@ mod numbering;
 mod step;
 mod word;
 
+pub use answer::Imported;
 pub use gather::Collected;
 pub use gather::collect;
+pub use importer::import;
 pub use numbering::number_of;
