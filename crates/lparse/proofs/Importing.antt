@@ -7,10 +7,9 @@ use mathlib.Core.List.{List, [], _++_}
 use Prim.Native.Nat.{ℕ, _+_, _-_, _≤_, _<_}
 use native.Mathlib.Nat.{sub-zero}
 use native.Mathlib.Omega.{arith}
-use lib.Dec.{leb}
 use lib.ListN.{length, take, drop, replicate, length-replicate, length-append}
 use lib.Seq.{take-all, take-append-le, take-length}
-use borrow.Author.Tests.{le-leb, leb-true, lt-leb}
+use borrow.Author.Tests.{le-leb, lt-leb}
 use Rattle.meaning.specs.Books.{Book, count}
 use Rattle.meaning.specs.Told.{Told, success, refusedAt, refused, Answered}
 use Rattle.meaning.proofs.Tests.{both, refuted, lt-or-le, not-first}
@@ -20,7 +19,7 @@ use Rattle.book.specs.declared.making.Making.{Making}
 use Rattle.book.specs.Format.{bookBytes}
 use Rattle.book.specs.Writing.{bytesOfBook}
 use Rattle.book.specs.Making.{Small, Made, Finished}
-use Rattle.book.proofs.Made.{fits-small, Whole, made-whole, made-over}
+use Rattle.book.proofs.Made.{fits-small, made-whole, made-over}
 use Rattle.imported.specs.declared.TextAtom.{TextAtom}
 use Rattle.imported.specs.Text.{Text}
 use Rattle.imported.specs.Making.{mentioned, distinct, atomCount, madeAtoms, madeRules, madeBook, fitsRule, fitsIn}

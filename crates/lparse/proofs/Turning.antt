@@ -1,49 +1,46 @@
 -- The second pass: the rules made so far, the open rule in its tables, and what is left are the rules of the book.
 use mathlib.Core.Path.{_≡_, refl, ap, sym, _∙_}
 use mathlib.Core.Bool.{Bool, true, false, _||_}
-use mathlib.Core.List.{List, [], _∷_, _++_, map, append-assoc, append-nil, List·Memᴰ, List·Memᴰ·head, List·Memᴰ·tail, List·Memᴰ·cases-cons, List·Memᴰ·not-nil, List·Memᴰ·append-cases, Memᴰ·append-left, Memᴰ·append-right}
-use mathlib.Core.Logic.{_⊎_, ⊎-elim, inl, inr}
-use Prim.Native.Nat.{ℕ, zero, suc, _+_, _-_, _<_, _≤_}
+use mathlib.Core.List.{List, [], _∷_, _++_, append-assoc, append-nil, List·Memᴰ, List·Memᴰ·head, List·Memᴰ·cases-cons, List·Memᴰ·not-nil, List·Memᴰ·append-cases, Memᴰ·append-left, Memᴰ·append-right}
+use mathlib.Core.Logic.{⊎-elim}
+use Prim.Native.Nat.{ℕ, _+_, _-_, _<_, _≤_}
 use native.Mathlib.Omega.{arith}
 use lib.Dec.{eqb}
-use lib.ListN.{length, getD, set, replicate, length-set, length-replicate}
+use lib.ListN.{length, getD, set, length-set, length-replicate}
 use lib.Seq.{getD-set-same, getD-set-other}
-use borrow.Author.Tests.{eq-eqb, ne-eqb, eqb-true, eqb-false, not-true}
+use borrow.Author.Tests.{eqb-true, eqb-false}
 use Rattle.meaning.specs.declared.AtomNo.{AtomNo}
 use Rattle.meaning.specs.Sets.{some}
 use Rattle.meaning.specs.Books.{atomNo, Rule}
 use Rattle.meaning.proofs.Sets.{some-append, some-by}
 use Rattle.book.specs.declared.making.Making.{Making}
-use Rattle.book.specs.Making.{atomsFrom, listed, ruleBy, Made, Adds}
+use Rattle.book.specs.Making.{atomsFrom, listed, Made}
 use Rattle.book.proofs.AtomsFrom.{atoms-same, atoms-enough}
 use Rattle.imported.specs.Text.{Text}
-use Rattle.imported.specs.Making.{mentioned, distinct, atomCount, number, image, part, madeAtoms, madeRules, madeBook, plusRule, minusRule}
+use Rattle.imported.specs.Making.{mentioned, distinct, atomCount, number, part, madeAtoms, madeRules, madeBook, plusRule, minusRule}
 use Rattle.imported.proofs.Numbers.{Mentioned, number-below}
 use Rattle.imported.proofs.Parts.{Covered}
 use Rattle.imported.specs.declared.TextAtom.{TextAtom}
-use Rattle.imported.specs.Text.{TextRule, basic}
-use Rattle.lparse.specs.declared.due.Role.{Role}
-use Rattle.lparse.specs.declared.due.Role.the-variants.{Kind, Head, Literals, Negatives, Negative, Positive, Table, Plus, Minus, Models}
+use Rattle.lparse.specs.declared.due.Role.the-variants.{Kind}
 use Rattle.lparse.specs.declared.due.Due.{Due}
-use Rattle.lparse.specs.declared.due.Due.the-variants.{Number, Name, PlusWord, MinusWord, End}
-use Rattle.lparse.specs.declared.due.Standing.{Standing}
+use Rattle.lparse.specs.declared.due.Due.the-variants.{Number, End}
 use Rattle.lparse.specs.declared.due.Standing.the-variants.{Head as InHead, Negative as InNegative, Positive as InPositive, Table as InTable, Plus as InPlus, Minus as InMinus}
 use Rattle.lparse.specs.declared.due.Said.{Said}
 use Rattle.lparse.specs.declared.due.Said.the-variants.{Nothing as Silent, Atom}
-use Rattle.lparse.specs.declared.due.Move.{Move}
-use Rattle.lparse.specs.declared.due.Move.the-variants.{Goes, Format, Kind as OtherKind}
+use Rattle.lparse.specs.declared.due.Move.the-variants.{Goes}
 use Rattle.lparse.specs.declared.form.Forming.{Forming}
 use Rattle.lparse.specs.Words.{Word, wordAt}
 use Rattle.lparse.specs.declared.step.Step.{Step}
 use Rattle.lparse.specs.declared.step.Step.the-variants.{Goes as Takes, Format as WrongFormat, Kind as WrongKind, Done}
 use Rattle.lparse.specs.Reading.{moveOf, stepAt, Part, nothingMore, with, withAtom, says, heardAt}
 use Rattle.lparse.specs.Collect.{textIn, textOf, numbersOf, atomsSaid}
-use Rattle.lparse.specs.Forming.{placeOf, noAtoms, formedBy, entryRules, closes, formedSaid, saidRules, ruleClosed, Forms, Placed}
+use Rattle.lparse.specs.Forming.{placeOf, noAtoms, formedBy, entryRules, formedSaid, saidRules, ruleClosed, Forms, Placed}
 use Rattle.lparse.specs.Make.{counted, Readable, Complete}
-use Rattle.lparse.proofs.Phases.{Fits, FitsRole, NoPlus}
+use Rattle.lparse.proofs.Entries.{none-in}
+use Rattle.lparse.proofs.Phases.{Fits}
 use Rattle.lparse.proofs.Reading.{took-move, took-part, never-format, never-kind, done-part, done-end}
 use Rattle.lparse.proofs.Collecting.{atomsOf, numbers-atoms, numbers-length, First, first, heard-at-fits, rest-atoms}
-use Rattle.lparse.proofs.Remaining.{bodyRole, rulesLeft, inBody, openRule, remaining, headAfter, entryOf, closed, posAfter, negAfter, Turn, turn}
+use Rattle.lparse.proofs.Remaining.{bodyRole, rulesLeft, inBody, remaining, headAfter, entryOf, closed, posAfter, negAfter, Turn, turn}
 
 -- ---- a table stands for a list of the text's atoms
 
@@ -54,11 +51,6 @@ module _ (t : Text) where
   pub record Tabled (table : List Bool) (l : List TextAtom) : Type 0 where
     pub long : length table ≡ 255
     pub holds : (n : ℕ) → n < 255 → getD table n false ≡ numbered l n
-
-  none-in : (n i : ℕ) → getD (replicate n false) i false ≡ false
-  none-in zero i = refl
-  none-in (suc n) zero = refl
-  none-in (suc n) (suc i) = none-in n i
 
   pub tabled-none : Tabled noAtoms []
   unfolding some

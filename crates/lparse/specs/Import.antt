@@ -34,6 +34,10 @@ only out t = record { told = t; buffer = out }
 unfoldable pub laidOf : Book → ℕ → Laid
 laidOf b room = ifb (fitsIn b) (ifLt room (length (bytesOfBook b)) Short (LaidBook (length (bytesOfBook b)))) Short
 
+-- the book at the front, and the later bytes kept
+abbrev pub bookGiven : Book → List ℕ → Answered ℕ
+bookGiven b out = record { told = success (length (bytesOfBook b)); buffer = bytesOfBook b ++ drop (length (bytesOfBook b)) out }
+
 unfoldable pub handLaid : Laid → Book → List ℕ → Answered ℕ
 handLaid (LaidBook n) b out = record { told = success n; buffer = bytesOfBook b ++ drop (length (bytesOfBook b)) out }
 handLaid Short b out = only out (refused 32)

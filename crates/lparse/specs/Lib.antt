@@ -6,3 +6,5 @@ pub mod Collect
 pub mod Forming
 pub mod Make
 pub mod Import
+pub mod Rows
+pub mod Names

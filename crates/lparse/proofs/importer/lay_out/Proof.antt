@@ -1,5 +1,4 @@
 -- The limits, and then the room, decide whether the book is laid out.
-use native.Mathlib.Omega.{arith}
 use borrow.Author.Needs.{needs}
 use borrow.Author.Tests.{not-true, not-false}
 use Rattle.imported.specs.Making.{madeRules}
