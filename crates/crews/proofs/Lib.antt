@@ -2,5 +2,7 @@
 pub mod Moving
 pub mod Reading
 pub mod Logging
-pub mod Told
+pub mod Laying
+pub mod Rows
 pub mod Answers
+pub mod Told

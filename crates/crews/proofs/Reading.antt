@@ -11,7 +11,7 @@ use lib.Seq.{take-all}
 use Rattle.meaning.specs.Books.{Book, count}
 use Rattle.meaning.specs.Joined.{joined}
 use Rattle.meaning.specs.Told.{success, refusedAt, refused, Answered}
-use Rattle.meaning.proofs.Tests.{lt-or-le}
+use Rattle.meaning.proofs.Tests.{lt-or-le, apart}
 use Rattle.meaning.proofs.Choice.{lt-yes, lt-no, lt-either}
 use Rattle.book.specs.declared.refusal.Refusal.{Refusal}
 use Rattle.book.specs.declared.reader.Shape.{Shape}
@@ -30,29 +30,25 @@ use Rattle.crews.specs.Join.{ofBook, only, joinedBytes, written, laidOf,
 pub read-as : (s : List ℕ) {x : Read} {h : Shape} → bookTold x ≡ toldOf (readOf s) → x ≡ Good h → ReadAs s h
 read-as s e g = sym e ∙ ap bookTold g
 
--- two kinds of answer
-kinds : {A : Type 0} → _≡_ {A = ℕ} 0 1 → A
-kinds e = absurd (omega arith)
-
 module _ {S : Type 0} (out : List ℕ) (f : Book → Book → Answered S) where
   bad-first : (x y : BookRead) {i at : ℕ} → refusedAt i at ≡ toldOf x → only out (ofBook 1 i at) ≡ onBooks x y out f
   unfolding toldOf onBooks
-  bad-first (good n k index l) y e = kinds cc
+  bad-first (good n k index l) y e = apart cc
   bad-first (bad j to) y e = cc
 
   bad-second : (h : Shape) (x y : BookRead) {i at : ℕ} → toldOf x ≡ toldOf (good (h .atoms) (h .rules) (h .index) (bookOf x .rules))
       → refusedAt i at ≡ toldOf y → only out (ofBook 2 i at) ≡ onBooks x y out f
   unfolding toldOf onBooks bookOf
-  bad-second h (good n k index l) (good m j start t) g e = kinds cc
+  bad-second h (good n k index l) (good m j start t) g e = apart cc
   bad-second h (good n k index l) (bad j to) g e = cc
-  bad-second h (bad j to) y g e = kinds cc
+  bad-second h (bad j to) y g e = apart cc
 
   good-both : (h k : Shape) (x y : BookRead) → toldOf x ≡ toldOf (good (h .atoms) (h .rules) (h .index) (bookOf x .rules))
       → toldOf y ≡ toldOf (good (k .atoms) (k .rules) (k .index) (bookOf y .rules)) → f (bookOf x) (bookOf y) ≡ onBooks x y out f
   unfolding toldOf onBooks bookOf
   good-both h k (good n r index l) (good m j start t) g e = refl
-  good-both h k (good n r index l) (bad j to) g e = kinds cc
-  good-both h k (bad j to) y g e = kinds cc
+  good-both h k (good n r index l) (bad j to) g e = apart cc
+  good-both h k (bad j to) y g e = apart cc
 
   module _ (s t : List ℕ) {x : Read} (e : bookTold x ≡ toldOf (readOf s)) where
     pub first-refused : {why : Refusal} → x ≡ Refused why
@@ -94,8 +90,8 @@ module _ (b c : Book) (room : ℕ) where
   -- a book that is laid out fits the room
   pub laid-room : {n : ℕ} → LaidBook n ≡ laidOf b c room → (n ≤ room) × (n ≡ length (joinedBytes b c))
   unfolding laidOf
-  laid-room {n} = lt-either P _ _ _ _ (λ h e. kinds cc)
-      λ h. lt-either P _ _ _ _ (λ g e. kinds cc) λ g. lt-either P _ _ _ _ (λ k e. kinds cc)
+  laid-room {n} = lt-either P _ _ _ _ (λ h e. apart cc)
+      λ h. lt-either P _ _ _ _ (λ g e. apart cc) λ g. lt-either P _ _ _ _ (λ k e. apart cc)
       λ k e. let z : n ≡ length (joinedBytes b c) = cc in (omega arith, z)
     where
       P : Laid → Type 0
@@ -103,10 +99,10 @@ module _ (b c : Book) (room : ℕ) where
 
 -- which of the three it is
 pub over-book : {A : Type 0} {n : ℕ} → Over ≡ LaidBook n → A
-over-book e = kinds cc
+over-book e = apart cc
 
 pub short-book : {A : Type 0} {n : ℕ} → Short ≡ LaidBook n → A
-short-book e = kinds cc
+short-book e = apart cc
 
 pub laid-book : {b : Book} {n m : ℕ} {draft : List ℕ} → LaidBook n ≡ LaidBook m → Finished b n draft → Finished b m draft
 laid-book {n = n} {m} e f = let z : n ≡ m = cc in rw z at f

@@ -1,10 +1,11 @@
--- What is told of a joining or of a log tells all of it: two answers told alike are equal. Each answer is found again from what is told.
-use mathlib.Core.Path.{_≡_, refl, ap}
+-- What is told of a joining or of a log tells all of it: two answers told alike are equal, and so two results that keep the promise of
+-- join, or of log, are. Each answer is found again from what is told.
+use mathlib.Core.Path.{_≡_, refl, sym, _∙_, ap}
 use mathlib.Core.List.{List, [], _∷_}
 use Prim.Native.Nat.{ℕ}
 use Rattle.meaning.specs.Choice.{ifb, ifEq}
-use Rattle.meaning.specs.Told.{Told, success, refusedWith, refusedAt, refused}
-use Rattle.meaning.proofs.Told.{one-again}
+use Rattle.meaning.specs.Told.{Told, success, refusedWith, refusedAt, refused, Answered}
+use Rattle.meaning.proofs.Told.{one-again, answered-one}
 use Rattle.book.proofs.Told.{refusalAt, refusal-again}
 use Rattle.book.specs.declared.refusal.Refusal.{Refusal}
 use Rattle.crews.specs.declared.answer.Joined.{Joined}
@@ -13,8 +14,8 @@ use Rattle.crews.specs.declared.answer.Logged.{Logged}
 use Rattle.crews.specs.declared.answer.Logged.the-variants.{Both, NoneInFirst, NoneInSecond, NoneInEither, Stopped}
 use Rattle.crews.specs.declared.answer.Logged.the-variants.{First as LogFirst, Second as LogSecond, TooMany as LogTooMany}
 use Rattle.crews.specs.declared.answer.Logged.the-variants.{NoRoom as LogNoRoom}
-use Rattle.crews.specs.Join.{told}
-use Rattle.crews.specs.Log.{Entry, both, noneInFirst, noneInSecond, noneInEither}
+use Rattle.crews.specs.Join.{told, joinOf}
+use Rattle.crews.specs.Log.{Entry, both, noneInFirst, noneInSecond, noneInEither, logOf}
 use Rattle.crews.specs.Log.{told as logTold}
 
 -- a book's refusal, by its number and the two values: which book, and the place
@@ -68,3 +69,19 @@ logged-again LogNoRoom = refl
 
 pub logged-one : (x y : Logged) → logTold x ≡ logTold y → x ≡ y
 logged-one = one-again logTold loggedAt logged-again
+
+-- ---- two results that keep the promise
+
+module _ (first second out : List ℕ) where
+  abbrev JoinPromise : Joined → List ℕ → Type 0
+  JoinPromise r after = _≡_ {A = Answered ℕ} (record { told = told r; buffer = after }) (joinOf first second out)
+
+  pub join-determined : (r q : Joined) (after other : List ℕ) → JoinPromise r after → JoinPromise q other → (r ≡ q) × (after ≡ other)
+  join-determined r q after other p s = answered-one told joined-one r q after other (p ∙ sym s)
+
+module _ (first second : List ℕ) (limit other : ℕ) (out : List ℕ) where
+  abbrev LogPromise : Logged → List ℕ → Type 0
+  LogPromise r after = _≡_ {A = Answered Entry} (record { told = logTold r; buffer = after }) (logOf first second limit other out)
+
+  pub log-determined : (r q : Logged) (after behind : List ℕ) → LogPromise r after → LogPromise q behind → (r ≡ q) × (after ≡ behind)
+  log-determined r q after behind p s = answered-one logTold logged-one r q after behind (p ∙ sym s)

@@ -1,3 +1,4 @@
--- What joining two books and the log of two crews answer. Read in this order.
+-- What joining two books and the log of two crews answer, and when. Read in this order.
 pub mod Join
 pub mod Log
+pub mod Rows
