@@ -7,6 +7,7 @@ use crate::paper_name::answer_name;
 use crate::readings::answer_readings;
 use crate::settled::answer_settled;
 use crate::table::answer_table;
+use crate::text_import::answer_lparse;
 use check::same;
 use meaning::Kind;
 use talk::first_word;
@@ -60,6 +61,9 @@ fn answer_command(
 {
     let command = first_word(line);
     let words = other_words(line);
+    if same(command, b"lparse") {
+        return answer_lparse(words, other, room, out);
+    }
     answer_of_book(command, words, book, room, out)
 }
 

@@ -16,6 +16,7 @@ mod paper_name;
 mod readings;
 mod settled;
 mod table;
+mod text_import;
 
 fn main() {
     if os::arg_count() != 1 {

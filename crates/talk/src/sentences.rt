@@ -87,6 +87,7 @@ fn put_sentence(number: u8, kind: Kind, about: u64, line: &mut [u8], held: usize
 {
     let entry = b"the rules do not follow each other up to the index";
     let record = b"a rule is cut short or has over 16 atoms in a part";
+    let large = b"the book would have over 255 atoms, over 255 rules or over 16 atoms in a part";
     match number {
         1 => put_text(b"the book has under 6 or over 9,441 bytes", line, held),
         2 => put_text(b"the book's last two bytes are not 52 42", line, held),
@@ -95,6 +96,9 @@ fn put_sentence(number: u8, kind: Kind, about: u64, line: &mut [u8], held: usize
         5 => put_text(record, line, held),
         6 => put_text(b"an atom is not below the book's atom count", line, held),
         7 => put_text(b"the atoms of a part do not ascend", line, held),
+        30 => put_text(b"the text is not in Lparse's format", line, held),
+        31 => put_text(b"a rule of a type that is not read", line, held),
+        32 => put_text(large, line, held),
         _ => put_paper_sentence(number, kind, about, line, held),
     }
 }

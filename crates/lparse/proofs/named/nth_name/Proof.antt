@@ -46,12 +46,11 @@ loop-less c = let h = ahead c in omega (arith, h .0, h .1)
 
 loop-again : tie.Need-loop-again Inv-loop μ-loop
 loop-again c =
-    let k = turn c in
-    (
+    let k = turn c in (
       ahead c .1,
       k .loop .inv .1
-      ∙ name-turn (text c) (k .before .before .args .a) (k .loop .at) (k .loop .due) (k .loop .found) (k .loop .left) (stepped c)
-      _ _ _ _ (goes c .next .given .1) (c .before .before .is-named .ensures) (c .before .found-by .ensures) (c .left-by .ensures),
+          ∙ name-turn (text c) (k .before .before .args .a) (k .loop .at) (k .loop .due) (k .loop .found) (k .loop .left) (stepped c)
+          _ _ _ _ (goes c .next .given .1) (c .before .before .is-named .ensures) (c .before .found-by .ensures) (c .left-by .ensures),
     )
 
 returns : tie.Need-returns Inv-loop μ-loop
