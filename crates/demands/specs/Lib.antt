@@ -8,3 +8,5 @@ pub mod Printed
 pub mod Worked
 pub mod Forged
 pub mod Useless
+pub mod Imports
+pub mod UselessImports

@@ -71,17 +71,25 @@ fn put_atom(text: &[u8], a: TextAtom, line: &mut [u8], held: usize) -> usize
     put_number(a.0 as u64, line, held)
 }
 
-// Writes the line of the book's atom n. What is no atom of the text is the helper, which no reading
+// What the book's atom n is in the text. What is no atom of the text is the helper, which no reading
 // has.
+fn put_whose(text: &[u8], seen: &[u32], n: usize, line: &mut [u8], held: usize) -> usize
+    requires { ⌜ Counts held (now line) ⌝ }
+    ensures { λ r. ⌜ Counts r (now (line .exit)) ⌝ }
+{
+    match atom_at(seen, n) {
+        Whose::Atom(a) => put_atom(text, a, line, held),
+        Whose::Nothing => put_text(b" #never", line, held),
+    }
+}
+
+// Writes the line of the book's atom n.
 fn show_atom(text: &[u8], seen: &[u32], n: usize) {
     let mut line = [0u8; 16384];
     let held = put_text(b"atom ", &mut line, 0);
     let held = put_number(n as u64, &mut line, held);
     let held = put_text(b":", &mut line, held);
-    let held = match atom_at(seen, n) {
-        Whose::Atom(a) => put_atom(text, a, &mut line, held),
-        Whose::Nothing => put_text(b" #never", &mut line, held),
-    };
+    let held = put_whose(text, seen, n, &mut line, held);
     let held = put_text(b"\n", &mut line, held);
     print(&line[..held]);
 }
