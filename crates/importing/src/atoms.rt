@@ -67,7 +67,7 @@ fn put_atom(text: &[u8], a: TextAtom, line: &mut [u8], held: usize) -> usize
     if named != held {
         return named;
     }
-    let held = put_text(b" #", line, held);
+    let held = put_text(b" #", line, named);
     put_number(a.0 as u64, line, held)
 }
 
@@ -103,6 +103,15 @@ fn show_each(text: &[u8], seen: &[u32], atoms: usize) {
     }
 }
 
+// Writes a line for each of the atoms of the text's book.
+fn show_text(text: &[u8], atoms: usize) {
+    let mut seen = [0u32; 255];
+    match collect(text, &mut seen) {
+        Collected::Atoms(n) => show_each(text, &seen[0..n], atoms),
+        _ => {}
+    }
+}
+
 // Writes how large the book is.
 fn show_size(rules: u8, atoms: u8) {
     let mut line = [0u8; 64];
@@ -120,12 +129,5 @@ pub fn show_atoms(text: &[u8], book: &[u8]) {
         return;
     };
     show_size(shape.rules, shape.atoms);
-    let mut seen = [0u32; 255];
-    let Collected::Atoms(n) = collect(text, &mut seen) else {
-        return;
-    };
-    if 255 < n {
-        return;
-    }
-    show_each(text, &seen[..n], shape.atoms as usize);
+    show_text(text, shape.atoms as usize);
 }

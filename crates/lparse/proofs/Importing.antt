@@ -34,6 +34,7 @@ use Rattle.lparse.specs.Collect.{textIn, textOf, numbersOf, told, collec
 use Rattle.lparse.specs.Make.{counted, Readable, Complete}
 use Rattle.lparse.specs.Import.{only, laidOf, handLaid, handOver, importHeard, importOf}
 use Rattle.lparse.proofs.Collecting.{numbers-length}
+use Rattle.lparse.proofs.Tabled.{count-same}
 
 -- two kinds of answer
 kinds : {A : Type 0} → _≡_ {A = ℕ} 0 1 → A
@@ -107,9 +108,8 @@ module _ (n : ℕ) {entry : Bool} where
 
 pub count-complete : {s atoms draft : List ℕ} (r : Readable s atoms) {f : Forming} → Complete (textOf (r .part)) f draft → {n : ℕ}
     → n ≡ counted (f .entry) (length atoms) [] → n ≡ madeBook (textOf (r .part)) .atoms
-unfolding atomCount
-count-complete r {f} c e =
-    e ∙ ap (λ k. counted (f .entry) k []) (ap length (r .same) ∙ numbers-length (distinct (mentioned (textOf (r .part))))) ∙ sym (c .atoms)
+count-complete {atoms = atoms} r {f} c e =
+    e ∙ ap (λ k. counted (f .entry) k []) (count-same (textOf (r .part)) atoms (r .same)) ∙ sym (c .atoms)
 
 -- the book of the rules and of so many atoms is the book made
 pub finished-made : (t : Text) {atoms n : ℕ} {draft : List ℕ} → atoms ≡ madeBook t .atoms

@@ -14,6 +14,7 @@ pub mod Counted
 pub mod Entries
 pub mod Formed
 pub mod Remaining
+pub mod Tabled
 pub mod Turning
 pub mod Importing
 pub mod Walked
