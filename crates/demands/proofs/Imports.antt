@@ -12,9 +12,10 @@ use Rattle.meaning.specs.declared.kind.Kind.the-variants.{Naming, Clearing}
 use Rattle.meaning.specs.Books.{Atoms}
 use Rattle.meaning.specs.AnswerSet.{AnswerSet, generating}
 use Rattle.meaning.specs.Claim.{Holding}
-use Rattle.meaning.specs.Told.{success, Answered}
+use Rattle.meaning.specs.Told.{Told, success, refusedWith, refusedAt, refused, Answered}
 use Rattle.meaning.proofs.Tests.{true-and-false, lt-or-le, proved, apart}
-use Rattle.meaning.proofs.Told.{success-one}
+use Rattle.meaning.specs.Choice.{ifb, ifEq}
+use Rattle.meaning.proofs.Told.{one-again, success-one, answered-one}
 use Rattle.book.specs.Writing.{bytesOfBook}
 use Rattle.walk.specs.Readings.{Before, Ordered, no-more, comes-first, AllReadings}
 use Rattle.imported.specs.declared.TextAtom.{TextAtom}
@@ -25,11 +26,15 @@ use Rattle.imported.proofs.Fits.{test-fits}
 use Rattle.imported.proofs.Imports.{import-sound, import-complete, back-forth, back-one, certain-imported, cleared-imported}
 use Rattle.lparse.specs.Says.{Written, textSaid, Says}
 use Rattle.lparse.specs.Rows.{TooLarge}
+use Rattle.lparse.specs.declared.answer.Imported.{Imported}
+use Rattle.lparse.specs.declared.answer.Imported.the-variants.{Book as ImportedBook, Format, Kind as OtherKind, NoFit}
+use Rattle.lparse.specs.Import.{toldBook, importOf}
 use Rattle.lparse.proofs.Rows.{refused-30, refused-31, refused-32, import-keeps, import-given}
 use Rattle.demands.specs.Engine.{Engine, ours}
 use Rattle.demands.specs.Demand2.{Demand2}
 use Rattle.demands.specs.Demand3.{Papers}
 use Rattle.demands.specs.Imports.{Importer, ourImporter, ImportDemand1, MakesGood, Different, none, one-more, AllObeying, ImportDemand2, TextHolding, ImportPapers, ImportDemand3, ImportDemand3Twin}
+use Rattle.demands.proofs.Determined.{equal-determined}
 use Rattle.demands.proofs.Damaged.{good-is}
 use Rattle.demands.proofs.Books.{good-exactly}
 use Rattle.demands.proofs.Ours2.{ours-2}
@@ -125,3 +130,27 @@ ours-import-3 = import-papers Naming ourImporter ours ours-import-1 ours-3
 
 pub ours-import-3-twin : ImportDemand3Twin ourImporter ours
 ours-import-3-twin = import-papers Clearing ourImporter ours ours-import-1 ours-3-twin
+
+-- ---- the promise determines the answer and every byte
+
+abbrev importedAt : Told ℕ → Imported
+importedAt (success n) = ImportedBook n
+importedAt (refusedWith i l) = NoFit
+importedAt (refusedAt i at) = ifEq i 30 (Format at) (OtherKind at)
+importedAt (refused i) = NoFit
+
+imported-again : (x : Imported) → importedAt (toldBook x) ≡ x
+unfolding ifEq ifb
+imported-again (ImportedBook n) = refl
+imported-again (Format place) = refl
+imported-again (OtherKind place) = refl
+imported-again NoFit = refl
+
+module _ (text out : List ℕ) where
+  abbrev ImportPromise : Imported → List ℕ → Type 0
+  ImportPromise r after = _≡_ {A = Answered ℕ} (record { told = toldBook r; buffer = after }) (importOf text out)
+
+  pub import-determined : (r q : Imported) (after other : List ℕ) → ImportPromise r after → ImportPromise q other
+      → (r ≡ q) × (after ≡ other)
+  import-determined r q after other p s =
+      answered-one toldBook (one-again toldBook importedAt imported-again) r q after other (equal-determined p s)

@@ -16,3 +16,4 @@ pub mod UselessComputed
 pub mod Determined
 pub mod Imports
 pub mod UselessImports
+pub mod WorkedImports
