@@ -7,6 +7,7 @@
 mod call;
 mod fewer;
 mod find;
+mod given;
 mod input;
 mod levelsk;
 mod line;

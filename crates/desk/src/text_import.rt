@@ -1,18 +1,14 @@
 // `lparse ROOM TEXT`: the book of a text that the grounder wrote, in a buffer of ROOM bytes. Answers
 // `book BOOK` or `refused NUMBER [PLACE]`.
 ghost use Rattle.io.specs.Counts.{Counts};
+use crate::given::read_given;
 use lparse::Imported;
 use lparse::import;
-use talk::Number;
 use talk::Refused;
 use talk::first_bytes;
-use talk::first_word;
-use talk::other_words;
 use talk::put_bytes;
 use talk::put_refused;
 use talk::put_text;
-use talk::read_bytes;
-use talk::read_number;
 
 // Asks for the book, and puts what is answered at the start of out.
 fn tell_imported(text: &[u8], room: &mut [u8], out: &mut [u8]) -> usize
@@ -34,17 +30,11 @@ fn tell_imported(text: &[u8], room: &mut [u8], out: &mut [u8]) -> usize
 pub fn answer_lparse(words: &[u8], text: &mut [u8], room: &mut [u8], out: &mut [u8]) -> usize
     ensures { λ r. ⌜ Counts r (now (out .exit)) ⌝ }
 {
-    let Number::Value(asked) = read_number(first_word(words)) else {
-        return 0;
-    };
-    let size = asked as usize;
-    if room.len() < size {
+    let given = read_given(words, text, room);
+    if !given.good {
         return 0;
     }
-    let decoded = read_bytes(other_words(words), text);
-    if !decoded.good {
-        return 0;
-    }
-    let n = decoded.count;
+    let n = given.count;
+    let size = given.size;
     tell_imported(&text[..n], &mut room[..size], out)
 }
