@@ -12,7 +12,7 @@ use lib.Seq.{take-all, take-append-le, take-length}
 use borrow.Author.Tests.{le-leb, lt-leb}
 use Rattle.meaning.specs.Books.{Book, count}
 use Rattle.meaning.specs.Told.{Told, success, refusedAt, refused, Answered}
-use Rattle.meaning.proofs.Tests.{both, refuted, lt-or-le, not-first}
+use Rattle.meaning.proofs.Tests.{both, refuted, lt-or-le, not-first, apart}
 use Rattle.meaning.proofs.Sets.{every-all}
 use Rattle.meaning.proofs.Choice.{b-yes, b-no, b-either, lt-yes, lt-no, lt-either}
 use Rattle.book.specs.declared.making.Making.{Making}
@@ -35,10 +35,6 @@ use Rattle.lparse.specs.Make.{counted, Readable, Complete}
 use Rattle.lparse.specs.Import.{only, laidOf, handLaid, handOver, importHeard, importOf}
 use Rattle.lparse.proofs.Collecting.{numbers-length}
 use Rattle.lparse.proofs.Tabled.{count-same}
-
--- two kinds of answer
-kinds : {A : Type 0} → _≡_ {A = ℕ} 0 1 → A
-kinds e = absurd (omega arith)
 
 -- ---- the limits
 
@@ -63,15 +59,15 @@ module _ (b : Book) (room : ℕ) where
   unfolding laidOf
   no-fit e = sym (b-no _ _ _ e)
 
-  -- a book that is laid out fits the room
-  pub laid-room : {n : ℕ} → LaidBook n ≡ laidOf b room → (n ≤ room) × (n ≡ length (bytesOfBook b))
+  -- a book that is laid out is within the limits and the room
+  pub laid-within : {n : ℕ} → laidOf b room ≡ LaidBook n → (fitsIn b ≡ true) × (n ≡ length (bytesOfBook b)) × (n ≤ room)
   unfolding laidOf
-  laid-room {n} = b-either P (fitsIn b) _ _
-      (λ f. lt-either P _ _ _ _ (λ k e. kinds cc) (λ k e. let z : n ≡ length (bytesOfBook b) = cc in (omega arith, z)))
-      (λ f e. kinds cc)
+  laid-within {n} = b-either P (fitsIn b) _ _
+      (λ f. lt-either P _ _ _ _ (λ k e. apart cc) (λ k e. let z : length (bytesOfBook b) ≡ n = cc in (f, sym z, omega arith)))
+      (λ f e. apart cc)
     where
       P : Laid → Type 0
-      P x = LaidBook n ≡ x → (n ≤ room) × (n ≡ length (bytesOfBook b))
+      P x = x ≡ LaidBook n → (fitsIn b ≡ true) × (n ≡ length (bytesOfBook b)) × (n ≤ room)
 
 module _ (t : Text) (room : ℕ) {m : Making} {draft : List ℕ} (made : Made (madeRules t) m draft) where
   pub laid-over : m .fits ≡ false → Short ≡ laidOf (madeBook t) room
@@ -118,7 +114,7 @@ unfolding madeBook
 finished-made t e f = rw e at f
 
 pub short-book : {A : Type 0} {n : ℕ} → Short ≡ LaidBook n → A
-short-book e = kinds cc
+short-book e = apart cc
 
 pub same-book : {b : Book} {n m : ℕ} {draft : List ℕ} → LaidBook n ≡ LaidBook m → Finished b n draft → Finished b m draft
 same-book {n = n} {m} e f = let z : n ≡ m = cc in rw z at f
@@ -139,7 +135,7 @@ module _ (b : Book) {n : ℕ} {draft : List ℕ} (f : Finished b n draft) where
   front-length = f .size ∙ ap (length {A = ℕ}) (sym front-bytes)
 
   pub front-room : {room : ℕ} {r : Laid} → r ≡ laidOf b room → r ≡ LaidBook n → length (take (n - 0) (drop 0 draft)) ≤ room
-  front-room {room} e g = let k = laid-room b room (sym g ∙ e) in omega (arith, k .0, front-length)
+  front-room {room} e g = let k = laid-within b room (sym e ∙ g) in omega (arith, k .2, front-length)
 
 -- ---- the book handed over
 
@@ -169,9 +165,9 @@ module _ (seen out : List ℕ) {after : List ℕ} where
   heard-atoms : (s : List ℕ) {n : ℕ} (h : Heard) → textIn s ≡ h → passed (success n) after ≡ collectHeard h seen
       → Readable s (take (n - 0) (drop 0 after))
   unfolding collectHeard collected
-  heard-atoms s (wrong i at) k f = let g = ap (λ a. a .told) f in kinds cc
+  heard-atoms s (wrong i at) k f = let g = ap (λ a. a .told) f in apart cc
   heard-atoms s {n} (says p) k f = lt-either (λ x. passed (success n) after ≡ x → Readable s (take (n - 0) (drop 0 after))) _ _ _ _
-      (λ h f. let g = ap (λ a. a .told) f in kinds cc)
+      (λ h f. let g = ap (λ a. a .told) f in apart cc)
       (λ h f.
       let l = distinct (mentioned (textOf p)) in
       let g = ap (λ a. a .told) f in
@@ -183,9 +179,9 @@ module _ (seen out : List ℕ) {after : List ℕ} where
 
   heard-within : {n : ℕ} (h : Heard) → passed (success n) after ≡ collectHeard h seen → n ≤ length after
   unfolding collectHeard collected
-  heard-within (wrong i at) f = let g = ap (λ a. a .told) f in kinds cc
+  heard-within (wrong i at) f = let g = ap (λ a. a .told) f in apart cc
   heard-within {n} (says p) f = lt-either (λ x. passed (success n) after ≡ x → n ≤ length after) _ _ _ _
-      (λ h f. let g = ap (λ a. a .told) f in kinds cc)
+      (λ h f. let g = ap (λ a. a .told) f in apart cc)
       (λ h f.
       let l = distinct (mentioned (textOf p)) in
       let g = ap (λ a. a .told) f in
@@ -195,17 +191,17 @@ module _ (seen out : List ℕ) {after : List ℕ} where
 
   heard-many : (h : Heard) → passed (refused 32) after ≡ collectHeard h seen → only out (refused 32) ≡ importHeard h out
   unfolding collectHeard collected importHeard handLaid atomCount
-  heard-many (wrong i at) f = let g = ap (λ a. a .told) f in kinds cc
+  heard-many (wrong i at) f = let g = ap (λ a. a .told) f in apart cc
   heard-many (says p) f = lt-either (λ x. passed (refused 32) after ≡ x → only out (refused 32) ≡ handOver (madeBook (textOf p)) out) _ _ _ _
       (λ h f. rw (← no-fit (madeBook (textOf p)) (length out) (over-atoms (textOf p) (omega (arith, h, count-made (textOf p))))))
-      (λ h f. let g = ap (λ a. a .told) f in kinds cc) f
+      (λ h f. let g = ap (λ a. a .told) f in apart cc) f
 
   heard-wrong : {i place : ℕ} (h : Heard) → passed (refusedAt i place) after ≡ collectHeard h seen
       → only out (refusedAt i place) ≡ importHeard h out
   unfolding collectHeard collected importHeard
   heard-wrong (wrong j at) f = ap (only out) (ap (λ a. a .told) f)
   heard-wrong {i} {place} (says p) f = lt-either (λ x. passed (refusedAt i place) after ≡ x → only out (refusedAt i place) ≡ handOver (madeBook (textOf p)) out) _ _ _ _
-      (λ h f. let g = ap (λ a. a .told) f in kinds cc) (λ h f. let g = ap (λ a. a .told) f in kinds cc) f
+      (λ h f. let g = ap (λ a. a .told) f in apart cc) (λ h f. let g = ap (λ a. a .told) f in apart cc) f
 
 module _ (s seen out : List ℕ) (r : Collected) {after : List ℕ} (e : passed (told r) after ≡ collectOf s seen) where
   said : {x : Told ℕ} → told r ≡ x → passed x after ≡ collectHeard (textIn s) seen

@@ -9,7 +9,7 @@ use lib.ListN.{length}
 use Rattle.meaning.specs.Choice.{ifb}
 use Rattle.meaning.specs.Books.{Book}
 use Rattle.meaning.specs.Told.{success, refusedAt, refused}
-use Rattle.meaning.proofs.Tests.{true-and-false}
+use Rattle.meaning.proofs.Tests.{true-and-false, apart}
 use Rattle.meaning.proofs.Choice.{b-yes, b-either, lt-no, lt-either, eq-either, eq-no}
 use Rattle.book.specs.Writing.{bytesOfBook}
 use Rattle.decimal.specs.declared.Digits.{Digits}
@@ -30,13 +30,10 @@ use Rattle.lparse.specs.Says.{Written, textSaid, Says}
 use Rattle.lparse.specs.Import.{laidOf, handLaid, bookGiven, importHeard, importOf}
 use Rattle.lparse.specs.Rows.{Begins, OtherType, AnotherType, WrongWord, Missing, NotInFormat, TooLarge, Fitting}
 use Rattle.lparse.proofs.Tokens.{number-move}
+use Rattle.lparse.proofs.Importing.{laid-within}
 use Rattle.lparse.proofs.Said.{written, heardAs, read-words, words-read, read-says, says-read}
 use Rattle.lparse.proofs.Walked.{Walked, walked-one, walked-last, walked-parted, walked-says, walked-wrong, says-walked, Stopped, at-word, at-type, at-end, wrong-stopped, completed}
 use Rattle.lparse.proofs.RulesWalked.{rules-walked, walked-rules}
-
--- two kinds of answer
-kinds : {A : Type 0} → _≡_ {A = ℕ} 0 1 → A
-kinds e = absurd (omega arith)
 
 abbrev kind : Due
 kind = Number Kind
@@ -117,17 +114,17 @@ module _ (s : List ℕ) (at : ℕ) where
   heard-type e = go (wrong-stopped (length s) 31 at kind (words s) e)
     where
       go : Stopped (length s) kind (words s) 31 at → AnotherType s at
-      go (at-word before w after end p k m n q) = kinds (omega (arith, n))
+      go (at-word before w after end p k m n q) = apart (omega (arith, n))
       go (at-type before w after end p k m n q) =
           record { before = before; word = w; stands = record { after = after; parted = p; place = q }; other = other-told k m }
-      go (at-end end k m n q) = kinds (omega (arith, n))
+      go (at-end end k m n q) = apart (omega (arith, n))
 
   heard-format : Refused 30 → NotInFormat s at
   unfolding heardAt
   heard-format e = go (wrong-stopped (length s) 30 at kind (words s) e)
     where
       go : Stopped (length s) kind (words s) 30 at → NotInFormat s at
-      go (at-type before w after end p k m n q) = kinds (omega (arith, n))
+      go (at-type before w after end p k m n q) = apart (omega (arith, n))
       go (at-word before w after end p k m n q) = inl (record {
         before = before;
         word = w;
@@ -137,15 +134,15 @@ module _ (s : List ℕ) (at : ℕ) where
             let (to, r) = begins-walked b in
             let (mid, said, h, g) = walked-parted before w r in
             let z = walked-one h k in
-            let f : Goes to said ≡ Format = sym g ∙ ap (λ d. moveOf d (w .bytes)) z ∙ m in kinds cc;
+            let f : Goes to said ≡ Format = sym g ∙ ap (λ d. moveOf d (w .bytes)) z ∙ m in apart cc;
         no-type = λ o.
             let (h, g) = other-move o in
-            let f : OtherKind ≡ Format = sym g ∙ ap (λ d. moveOf d (w .bytes)) (walked-one h k) ∙ m in kinds cc;
+            let f : OtherKind ≡ Format = sym g ∙ ap (λ d. moveOf d (w .bytes)) (walked-one h k) ∙ m in apart cc;
       })
       go (at-end end k m n q) = inr (record {
         place = q;
         begins = walked-begins k;
-        no-text = λ t says. let f = sym e ∙ says-read s t says in kinds cc;
+        no-text = λ t says. let f = sym e ∙ says-read s t says in apart cc;
       })
 
   word-heard : WrongWord s at → Refused 30
@@ -179,12 +176,12 @@ module _ (s : List ℕ) (at : ℕ) where
 module _ (b : Book) (out : List ℕ) where
   laid-no-place : (x : Laid) {i at : ℕ} → handLaid x b out .told ≡ refusedAt i at → ⊥
   unfolding handLaid
-  laid-no-place (LaidBook n) e = kinds cc
-  laid-no-place Short e = kinds cc
+  laid-no-place (LaidBook n) e = apart cc
+  laid-no-place Short e = apart cc
 
   laid-refused : (x : Laid) → handLaid x b out .told ≡ refused 32 → x ≡ Short
   unfolding handLaid
-  laid-refused (LaidBook n) e = kinds cc
+  laid-refused (LaidBook n) e = apart cc
   laid-refused Short e = refl
 
   laid-keeps : (x : Laid) → ((n : ℕ) → handLaid x b out .told ≡ success n → ⊥) → handLaid x b out .buffer ≡ out
@@ -195,11 +192,11 @@ module _ (b : Book) (out : List ℕ) where
   laid-success : (x : Laid) {n : ℕ} → handLaid x b out .told ≡ success n → x ≡ LaidBook n
   unfolding handLaid
   laid-success (LaidBook m) e = cc
-  laid-success Short e = kinds cc
+  laid-success Short e = apart cc
 
   short-large : laidOf b (length out) ≡ Short → (fitsIn b ≡ false) ⊎ (length out < length (bytesOfBook b))
   unfolding laidOf
-  short-large = b-either P (fitsIn b) _ _ (λ f. lt-either P _ _ _ _ (λ k e. inr k) (λ k e. kinds cc)) (λ f e. inl f)
+  short-large = b-either P (fitsIn b) _ _ (λ f. lt-either P _ _ _ _ (λ k e. inr k) (λ k e. apart cc)) (λ f e. inl f)
     where
       P : Laid → Type 0
       P x = x ≡ Short → (fitsIn b ≡ false) ⊎ (length out < length (bytesOfBook b))
@@ -212,15 +209,6 @@ module _ (b : Book) (out : List ℕ) where
   within-laid : fitsIn b ≡ true → length (bytesOfBook b) ≤ length out → laidOf b (length out) ≡ LaidBook (length (bytesOfBook b))
   unfolding laidOf
   within-laid e h = b-yes _ _ _ e ∙ lt-no _ _ _ _ h
-
-  laid-within : {n : ℕ} → laidOf b (length out) ≡ LaidBook n → (fitsIn b ≡ true) × (n ≡ length (bytesOfBook b)) × (n ≤ length out)
-  unfolding laidOf
-  laid-within {n} = b-either P (fitsIn b) _ _
-      (λ f. lt-either P _ _ _ _ (λ k e. kinds cc) (λ k e. let z : length (bytesOfBook b) ≡ n = cc in (f, sym z, omega arith)))
-      (λ f e. kinds cc)
-    where
-      P : Laid → Type 0
-      P x = x ≡ LaidBook n → (fitsIn b ≡ true) × (n ≡ length (bytesOfBook b)) × (n ≤ length out)
 
 module _ (s out : List ℕ) where
   told-heard : (h : Heard) {i at : ℕ} → importHeard h out .told ≡ refusedAt i at → h ≡ wrong i at
@@ -258,7 +246,7 @@ module _ (s out : List ℕ) where
     says = read-says s p k;
     large = short-large (madeBook (textOf p)) out (laid-refused (madeBook (textOf p)) out _ e);
   }
-  told-large (wrong i at) k e = kinds cc
+  told-large (wrong i at) k e = apart cc
 
   pub refused-32 : (importOf s out .told ≡ refused 32) ↔ TooLarge s out
   unfolding importHeard handLaid
@@ -284,9 +272,9 @@ module _ (s out : List ℕ) where
 
   made-heard : (h : Heard) → textIn s ≡ h → {n : ℕ} → importHeard h out .told ≡ success n → Fitting s out n
   unfolding importHeard
-  made-heard (wrong i at) k e = kinds cc
+  made-heard (wrong i at) k e = apart cc
   made-heard (says p) k e =
-      let (f, size, room) = laid-within (madeBook (textOf p)) out (laid-success (madeBook (textOf p)) out _ e) in
+      let (f, size, room) = laid-within (madeBook (textOf p)) (length out) (laid-success (madeBook (textOf p)) out _ e) in
       record { text = written p; says = read-says s p k; fits = f; size = size; room = room }
 
   -- and only of such a text a book is told

@@ -6,6 +6,7 @@ use mathlib.Core.List.{List, [], _∷_, _++_}
 use Prim.Native.Nat.{ℕ, zero, suc, _-_}
 use native.Mathlib.Omega.{arith}
 use Rattle.meaning.specs.Choice.{ifb, ifLt}
+use Rattle.meaning.proofs.Tests.{apart}
 use Rattle.meaning.proofs.Choice.{b-yes, eq-yes, eq-no, lt-no}
 use Rattle.decimal.specs.declared.Digits.the-variants.{Value}
 use Rattle.decimal.specs.Digits.{valueFrom}
@@ -27,10 +28,6 @@ pub data Walked : Due → List Word → Due → Type 0 where
   here : {due : Due} → Walked due [] due
   on : {due next end : Due} {said : Said} {w : Word} {ws : List Word} → moveOf due (w .bytes) ≡ Goes next said → Walked next ws end
       → Walked due (w ∷ ws) end
-
--- two kinds of answer
-kinds : {A : Type 0} → _≡_ {A = ℕ} 0 1 → A
-kinds e = absurd (omega arith)
 
 -- ---- what is due behind them
 
@@ -67,7 +64,7 @@ module _ (len : ℕ) where
   added-says : (w : Word) (said : Said) (h : Heard) (q : Part) → adding w said h ≡ says q → (p : Part) × (h ≡ says p)
   unfolding adding
   added-says w said (says p) q e = (p, refl)
-  added-says w said (wrong i at) q e = kinds cc
+  added-says w said (wrong i at) q e = apart cc
 
   walked-move : (due : Due) (w : Word) (ws more : List Word) → ((next : Due) (p : Part) → heard len next (ws ++ more) ≡ says p → (end : Due) × Walked next ws end)
       → (m : Move) → moveOf due (w .bytes) ≡ m → (q : Part) → onMove m w (λ next. heard len next (ws ++ more)) ≡ says q
@@ -77,8 +74,8 @@ module _ (len : ℕ) where
       let (p, g) = added-says w said (heard len next (ws ++ more)) q f in
       let (end, k) = rest next p g in
       (end, on e k)
-  walked-move due w ws more rest Format e q f = kinds cc
-  walked-move due w ws more rest OtherKind e q f = kinds cc
+  walked-move due w ws more rest Format e q f = apart cc
+  walked-move due w ws more rest OtherKind e q f = apart cc
 
   pub says-walked : (due : Due) (ws more : List Word) (q : Part) → heard len due (ws ++ more) ≡ says q → (end : Due) × Walked due ws end
   unfolding heard
@@ -104,7 +101,7 @@ module _ (len i at : ℕ) where
 
   added-wrong : (w : Word) (said : Said) (h : Heard) → adding w said h ≡ wrong i at → h ≡ wrong i at
   unfolding adding
-  added-wrong w said (says p) e = kinds cc
+  added-wrong w said (says p) e = apart cc
   added-wrong w said (wrong j to) e = e
 
   stopped-move : (due : Due) (w : Word) (ws : List Word) → ((next : Due) → heard len next ws ≡ wrong i at → Stopped len next ws i at)
@@ -118,7 +115,7 @@ module _ (len i at : ℕ) where
 
   stopped-end : (due : Due) (b : Bool) → whole due ≡ b → ifb b (says nothingMore) (wrong 30 len) ≡ wrong i at → Stopped len due [] i at
   unfolding ifb
-  stopped-end due true e f = kinds cc
+  stopped-end due true e f = apart cc
   stopped-end due false e f =
       let n : 30 ≡ i = cc in let p : len ≡ at = cc in at-end due here e (sym n) (sym p)
 
