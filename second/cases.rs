@@ -3,6 +3,7 @@
 
 use crate::claim::{certain, Claim};
 use crate::desk::{answer, hex, BAD_LINE};
+use crate::lparse::READS_CHOICES;
 use crate::random::Random;
 use crate::worked::{worked_lines, Worked};
 use crate::{
@@ -30,6 +31,9 @@ struct Later {
     add: fn(&mut Cases),
 }
 
+/// Choices have no command of their own.
+const CHOICES: &[&str] = if READS_CHOICES { &["lparse"] } else { &[] };
+
 const LATER: [Later; 8] = [
     Later { commands: &["levels", "levelsk"], numbers: &[], add: cases_levels::add },
     Later { commands: &["shown"], numbers: &[16], add: cases_shown::add },
@@ -37,7 +41,7 @@ const LATER: [Later; 8] = [
     Later { commands: &["join", "log"], numbers: &[17, 19], add: cases_crews::add },
     Later { commands: &["table"], numbers: &[36], add: cases_table::add },
     Later { commands: &["lparse"], numbers: &[30, 31, 32], add: cases_lparse::add },
-    Later { commands: &["lparse"], numbers: &[], add: cases_choices::add },
+    Later { commands: CHOICES, numbers: &[], add: cases_choices::add },
     Later { commands: &["aspif", "unaspif"], numbers: &[33, 34, 35], add: cases_aspif::add },
 ];
 

@@ -18,3 +18,6 @@ pub mod OurCrews
 pub mod OnlyCrews
 pub mod WorkedCrews
 pub mod UselessCrews
+pub mod Imports
+pub mod UselessImports
+pub mod WorkedImports

@@ -11,3 +11,5 @@ pub mod Useless
 pub mod TwoCrews
 pub mod WorkedCrews
 pub mod UselessCrews
+pub mod Imports
+pub mod UselessImports

@@ -7,6 +7,7 @@ use crate::paper_name::answer_name;
 use crate::readings::answer_readings;
 use crate::settled::answer_settled;
 use crate::table::answer_table;
+use crate::text_import::answer_lparse;
 use crate::two_books::answer_join;
 use crate::two_books::answer_log;
 use check::same;
@@ -67,6 +68,9 @@ fn answer_command(
     }
     if same(command, b"log") {
         return answer_log(words, book, other, room, out);
+    }
+    if same(command, b"lparse") {
+        return answer_lparse(words, other, room, out);
     }
     answer_of_book(command, words, book, room, out)
 }

@@ -7,6 +7,7 @@
 mod call;
 mod fewer;
 mod find;
+mod given;
 mod input;
 mod levelsk;
 mod line;
@@ -17,6 +18,7 @@ mod readings;
 mod settled;
 mod table;
 mod two_books;
+mod text_import;
 
 fn main() {
     if os::arg_count() != 1 {

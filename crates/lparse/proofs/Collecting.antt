@@ -1,7 +1,7 @@
 -- Collecting the atoms of a text: what one word more says is noted behind what stands in the array, and the atoms of the whole text are
 -- those noted so far and those of the rest.
 use mathlib.Core.Path.{_≡_, refl, ap, sym, _∙_}
-use mathlib.Core.Bool.{Bool, true, false}
+use mathlib.Core.Bool.{true, false}
 use mathlib.Core.List.{List, [], _∷_, _++_, map, map-append, append-assoc}
 use Prim.Native.Nat.{ℕ, suc, _+_, _≤_, _<_}
 use native.Mathlib.Numerals.{add-one}
@@ -10,20 +10,17 @@ use lib.ListN.{length, take, drop, getD, set, length-append, length-set, length-
 use lib.Seq.{take-suc, take-suc-set, getD-take, length-take-le, paste-suc}
 use native.Mathlib.Nat.{zero-add}
 use borrow.Author.Tests.{eq-eqb, ne-eqb}
-use Rattle.meaning.specs.Choice.{ifb}
 use Rattle.meaning.specs.Sets.{some}
 use Rattle.meaning.specs.Told.{refused, refusedAt, success, Answered}
 use Rattle.meaning.proofs.Sets.{some-here, some-append}
 use Rattle.meaning.proofs.Choice.{b-yes, b-no, b-either, lt-yes, lt-no, lt-either, eq-either}
 use Rattle.imported.specs.Text.{sameText}
-use Rattle.imported.specs.Making.{ruleAtoms, rulesAtoms, mentioned, addNew, distinctFrom, distinct}
+use Rattle.imported.specs.Making.{ruleAtoms, rulesAtoms, mentioned, addNew, distinctFrom}
 use Rattle.imported.specs.declared.TextAtom.{TextAtom}
-use Rattle.imported.specs.Text.{TextRule, basic}
 use Rattle.lparse.specs.declared.due.Role.{Role}
 use Rattle.lparse.specs.declared.due.Role.the-variants.{Kind, Head, Literals, Negatives, Negative, Positive, Table, Plus, Minus, Models}
 use Rattle.lparse.specs.declared.due.Due.{Due}
 use Rattle.lparse.specs.declared.due.Due.the-variants.{Number, Name, PlusWord, MinusWord, End}
-use Rattle.lparse.specs.declared.due.Standing.{Standing}
 use Rattle.lparse.specs.declared.due.Standing.the-variants.{Head as InHead, Negative as InNegative, Positive as InPositive, Table as InTable, Plus as InPlus, Minus as InMinus}
 use Rattle.lparse.specs.declared.due.Said.{Said}
 use Rattle.lparse.specs.declared.due.Said.the-variants.{Nothing as Silent, Atom}
@@ -37,7 +34,8 @@ use Rattle.lparse.specs.declared.step.Step.the-variants.{Goes as Takes, 
 use Rattle.lparse.specs.Reading.{textAtom, onKind, onAtom, onListed, onNegatives, onNumber, numberIn, onValue, signed, onSign, moveOf, stepAt, Part, with, withAtom, Heard, says, wrong, adding, heardAt}
 use Rattle.lparse.specs.Collect.{textIn, textOf, numbersOf, collected, collectHeard, collectOf, Stands, whole, passed, Notes, atomsSaid}
 use Rattle.lparse.proofs.Reading.{byStep, heard-step, took-move}
-use Rattle.lparse.proofs.Phases.{Open, NoRule, NoTable, NoPlus, Fits, FitsRole, body-open, heard-fits}
+use Rattle.lparse.proofs.Spelled.{nothing}
+use Rattle.lparse.proofs.Phases.{NoRule, NoTable, NoPlus, Fits, FitsRole, body-open, heard-fits}
 
 -- ---- one atom in the array
 
@@ -162,10 +160,6 @@ unfoldable pub gathered : List TextAtom → Heard → List ℕ → Answered ℕ
 gathered l (says p) seen = collected (distinctFrom l (atomsOf p)) seen
 gathered l (wrong i at) seen = record { told = refusedAt i at; buffer = seen }
 
-no-atoms : (l : List TextAtom) → length l ≡ 0 → l ≡ []
-no-atoms [] e = refl
-no-atoms (a ∷ l) e = absurd (omega arith)
-
 -- one word more in front says its atom before all others, where what fits behind it lets it
 module _ (w : Word) (a : TextAtom) (p : Part) where
   head-first : atomsOf (withAtom w a InHead p) ≡ a ∷ atomsOf p
@@ -178,24 +172,24 @@ module _ (w : Word) (a : TextAtom) (p : Part) where
 
   positive-first : length (p .neg) ≡ 0 → atomsOf (withAtom w a InPositive p) ≡ a ∷ atomsOf p
   unfolding atomsOf withAtom
-  positive-first e = rw (no-atoms (p .neg) e)
+  positive-first e = rw (nothing (p .neg) e)
 
   table-first : NoRule (p .neg) (p .pos) (p .rules) → atomsOf (withAtom w a InTable p) ≡ a ∷ atomsOf p
   unfolding atomsOf withAtom mentioned rulesAtoms
-  table-first f = rw (no-atoms (p .neg) (f .shut .negatives), no-atoms (p .pos) (f .shut .positives), f .no-rule)
+  table-first f = rw (nothing (p .neg) (f .shut .negatives), nothing (p .pos) (f .shut .positives), f .no-rule)
 
   plus-first : NoTable (p .neg) (p .pos) (p .rules) (p .table) → atomsOf (withAtom w a InPlus p) ≡ a ∷ atomsOf p
   unfolding atomsOf withAtom mentioned rulesAtoms
   plus-first f =
       let g = f .behind-rules in
-      rw (no-atoms (p .neg) (g .shut .negatives), no-atoms (p .pos) (g .shut .positives), g .no-rule, f .no-entry)
+      rw (nothing (p .neg) (g .shut .negatives), nothing (p .pos) (g .shut .positives), g .no-rule, f .no-entry)
 
   minus-first : NoPlus (p .neg) (p .pos) (p .rules) (p .table) (p .plus) → atomsOf (withAtom w a InMinus p) ≡ a ∷ atomsOf p
   unfolding atomsOf withAtom mentioned rulesAtoms
   minus-first f =
       let h = f .behind-table in
       let g = h .behind-rules in
-      rw (no-atoms (p .neg) (g .shut .negatives), no-atoms (p .pos) (g .shut .positives), g .no-rule, h .no-entry, f .no-plus)
+      rw (nothing (p .neg) (g .shut .negatives), nothing (p .pos) (g .shut .positives), g .no-rule, h .no-entry, f .no-plus)
 
 -- so for every move
 unfoldable pub First : Word → Move → Type 0
@@ -241,7 +235,7 @@ heard-at-fits s at due p e = heard-fits (length s) due (wordsAt s at) p e
 -- at a rule's start nothing is open
 pub rest-atoms : (p : Part) → Fits (Number Kind) p → atomsOf p ≡ mentioned (textOf p)
 unfolding atomsOf Fits FitsRole
-rest-atoms p f = rw (no-atoms (p .neg) (f .negatives), no-atoms (p .pos) (f .positives))
+rest-atoms p f = rw (nothing (p .neg) (f .negatives), nothing (p .pos) (f .positives))
 
 pub gather-start : (s seen : List ℕ) → collectOf s seen ≡ gathered [] (textIn s) seen
 unfolding collectOf collectHeard gathered

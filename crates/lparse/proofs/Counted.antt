@@ -1,7 +1,7 @@
 -- How many of an array's atoms are smaller than one, one by one.
-use mathlib.Core.Path.{_≡_, refl, ap, sym, _∙_}
+use mathlib.Core.Path.{_≡_, ap, _∙_}
 use mathlib.Core.List.{List}
-use Prim.Native.Nat.{ℕ, suc, _+_, _<_, _≤_}
+use Prim.Native.Nat.{ℕ, _+_, _<_, _≤_}
 use native.Mathlib.Numerals.{add-one}
 use native.Mathlib.Omega.{arith}
 use lib.ListN.{length, getD, drop, drop-of-length-le}
@@ -9,7 +9,7 @@ use lib.Seq.{drop-cons}
 use borrow.Author.Tests.{lt-ltb, le-ltb}
 use Rattle.meaning.proofs.Choice.{b-yes, b-no}
 use Rattle.imported.specs.declared.TextAtom.{TextAtom}
-use Rattle.imported.specs.Making.{countIn, below}
+use Rattle.imported.specs.Making.{countIn}
 use Rattle.lparse.specs.Forming.{placeOf}
 
 module _ (s : List ℕ) (a : TextAtom) (i n : ℕ) (e : placeOf s a ≡ n + placeOf (drop i s) a) where

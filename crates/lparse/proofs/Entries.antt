@@ -1,20 +1,19 @@
 -- The rules for entries of the lists, as tables: a table in which one or two atoms were placed lists these.
 use mathlib.Core.Path.{_≡_, refl, ap, sym, _∙_}
 use mathlib.Core.Bool.{Bool, true, false}
-use mathlib.Core.List.{List, [], _∷_, List·Memᴰ, List·Memᴰ·head, List·Memᴰ·tail, List·Memᴰ·cases-cons, List·Memᴰ·not-nil}
+use mathlib.Core.List.{List, [], _∷_, List·Memᴰ·head, List·Memᴰ·tail, List·Memᴰ·cases-cons, List·Memᴰ·not-nil}
 use mathlib.Core.Logic.{_⊎_, ⊎-elim, inl, inr}
-use Prim.Native.Nat.{ℕ, zero, suc, _+_, _<_, _≤_}
+use Prim.Native.Nat.{ℕ, zero, suc, _<_, _≤_}
 use native.Mathlib.Omega.{arith}
 use lib.Dec.{eqb}
-use lib.ListN.{length, getD, set, replicate, length-set, length-replicate, getD-replicate}
+use lib.ListN.{length, getD, set, replicate, length-set, length-replicate}
 use lib.Seq.{getD-set-same, getD-set-other}
 use borrow.Author.Tests.{lt-ltb, eqb-true, eqb-false}
 use Rattle.meaning.specs.declared.AtomNo.{AtomNo}
 use Rattle.meaning.specs.Sets.{ascending}
-use Rattle.meaning.specs.Books.{atomNo, Rule}
-use Rattle.book.specs.Writing.{atomBytes}
+use Rattle.meaning.specs.Books.{atomNo}
 use Rattle.book.specs.declared.making.Making.{Making}
-use Rattle.book.specs.Making.{listed, ruleBy, SmallRule, Adds}
+use Rattle.book.specs.Making.{listed, ruleBy, Adds}
 use Rattle.book.proofs.AtomsFrom.{atoms-of, atoms-none}
 use Rattle.book.proofs.Made.{adds-passed}
 use Rattle.lparse.specs.declared.due.Standing.the-variants.{Plus, Minus}
@@ -22,7 +21,7 @@ use Rattle.lparse.specs.Forming.{noAtoms, entryRules}
 
 -- ---- what is in a table
 
-none-in : (n i : ℕ) → getD (replicate n false) i false ≡ false
+pub none-in : (n i : ℕ) → getD (replicate n false) i false ≡ false
 none-in zero i = refl
 none-in (suc n) zero = refl
 none-in (suc n) (suc i) = none-in n i

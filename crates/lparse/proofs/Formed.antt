@@ -1,28 +1,20 @@
 -- What one word adds to the rules made: the rule of an entry, and the rule that was open where it is whole.
-use mathlib.Core.Path.{_≡_, refl, ap, sym, _∙_}
-use mathlib.Core.Bool.{Bool, true, false}
+use mathlib.Core.Path.{_≡_, refl, ap, _∙_}
+use mathlib.Core.Bool.{true, false}
 use mathlib.Core.List.{List, [], _∷_, _++_, append-nil}
 use Prim.Native.Nat.{ℕ, _<_, _≤_}
-use native.Mathlib.Omega.{arith}
 use lib.ListN.{length}
-use Rattle.meaning.specs.declared.AtomNo.{AtomNo}
 use Rattle.meaning.specs.Books.{Rule}
 use Rattle.meaning.proofs.Choice.{b-yes, b-no}
 use Rattle.book.specs.declared.making.Making.{Making}
 use Rattle.book.specs.Making.{ruleBy, Adds}
 use Rattle.book.proofs.Made.{adds-nil, adds-then}
 use Rattle.imported.specs.declared.TextAtom.{TextAtom}
-use Rattle.imported.specs.Text.{TextRule, basic}
-use Rattle.lparse.specs.declared.due.Role.{Role}
-use Rattle.lparse.specs.declared.due.Role.the-variants.{Kind, Head, Literals, Negatives, Negative, Positive, Table, Plus, Minus, Models}
 use Rattle.lparse.specs.declared.due.Due.{Due}
-use Rattle.lparse.specs.declared.due.Due.the-variants.{Number, Name, PlusWord, MinusWord, End}
 use Rattle.lparse.specs.declared.due.Standing.{Standing}
 use Rattle.lparse.specs.declared.due.Standing.the-variants.{Head as InHead, Negative as InNegative, Positive as InPositive, Table as InTable, Plus as InPlus, Minus as InMinus}
 use Rattle.lparse.specs.declared.due.Said.{Said}
 use Rattle.lparse.specs.declared.due.Said.the-variants.{Nothing as Silent, Atom}
-use Rattle.lparse.specs.declared.due.Move.{Move}
-use Rattle.lparse.specs.declared.due.Move.the-variants.{Goes, Format, Kind as OtherKind}
 use Rattle.lparse.specs.declared.form.Forming.{Forming}
 use Rattle.lparse.specs.Forming.{placeOf, formedBy, entryRules, closes, formedSaid, saidRules, ruleClosed, Forms, Placed}
 

@@ -3,6 +3,10 @@ pub mod Words
 pub mod Reading
 pub mod Phases
 pub mod Spelled
+pub mod Tokens
+pub mod Later
+pub mod HeardRules
+pub mod HeardLists
 pub mod Heard
 pub mod Said
 pub mod Collecting
@@ -10,4 +14,10 @@ pub mod Counted
 pub mod Entries
 pub mod Formed
 pub mod Remaining
+pub mod Tabled
 pub mod Turning
+pub mod Importing
+pub mod Walked
+pub mod RulesWalked
+pub mod Rows
+pub mod Names

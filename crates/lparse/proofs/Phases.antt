@@ -1,9 +1,8 @@
 -- What the rest of a text can say depends on what is due: in a body so many atoms of each part are left, behind the rules none of a rule
 -- comes any more, behind the table no entry, and behind B+ none of it.
 use mathlib.Core.Path.{_≡_, refl, ap, sym, _∙_}
-use mathlib.Core.Bool.{Bool, true, false}
 use mathlib.Core.List.{List, [], _∷_}
-use Prim.Native.Nat.{ℕ, zero, suc, _+_, _-_, _≤_, _<_}
+use Prim.Native.Nat.{ℕ, suc, _+_, _-_}
 use native.Mathlib.Omega.{arith}
 use lib.ListN.{length}
 use Rattle.meaning.specs.Choice.{ifb}
@@ -11,19 +10,16 @@ use Rattle.meaning.proofs.Choice.{b-either, lt-either, eq-either}
 use Rattle.decimal.specs.declared.Digits.{Digits}
 use Rattle.decimal.specs.declared.Digits.the-variants.{Value, Nothing}
 use Rattle.imported.specs.declared.TextAtom.{TextAtom}
-use Rattle.imported.specs.Text.{TextRule, basic}
+use Rattle.imported.specs.Text.{TextRule}
 use Rattle.lparse.specs.declared.due.Role.{Role}
 use Rattle.lparse.specs.declared.due.Role.the-variants.{Kind, Head, Literals, Negatives, Negative, Positive, Table, Plus, Minus, Models}
 use Rattle.lparse.specs.declared.due.Due.{Due}
 use Rattle.lparse.specs.declared.due.Due.the-variants.{Number, Name, PlusWord, MinusWord, End}
-use Rattle.lparse.specs.declared.due.Standing.{Standing}
-use Rattle.lparse.specs.declared.due.Standing.the-variants.{Head as InHead, Negative as InNegative, Positive as InPositive, Table as InTable, Plus as InPlus, Minus as InMinus}
 use Rattle.lparse.specs.declared.due.Said.{Said}
-use Rattle.lparse.specs.declared.due.Said.the-variants.{Nothing as Silent, Atom}
 use Rattle.lparse.specs.declared.due.Move.{Move}
 use Rattle.lparse.specs.declared.due.Move.the-variants.{Goes, Format, Kind as OtherKind}
 use Rattle.lparse.specs.Words.{Word}
-use Rattle.lparse.specs.Reading.{bodyOf, onKind, onAtom, onListed, onNegatives, onNumber, numberIn, onValue, onSign, moveOf, signed, whole, Entry, Part, nothingMore, with, withAtom, Heard, says, wrong, adding, onMove, heard, heardAt}
+use Rattle.lparse.specs.Reading.{bodyOf, onKind, onAtom, onListed, onNegatives, onNumber, numberIn, onValue, onSign, moveOf, signed, whole, Entry, Part, nothingMore, with, withAtom, Heard, says, wrong, adding, onMove, heard}
 
 -- m negatives and n positives of the open rule are left
 pub record Open (m n : ℕ) (neg pos : List TextAtom) : Type 0 where

@@ -1,7 +1,6 @@
 -- What a word does, as the code takes it, is what the words of the text say.
 use mathlib.Core.Path.{_≡_, refl, ap, sym, _∙_}
-use mathlib.Core.Bool.{true, false}
-use mathlib.Core.List.{List, [], _∷_}
+use mathlib.Core.List.{List}
 use Prim.Native.Nat.{ℕ, _-_, _<_, _≤_}
 use native.Mathlib.Omega.{arith}
 use lib.ListN.{length, take, drop}
@@ -14,7 +13,7 @@ use Rattle.lparse.specs.declared.due.Move.{Move}
 use Rattle.lparse.specs.declared.due.Move.the-variants.{Goes, Format, Kind as OtherKind}
 use Rattle.lparse.specs.declared.step.Step.{Step}
 use Rattle.lparse.specs.declared.step.Step.the-variants.{Goes as Takes, Format as WrongFormat, Kind as WrongKind, Done}
-use Rattle.lparse.specs.Words.{startOf, endOf, Word, wordAt, wordsAt}
+use Rattle.lparse.specs.Words.{startOf, endOf, Word, wordAt}
 use Rattle.lparse.specs.Reading.{moveOf, whole, atEnd, stepOf, stepAt, Part, nothingMore, with, Heard, says, wrong, adding, onMove, heard, heardAt}
 use Rattle.lparse.proofs.Words.{start-late, word-grows, end-within, words-none, words-more}
 
@@ -104,18 +103,18 @@ took-ahead due said from end format e = let z : _≡_ {A = ℕ} 0 1 = cc in absu
 took-ahead due said from end kind e = let z : _≡_ {A = ℕ} 0 1 = cc in absurd (omega arith)
 took-ahead due said from end done e = let z : _≡_ {A = ℕ} 0 1 = cc in absurd (omega arith)
 
--- the move of a word that was taken
+-- the move of a word that was taken, and its end
 unfoldable MovedTo : List ℕ → Due → Step → Type 0
-MovedTo s due (Takes next said from end) = moveOf due (wordAt s from .bytes) ≡ Goes next said
+MovedTo s due (Takes next said from end) = (moveOf due (wordAt s from .bytes) ≡ Goes next said) × (end ≡ endOf s from)
 MovedTo s due (WrongFormat at) = Unit {0}
 MovedTo s due (WrongKind at) = Unit {0}
 MovedTo s due Done = Unit {0}
 
-moved-by : (s : List ℕ) (due : Due) (m : Move) (from end : ℕ) → moveOf due (wordAt s from .bytes) ≡ m → MovedTo s due (stepOf m from end)
+moved-by : (s : List ℕ) (due : Due) (m : Move) (from : ℕ) → moveOf due (wordAt s from .bytes) ≡ m → MovedTo s due (stepOf m from (endOf s from))
 unfolding MovedTo stepOf
-moved-by s due (Goes next said) from end e = e
-moved-by s due Format from end e = tt
-moved-by s due OtherKind from end e = tt
+moved-by s due (Goes next said) from e = (e, refl)
+moved-by s due Format from e = tt
+moved-by s due OtherKind from e = tt
 
 moved-end : (s : List ℕ) (due : Due) (len : ℕ) → MovedTo s due (atEnd due len)
 unfolding MovedTo atEnd
@@ -124,12 +123,19 @@ moved-end s due len = b-either (MovedTo s due) (whole due) _ _ (λ e. tt) (λ e.
 moved-step : (s : List ℕ) (at : ℕ) (due : Due) → MovedTo s due (stepAt s at due)
 unfolding stepAt
 moved-step s at due =
-    lt-either (MovedTo s due) (startOf s at) (length s) _ _ (λ h. moved-by s due _ _ _ refl) (λ h. moved-end s due (length s))
+    lt-either (MovedTo s due) (startOf s at) (length s) _ _ (λ h. moved-by s due _ _ refl) (λ h. moved-end s due (length s))
 
-pub took-move : (s : List ℕ) (at : ℕ) (due : Due) {r : Step} → r ≡ stepAt s at due → (next : Due) (said : Said) (from end : ℕ)
-    → r ≡ Takes next said from end → moveOf due (wordAt s from .bytes) ≡ Goes next said
-unfolding MovedTo
-took-move s at due e next said from end g = rw (sym e ∙ g) at (moved-step s at due)
+module _ (s : List ℕ) (at : ℕ) (due : Due) {r : Step} (e : r ≡ stepAt s at due) (next : Due) (said : Said) (from end : ℕ)
+    (g : r ≡ Takes next said from end) where
+  took : (moveOf due (wordAt s from .bytes) ≡ Goes next said) × (end ≡ endOf s from)
+  unfolding MovedTo
+  took = rw (sym e ∙ g) at (moved-step s at due)
+
+  pub took-move : moveOf due (wordAt s from .bytes) ≡ Goes next said
+  took-move = took .0
+
+  pub took-end : end ≡ endOf s from
+  took-end = took .1
 
 -- what a text says from a place on: what the word taken says, and what is said behind it
 adding-part : (w : Word) (said : Said) (h : Heard) (p : Part) → adding w said h ≡ says p → (q : Part) × (h ≡ says q) × (with w said q ≡ p)

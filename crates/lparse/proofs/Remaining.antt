@@ -3,9 +3,7 @@
 use mathlib.Core.Path.{_≡_, refl, ap, sym, _∙_}
 use mathlib.Core.Bool.{Bool, true, false}
 use mathlib.Core.List.{List, [], _∷_, _++_, map, append-assoc, append-nil}
-use Prim.Native.Nat.{ℕ, suc, _-_, _<_, _≤_}
-use native.Mathlib.Omega.{arith}
-use lib.ListN.{length}
+use Prim.Native.Nat.{ℕ, _-_}
 use Rattle.meaning.specs.declared.AtomNo.{AtomNo}
 use Rattle.meaning.specs.Books.{Rule}
 use Rattle.meaning.specs.Choice.{ifb}
@@ -13,14 +11,12 @@ use Rattle.meaning.proofs.Choice.{b-either, lt-either, eq-either}
 use Rattle.decimal.specs.declared.Digits.{Digits}
 use Rattle.decimal.specs.declared.Digits.the-variants.{Value, Nothing}
 use Rattle.imported.specs.Text.{Text}
-use Rattle.imported.specs.Making.{image, part, made, plusRule, minusRule, madeRules}
+use Rattle.imported.specs.Making.{image, part, made, plusRule, minusRule}
 use Rattle.imported.specs.declared.TextAtom.{TextAtom}
-use Rattle.imported.specs.Text.{TextRule, basic}
 use Rattle.lparse.specs.declared.due.Role.{Role}
 use Rattle.lparse.specs.declared.due.Role.the-variants.{Kind, Head, Literals, Negatives, Negative, Positive, Table, Plus, Minus, Models}
 use Rattle.lparse.specs.declared.due.Due.{Due}
 use Rattle.lparse.specs.declared.due.Due.the-variants.{Number, Name, PlusWord, MinusWord, End}
-use Rattle.lparse.specs.declared.due.Standing.{Standing}
 use Rattle.lparse.specs.declared.due.Standing.the-variants.{Head as InHead, Negative as InNegative, Positive as InPositive, Table as InTable, Plus as InPlus, Minus as InMinus}
 use Rattle.lparse.specs.declared.due.Said.{Said}
 use Rattle.lparse.specs.declared.due.Said.the-variants.{Nothing as Silent, Atom}
@@ -29,7 +25,7 @@ use Rattle.lparse.specs.declared.due.Move.the-variants.{Goes, Format, Ki
 use Rattle.lparse.specs.Words.{Word}
 use Rattle.lparse.specs.Reading.{textAtom, bodyOf, onKind, onAtom, onListed, onNegatives, onNumber, numberIn, onValue, signed, onSign, moveOf, Part, with, withAtom}
 use Rattle.lparse.specs.Forming.{closes, opensRule}
-use Rattle.lparse.proofs.Phases.{Open, NoRule, NoTable, NoPlus, Fits, FitsRole, body-open}
+use Rattle.lparse.proofs.Phases.{Open, Fits, FitsRole, body-open}
 use Rattle.lparse.proofs.Spelled.{nothing}
 
 unfoldable pub bodyRole : Role → Bool

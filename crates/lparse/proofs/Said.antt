@@ -1,11 +1,10 @@
 -- `says-read`: a text says what is read from it, and what a text says is read from it.
-use mathlib.Core.Path.{_≡_, refl, ap, sym, _∙_}
+use mathlib.Core.Path.{_≡_, refl}
 use mathlib.Core.Bool.{Bool, true, false, _&&_}
 use mathlib.Core.List.{List, [], _∷_, _++_, map}
 use Prim.Native.Nat.{ℕ, zero, suc, _<_}
 use native.Mathlib.Omega.{arith}
 use lib.ListN.{length}
-use lib.Dec.{ltb}
 use borrow.Author.Tests.{lt-ltb}
 use Rattle.meaning.specs.Sets.{every}
 use Rattle.meaning.specs.Choice.{ifb}
@@ -14,24 +13,22 @@ use Rattle.decimal.specs.declared.Digits.{Digits}
 use Rattle.decimal.specs.declared.Digits.the-variants.{Value, Nothing}
 use Rattle.imported.specs.Making.{ruleAtoms, rulesAtoms, mentioned}
 use Rattle.imported.specs.declared.TextAtom.{TextAtom}
-use Rattle.imported.specs.Text.{TextRule, basic}
 use Rattle.lparse.specs.declared.due.Role.{Role}
 use Rattle.lparse.specs.declared.due.Role.the-variants.{Kind, Head, Literals, Negatives, Negative, Positive, Table, Plus, Minus, Models}
 use Rattle.lparse.specs.declared.due.Due.{Due}
 use Rattle.lparse.specs.declared.due.Due.the-variants.{Number, Name, PlusWord, MinusWord, End}
-use Rattle.lparse.specs.declared.due.Standing.{Standing}
-use Rattle.lparse.specs.declared.due.Standing.the-variants.{Head as InHead, Negative as InNegative, Positive as InPositive, Table as InTable, Plus as InPlus, Minus as InMinus}
 use Rattle.lparse.specs.declared.due.Said.{Said}
-use Rattle.lparse.specs.declared.due.Said.the-variants.{Nothing as Silent, Atom}
 use Rattle.lparse.specs.declared.due.Move.{Move}
 use Rattle.lparse.specs.declared.due.Move.the-variants.{Goes, Format, Kind as OtherKind}
-use Rattle.lparse.specs.Words.{Word, wordsAt, words}
+use Rattle.lparse.specs.Words.{Word, words}
 use Rattle.lparse.specs.Reading.{textAtom, onKind, onAtom, onListed, onNegatives, onNumber, numberIn, onValue, signed, onSign, moveOf, whole, Part, nothingMore, with, withAtom, Heard, says, wrong, adding, onMove, heard, heardAt}
 use Rattle.lparse.specs.Collect.{textIn}
-use Rattle.lparse.specs.Says.{Written, tokensOf, Spelling, fromOne, textSaid, Says}
-use Rattle.lparse.proofs.Phases.{Open, Fits, FitsRole, heard-fits}
+use Rattle.lparse.specs.Says.{Written, tokensOf, fromOne, SaysWords, Says}
+use Rattle.lparse.proofs.Phases.{Fits, FitsRole, heard-fits}
 use Rattle.lparse.proofs.Spelled.{heard-spelt, nothing}
-use Rattle.lparse.proofs.Heard.{Sound, Proper, every-left, every-right, spelt-text}
+use Rattle.lparse.proofs.Tokens.{every-left, every-right}
+use Rattle.lparse.proofs.Later.{Sound, Proper}
+use Rattle.lparse.proofs.Heard.{spelt-text}
 
 -- ---- no atom that is heard is 0
 
@@ -195,11 +192,12 @@ written p = record { rules = p .rules; table = p .table; plus = p .plus; minus =
 abbrev pub heardAs : Written → Part
 heardAs w = record { pos = []; neg = []; rules = w .rules; table = w .table; plus = w .plus; minus = w .minus }
 
-pub read-says : (s : List ℕ) (p : Part) → textIn s ≡ says p → Says s (written p)
-unfolding heardAt tokensOf mentioned Proper every
-read-says s p e =
-    let (m, spelled) = heard-spelt (length s) (words s) p e in
-    let f = heard-sound (length s) (Number Kind) (words s) tt p e in
+-- so for any words, wherever they stand
+pub read-words : (len : ℕ) (ws : List Word) (p : Part) → heard len (Number Kind) ws ≡ says p → SaysWords ws (written p)
+unfolding tokensOf mentioned Proper every
+read-words len ws p e =
+    let (m, spelled) = heard-spelt len ws p e in
+    let f = heard-sound len (Number Kind) ws tt p e in
     record {
       models = m;
       spelled = spelled;
@@ -207,12 +205,12 @@ read-says s p e =
           (every-both (p .plus) (p .minus) (f .plus) (f .minus)));
     }
 
-pub says-read : (s : List ℕ) (w : Written) → Says s w → textIn s ≡ says (heardAs w)
-unfolding heardAt tokensOf mentioned every
-says-read s w h =
+pub words-read : (len : ℕ) (ws : List Word) (w : Written) → SaysWords ws w → heard len (Number Kind) ws ≡ says (heardAs w)
+unfolding tokensOf mentioned every
+words-read len ws w h =
     let a = every-right (rulesAtoms (w .rules)) _ (h .atoms) in
     let b = every-right (map (λ e. e .atom) (w .table)) (w .plus ++ w .minus) a in
-    spelt-text (length s) (words s) (heardAs w) (h .models) (record { negatives = refl; positives = refl })
+    spelt-text len ws (heardAs w) (h .models) (record { negatives = refl; positives = refl })
     (record {
       neg = refl;
       pos = refl;
@@ -222,6 +220,14 @@ says-read s w h =
       minus = every-right (w .plus) (w .minus) b;
     })
     (h .spelled)
+
+pub read-says : (s : List ℕ) (p : Part) → textIn s ≡ says p → Says s (written p)
+unfolding heardAt
+read-says s p e = read-words (length s) (words s) p e
+
+pub says-read : (s : List ℕ) (w : Written) → Says s w → textIn s ≡ says (heardAs w)
+unfolding heardAt
+says-read s w h = words-read (length s) (words s) w h
 
 -- what is read from a whole text has no open rule: it is what the text says and nothing else
 pub read-shut : (s : List ℕ) (p : Part) → textIn s ≡ says p → p ≡ heardAs (written p)

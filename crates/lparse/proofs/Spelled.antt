@@ -1,8 +1,8 @@
 -- What is heard of words is what they spell: read from the last word back, each word that a row takes is the token that comes first.
 use mathlib.Core.Path.{_≡_, refl, ap, sym, _∙_}
-use mathlib.Core.Bool.{Bool, true, false}
-use mathlib.Core.List.{List, [], _∷_, _++_, map, append-assoc}
-use Prim.Native.Nat.{ℕ, zero, suc, _+_, _-_, _≤_, _<_}
+use mathlib.Core.Bool.{true}
+use mathlib.Core.List.{List, [], _∷_, _++_, append-assoc}
+use Prim.Native.Nat.{ℕ, _+_, _-_}
 use native.Mathlib.Omega.{arith}
 use lib.ListN.{length, getD}
 use borrow.Author.Tests.{eqb-true}
@@ -16,16 +16,13 @@ use Rattle.lparse.specs.declared.due.Role.{Role}
 use Rattle.lparse.specs.declared.due.Role.the-variants.{Kind, Head, Literals, Negatives, Negative, Positive, Table, Plus, Minus, Models}
 use Rattle.lparse.specs.declared.due.Due.{Due}
 use Rattle.lparse.specs.declared.due.Due.the-variants.{Number, Name, PlusWord, MinusWord, End}
-use Rattle.lparse.specs.declared.due.Standing.{Standing}
-use Rattle.lparse.specs.declared.due.Standing.the-variants.{Head as InHead, Negative as InNegative, Positive as InPositive, Table as InTable, Plus as InPlus, Minus as InMinus}
 use Rattle.lparse.specs.declared.due.Said.{Said}
-use Rattle.lparse.specs.declared.due.Said.the-variants.{Nothing as Silent, Atom}
 use Rattle.lparse.specs.declared.due.Move.{Move}
 use Rattle.lparse.specs.declared.due.Move.the-variants.{Goes, Format, Kind as OtherKind}
 use Rattle.lparse.specs.Words.{Word}
-use Rattle.lparse.specs.Reading.{textAtom, bodyOf, onKind, onAtom, onListed, onNegatives, onNumber, numberIn, onValue, signed, onSign, moveOf, whole, Entry, Part, nothingMore, with, withAtom, Heard, says, wrong, adding, onMove, heard}
-use Rattle.lparse.specs.Says.{Written, Token, number, name, exactly, atomTokens, ruleTokens, rulesTokens, tableTokens, minusTokens, plusTokens, behindRules, tokensOf, Spelled, as-number, as-name, as-bytes, Spelling, none, more}
-use Rattle.lparse.proofs.Phases.{Open, NoRule, NoTable, NoPlus, NoMinus, Fits, FitsRole, body-open, heard-fits}
+use Rattle.lparse.specs.Reading.{textAtom, bodyOf, onKind, onAtom, onListed, onNegatives, onNumber, numberIn, onValue, signed, onSign, moveOf, whole, Part, nothingMore, with, withAtom, Heard, says, wrong, adding, onMove, heard}
+use Rattle.lparse.specs.Says.{Token, number, name, exactly, atomTokens, ruleTokens, rulesTokens, tableTokens, minusTokens, plusTokens, behindRules, Spelled, as-number, as-name, as-bytes, Spelling, none, more}
+use Rattle.lparse.proofs.Phases.{Open, Fits, FitsRole, body-open, heard-fits}
 
 -- the tokens of what the rest says, from a rule's start on
 abbrev pub behindBody : Part → ℕ → List Token

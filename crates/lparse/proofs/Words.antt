@@ -1,19 +1,19 @@
 -- The words of a text, one by one: the turns of the two loops that find a word's ends, and that the words from a place on are the first
 -- of them and the words from its end on.
 use mathlib.Core.Path.{_≡_, refl, ap, sym, _∙_}
-use mathlib.Core.Bool.{Bool, true, false}
+use mathlib.Core.Bool.{true, false}
 use mathlib.Core.List.{List, [], _∷_}
 use Prim.Native.Nat.{ℕ, zero, suc, _+_, _-_, _<_, _≤_}
-use native.Mathlib.Nat.{sub-zero, add-zero}
+use native.Mathlib.Nat.{add-zero}
 use native.Mathlib.Numerals.{add-one}
 use native.Mathlib.Omega.{arith}
 use lib.ListN.{length, getD, drop, length-drop, drop-of-length-le}
 use lib.Seq.{drop-cons, getD-drop}
-use Rattle.meaning.specs.Choice.{ifb, ifLt}
+use Rattle.meaning.specs.Choice.{ifb}
 use Rattle.meaning.proofs.Choice.{b-either, lt-yes, lt-no, lt-either}
 use Rattle.lparse.specs.declared.word.Quote.{Quote}
-use Rattle.lparse.specs.declared.word.Quote.the-variants.{Outside, Inside, Behind}
-use Rattle.lparse.specs.Words.{parting, outside, ends, turned, blanks, span, startOf, endOf, Word, wordAt, wordsFrom, wordsAt}
+use Rattle.lparse.specs.declared.word.Quote.the-variants.{Outside}
+use Rattle.lparse.specs.Words.{parting, outside, ends, turned, blanks, span, startOf, endOf, wordAt, wordsFrom, wordsAt}
 
 module _ (s : List ℕ) (i : ℕ) where
   pub start-end : length s ≤ i → startOf s i ≡ i

@@ -23,7 +23,7 @@ use Rattle.lparse.specs.declared.due.Said.{Said}
 use Rattle.lparse.specs.declared.due.Said.the-variants.{Nothing as Silent, Atom}
 use Rattle.lparse.specs.declared.gather.Collected.{Collected}
 use Rattle.lparse.specs.declared.gather.Collected.the-variants.{Atoms, TooMany, Format, Kind as OtherKind}
-use Rattle.lparse.specs.Reading.{Entry, Part, Heard, says, wrong, heardAt}
+use Rattle.lparse.specs.Reading.{Part, Heard, says, wrong, heardAt}
 
 abbrev pub textIn : List ℕ → Heard
 textIn s = heardAt s 0 (Number Kind)

@@ -5,3 +5,6 @@ pub mod Says
 pub mod Collect
 pub mod Forming
 pub mod Make
+pub mod Import
+pub mod Rows
+pub mod Names

@@ -6,7 +6,7 @@
 --   Token            a number, a name, or exactly these bytes
 --   tokensOf w m     the tokens of a text that says w, with m for the number of models
 --   Spelled, Spelling    a word is a token; the words are the tokens
---   Says s w         the bytes are a text that says w
+--   SaysWords ws w, Says s w     the words, the bytes are a text that says w
 use mathlib.Core.Path.{_≡_}
 use mathlib.Core.Bool.{true}
 use mathlib.Core.List.{List, [], _∷_, _++_, map}
@@ -19,7 +19,7 @@ use Rattle.imported.specs.declared.TextAtom.{TextAtom}
 use Rattle.imported.specs.Text.{TextAtoms, TextRule, basic, Text}
 use Rattle.imported.specs.Making.{mentioned}
 use Rattle.lparse.specs.Words.{Word, words}
-use Rattle.lparse.specs.Reading.{numberIn, Entry, Part}
+use Rattle.lparse.specs.Reading.{numberIn, Entry}
 
 pub record Written : Type 0 where
   pub rules : List TextRule
@@ -77,7 +77,10 @@ fromOne a = ltb 0 (a .0)
 abbrev pub textSaid : Written → Text
 textSaid w = record { rules = w .rules; table = map (λ e. e .atom) (w .table); plus = w .plus; minus = w .minus }
 
-pub record Says (s : List ℕ) (w : Written) : Type 0 where
+pub record SaysWords (ws : List Word) (w : Written) : Type 0 where
   pub models : ℕ
-  pub spelled : Spelling (words s) (tokensOf w models)
+  pub spelled : Spelling ws (tokensOf w models)
   pub atoms : every fromOne (mentioned (textSaid w)) ≡ true
+
+abbrev pub Says : List ℕ → Written → Type 0
+Says s w = SaysWords (words s) w

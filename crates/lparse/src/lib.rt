@@ -2,14 +2,22 @@
 // and a place, and a book is made of what the text says. Stands on imported, which says what a text
 // means, and on book.
 
+mod answer;
 mod due;
 mod form;
 mod gather;
 mod importer;
+mod named;
 mod numbering;
 mod step;
 mod word;
 
+pub use answer::Imported;
 pub use gather::Collected;
 pub use gather::collect;
+pub use importer::import;
+pub use named::Name;
+pub use named::Whose;
+pub use named::atom_at;
+pub use named::nth_name;
 pub use numbering::number_of;

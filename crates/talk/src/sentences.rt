@@ -88,6 +88,7 @@ fn put_sentence(number: u8, kind: Kind, about: u64, line: &mut [u8], held: usize
     let entry = b"the rules do not follow each other up to the index";
     let record = b"a rule is cut short or has over 16 atoms in a part";
     let room = b"the buffer is shorter than the joined book";
+    let large = b"the book would have over 255 atoms, over 255 rules or over 16 atoms in a part";
     match number {
         1 => put_text(b"the book has under 6 or over 9,441 bytes", line, held),
         2 => put_text(b"the book's last two bytes are not 52 42", line, held),
@@ -98,6 +99,9 @@ fn put_sentence(number: u8, kind: Kind, about: u64, line: &mut [u8], held: usize
         7 => put_text(b"the atoms of a part do not ascend", line, held),
         17 => put_text(b"over 255 atoms or rules together", line, held),
         19 => put_text(room, line, held),
+        30 => put_text(b"the text is not in Lparse's format", line, held),
+        31 => put_text(b"a rule of a type that is not read", line, held),
+        32 => put_text(large, line, held),
         _ => put_paper_sentence(number, kind, about, line, held),
     }
 }

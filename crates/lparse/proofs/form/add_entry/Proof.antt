@@ -1,5 +1,4 @@
 -- An entry of a list adds its rule; an atom that stands elsewhere adds none.
-use mathlib.Core.Path.{ap, sym, _∙_}
 use borrow.Author.Needs.{needs}
 use Rattle.book.proofs.Made.{adds-nil}
 use Rattle.lparse.specs.Forming.{entryRules}

@@ -1,5 +1,5 @@
 -- Behind a word the rule that was open is added where it is whole.
-use mathlib.Core.Path.{_≡_, sym, _∙_}
+use mathlib.Core.Path.{sym, _∙_}
 use borrow.Author.Needs.{needs}
 use borrow.Author.Tests.{not-true, not-false}
 use Rattle.lparse.proofs.Formed.{forms-open, forms-closed}

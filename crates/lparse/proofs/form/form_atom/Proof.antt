@@ -1,6 +1,5 @@
 -- `form_atom` hands each standing to the row of its definition.
-use mathlib.Core.Path.{ap, sym, _∙_}
-use mathlib.Core.List.{List}
+use mathlib.Core.Path.{ap, sym}
 use borrow.Author.Needs.{needs}
 use Rattle.lparse.specs.Forming.{formedBy}
 use Rattle.lparse.proofs.form.form_atom.Statement.{statement}

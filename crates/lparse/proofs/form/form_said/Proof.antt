@@ -1,5 +1,4 @@
 -- A word that says no atom changes nothing; one that says an atom forms the open rule with it, and adds an entry's rule.
-use mathlib.Core.Path.{_≡_, sym, _∙_}
 use native.Mathlib.Omega.{arith}
 use borrow.Author.Needs.{needs}
 use Rattle.lparse.proofs.Formed.{placed-atom, forms-silent, forms-atom}

@@ -1,13 +1,11 @@
 -- The pass over the text: the atoms that stand in the array, and those of the rest, are the atoms of the text.
-use mathlib.Core.Path.{_≡_, refl, ap, sym, _∙_}
-use mathlib.Core.List.{List, []}
+use mathlib.Core.Path.{_≡_, refl, sym, _∙_}
+use mathlib.Core.List.{List}
 use Prim.Native.Nat.{ℕ, _-_, _≤_, _<_}
 use native.Mathlib.Omega.{arith}
-use lib.ListN.{length, take}
+use lib.ListN.{length}
 use borrow.Author.Needs.{needs}
-use Rattle.imported.specs.declared.TextAtom.{TextAtom}
 use Rattle.lparse.specs.Reading.{heardAt, stepAt}
-use Rattle.lparse.specs.Collect.{collectOf, numbersOf, Stands, whole}
 use Rattle.lparse.proofs.Reading.{step-ahead, took-ahead}
 use Rattle.lparse.proofs.Collecting.{stands-long, Gathering, gathering-start, gathering-turn, gather-format, gather-kind, gather-end}
 use Rattle.lparse.proofs.gather.collect.Statement.{statement}

@@ -1,5 +1,5 @@
 -- `at_end` hands each due to the row of its definition.
-use mathlib.Core.Path.{ap, sym, _∙_}
+use mathlib.Core.Path.{ap, sym}
 use borrow.Author.Needs.{needs}
 use Rattle.meaning.proofs.Choice.{b-yes, b-no}
 use Rattle.lparse.specs.Reading.{whole, atEnd}

@@ -1,9 +1,8 @@
 -- `on_digits`: the value that digits say goes to its row; it is at most the largest number.
-use mathlib.Core.Path.{_≡_, ap, sym, _∙_}
+use mathlib.Core.Path.{ap, sym, _∙_}
 use native.Mathlib.Omega.{arith}
 use borrow.Author.Needs.{needs}
 use Rattle.decimal.proofs.Bounds.{value-bound, up-to}
-use Rattle.decimal.specs.declared.Digits.{Digits}
 use Rattle.lparse.specs.Reading.{onValue}
 use Rattle.lparse.proofs.step.on_digits.Statement.{statement}
 use Rattle.lparse.proofs.step.on_digits.Tie as tie

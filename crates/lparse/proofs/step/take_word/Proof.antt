@@ -1,12 +1,7 @@
 -- The next word: there is none, or it starts and ends where its definition says and goes to its row.
-use mathlib.Core.Path.{_≡_, ap, sym, _∙_}
 use Prim.Native.Nat.{_<_}
 use native.Mathlib.Omega.{arith}
-use lib.ListN.{length}
 use borrow.Author.Needs.{needs}
-use Rattle.meaning.proofs.Choice.{lt-yes, lt-no}
-use Rattle.lparse.specs.Reading.{atEnd, stepOf, stepAt}
-use Rattle.lparse.specs.Words.{startOf, endOf, wordAt}
 use Rattle.lparse.proofs.Words.{word-ahead}
 use Rattle.lparse.proofs.Reading.{step-none, step-word}
 use Rattle.lparse.proofs.step.take_word.Statement.{statement}
