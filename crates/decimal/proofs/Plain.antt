@@ -4,10 +4,9 @@
 --   decimal-plain        a word that says a number is the number's digits
 use mathlib.Core.Path.{_≡_, refl, sym, _∙_, ap}
 use mathlib.Core.List.{List, [], _∷_, _++_, append-assoc, append-nil}
-use Prim.Native.Nat.{ℕ, zero, suc, _+_, _*_, _-_, _/_, _%_, _<_, _≤_}
+use Prim.Native.Nat.{ℕ, _+_, _*_, _-_, _/_, _%_, _<_, _≤_}
 use native.Mathlib.Omega.{arith}
-use lib.ListN.{length, getD, length-append}
-use Rattle.meaning.proofs.Choice.{lt-yes, lt-no, eq-yes, eq-no, lt-either, eq-either}
+use Rattle.meaning.proofs.Choice.{lt-no, eq-yes, eq-no, lt-either, eq-either}
 use Rattle.decimal.specs.declared.Digits.{Digits}
 use Rattle.decimal.specs.declared.Digits.the-variants.{Value, Nothing}
 use Rattle.decimal.specs.Digits.{valueFrom, plainOf}
