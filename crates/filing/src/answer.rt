@@ -1,11 +1,12 @@
 // What naming and clearing answer, in one line.
 ghost use Rattle.io.specs.Counts.{Counts};
-use crate::arguments::is_replacing;
+use crate::arguments::is_to_replace;
 use crate::giving_way::gives_way;
 use meaning::Claim;
 use meaning::Kind;
 use saving::look_at;
 use saving::save_file;
+use saving::take_path;
 use talk::PAPER_ROOM;
 use talk::explain;
 use talk::explain_book;
@@ -25,7 +26,7 @@ fn save_at(path: &[u8], book: &[u8], claim: Claim, paper: &[u8]) -> bool {
         return false;
     }
     let n = there.count;
-    if !gives_way(path, book, claim, &old[..n], is_replacing()) {
+    if !gives_way(path, book, claim, &old[..n], is_to_replace()) {
         return false;
     }
     save_file(path, there.is_file, paper)
@@ -34,11 +35,11 @@ fn save_at(path: &[u8], book: &[u8], claim: Claim, paper: &[u8]) -> bool {
 // Saves the paper in the file that the third argument names.
 fn save_paper(book: &[u8], claim: Claim, paper: &[u8]) -> bool {
     let mut path = io::buffer();
-    let n = os::arg(3, &mut path);
-    if os::errno() == libc::ENAMETOOLONG {
-        print(b"bad file: its name is too long\n");
+    let taken = take_path(3, &mut path);
+    if !taken.good {
         return false;
     }
+    let n = taken.count;
     save_at(&path[..n], book, claim, paper)
 }
 

@@ -1,26 +1,20 @@
 // The arguments: BOOKFILE ATOM PAPERFILE [LIMIT] [--replace].
-use check::same;
+use saving::is_replacing;
 use talk::Number;
 use talk::read_number;
 
 // The tries of each walk where no limit is given.
 const LIMIT: u32 = 1000000;
 
-// Whether the last argument, behind the three that must be there, is `--replace`.
-pub fn is_replacing() -> bool {
-    let count = os::arg_count();
-    if count < 5 {
-        return false;
-    }
-    let mut word = [0u8; 16];
-    let n = os::arg(count - 1, &mut word);
-    same(&word[..n], b"--replace")
+// Whether the call says `--replace`, behind the three that must be there.
+pub fn is_to_replace() -> bool {
+    is_replacing(4)
 }
 
 // Whether there are as many arguments as there may be.
 pub fn is_right() -> bool {
     let count = os::arg_count();
-    if is_replacing() {
+    if is_to_replace() {
         return count < 7;
     }
     3 < count && count < 6
@@ -43,7 +37,7 @@ pub fn read_limit() -> Number {
     if count == 4 {
         return Number::Value(LIMIT);
     }
-    if count == 5 && is_replacing() {
+    if count == 5 && is_to_replace() {
         return Number::Value(LIMIT);
     }
     number_argument(4)
