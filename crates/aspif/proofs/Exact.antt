@@ -33,7 +33,7 @@ line-within (q ∷ l) r (List·Memᴰ·head p) = rw p (simp length-append (omega
 line-within (q ∷ l) r (List·Memᴰ·tail m) = simp length-append (omega (arith, line-within l r m))
 
 module _ (b : Book) where
-  text-holds : (length (ruleLines (b .rules)) ≤ length (textOf b)) × (b .atoms ≤ length (textOf b))
+  pub text-holds : (length (ruleLines (b .rules)) ≤ length (textOf b)) × (b .atoms ≤ length (textOf b))
   unfolding textOf
   text-holds = (simp length-append (omega arith), simp length-append (omega (arith, outputs-long 0 (b .atoms))))
 

@@ -19,3 +19,4 @@ pub mod Restored
 pub mod Told
 pub mod Rows
 pub mod RoundTrip
+pub mod Sentences

@@ -34,6 +34,19 @@ fn put_no_reading(kind: Kind, rule: u64, line: &mut [u8], held: usize) -> usize
     }
 }
 
+// What is wrong with a text that came from another solver's side: 34 and 35.
+fn put_text_sentence(number: u8, line: &mut [u8], held: usize) -> usize
+    requires { ⌜ Counts held (now line) ⌝ }
+    ensures { λ r. ⌜ Counts r (now (line .exit)) ⌝ }
+{
+    let size = b"the book would have over 255 atoms, over 255 rules or over 16 atoms in a part";
+    match number {
+        34 => put_text(b"the text is not one that exporting writes", line, held),
+        35 => put_text(size, line, held),
+        _ => held,
+    }
+}
+
 // What is wrong with a paper, or with the call for one of this kind: 9 to 27. `about` is the atom,
 // the rule or the number of tries that the sentence speaks of.
 fn put_paper_sentence(number: u8, kind: Kind, about: u64, line: &mut [u8], held: usize) -> usize
@@ -76,7 +89,7 @@ fn put_paper_sentence(number: u8, kind: Kind, about: u64, line: &mut [u8], held:
         25 => put_text(b"the step's condition does not hold", line, held),
         26 => put_text(gap, line, held),
         27 => put_text(b"the witness is wrong", line, held),
-        _ => held,
+        _ => put_text_sentence(number, line, held),
     }
 }
 
