@@ -1,12 +1,12 @@
 -- From what the code reads and stores to what is answered (src/write.rt): the book is read as good or refused, its text stands in the draft, and
 -- goes to the buffer where there is room.
 use mathlib.Core.Path.{_≡_, refl, sym, _∙_, ap}
-use mathlib.Core.List.{List, [], _∷_, _++_, append-assoc}
+use mathlib.Core.List.{List, _++_, append-assoc}
 use Prim.Native.Nat.{ℕ, _+_, _-_, _<_, _≤_}
-use native.Mathlib.Nat.{zero-add, sub-zero}
+use native.Mathlib.Nat.{sub-zero}
 use native.Mathlib.Omega.{arith}
 use lib.ListN.{length, take, drop, length-append}
-use lib.Seq.{sets, sets-eq, take-at, length-take-le}
+use lib.Seq.{sets-eq, take-at, length-take-le}
 use Rattle.meaning.specs.Books.{Book}
 use Rattle.meaning.specs.Told.{success, refusedAt, refused, Answered}
 use Rattle.meaning.proofs.Choice.{lt-yes, lt-no}

@@ -1,26 +1,24 @@
 -- A part's atoms gathered into a table, one literal after another, and the rules of the text one after another.
 use mathlib.Core.Path.{_≡_, refl, sym, _∙_, ap}
 use mathlib.Core.Bool.{Bool, true, false}
-use mathlib.Core.List.{List, [], _∷_, _++_, append-nil, List·Memᴰ, List·Memᴰ·head, List·Memᴰ·tail, List·Memᴰ·append-cases}
+use mathlib.Core.List.{List, [], _∷_, _++_, List·Memᴰ, List·Memᴰ·head, List·Memᴰ·append-cases}
 use mathlib.Core.List.{List·Memᴰ·eq-of-singleton, Memᴰ·append-left, Memᴰ·append-right}
 use mathlib.Core.Logic.{_⊎_, inl, inr}
-use Prim.Native.Nat.{ℕ, zero, suc, _+_, _-_, max, _<_, _≤_}
-use native.Mathlib.Nat.{add-zero, zero-add, sub-zero}
+use Prim.Native.Nat.{ℕ, zero, suc, _+_, _-_, _<_, _≤_}
+use native.Mathlib.Nat.{zero-add, sub-zero}
 use native.Mathlib.Omega.{arith}
-use lib.Dec.{eqb}
-use lib.ListN.{length, getD, set, replicate, drop, length-append, length-drop, length-set, length-replicate, getD-replicate, List·getD-eq-default}
+use lib.ListN.{length, getD, set, replicate, drop, length-append, length-drop, length-set}
 use lib.Seq.{getD-set-same, getD-set-other}
 use Rattle.meaning.specs.declared.AtomNo.{AtomNo}
 use Rattle.meaning.specs.Sets.{_∈_, ascending}
-use Rattle.meaning.specs.Books.{atomNo, Rule}
-use Rattle.meaning.proofs.Choice.{lt-either, eq-either}
+use Rattle.meaning.specs.Books.{atomNo}
+use Rattle.meaning.proofs.Choice.{eq-either}
 use Rattle.book.specs.Writing.{atomBytes}
 use Rattle.book.specs.Making.{saidOf, listed, ruleBy, SmallPart, SmallRule}
 use Rattle.book.proofs.AtomsFrom.{atoms-of}
-use Rattle.aspif.specs.declared.part.Part.{Part}
 use Rattle.aspif.specs.declared.scan.Number.{Number}
 use Rattle.aspif.specs.declared.scan.Number.the-variants.{Value, Outside}
-use Rattle.aspif.specs.Reading.{Got, got, outside, onGot, itemIn, partIn, wholePart, topAtom}
+use Rattle.aspif.specs.Reading.{itemIn, partIn, wholePart, topAtom}
 use Rattle.aspif.specs.Scanning.{seen, Behind}
 use Rattle.aspif.specs.Gathering.{Held, held, beyond, Rises, PartSeen}
 use Rattle.aspif.proofs.Pieces.{on-got, on-outside, item-back}

@@ -1,6 +1,10 @@
 -- The laws of a book's text.
 pub mod Pieces
-pub mod LinesRead
+pub mod PartsRead
+pub mod RulesRead
+pub mod OutputsRead
+pub mod Largest
+pub mod Exact
 pub mod Onward
 pub mod Turns
 pub mod Scanned
@@ -10,3 +14,9 @@ pub mod Answering
 pub mod Gathered
 pub mod Lined
 pub mod OutputsCounted
+pub mod TextsRead
+pub mod Restored
+pub mod Told
+pub mod Rows
+pub mod RoundTrip
+pub mod Sentences

@@ -5,8 +5,7 @@ use mathlib.Core.List.{List, [], _∷_, _++_}
 use Prim.Native.Nat.{ℕ, suc, _+_, _-_, max, _<_, _≤_}
 use native.Mathlib.Nat.{sub-zero}
 use native.Mathlib.Omega.{arith}
-use lib.ListN.{length, drop, length-append, length-drop}
-use Rattle.meaning.specs.declared.AtomNo.{AtomNo}
+use lib.ListN.{length, drop, length-append}
 use Rattle.meaning.specs.Books.{atomNo, Rule}
 use Rattle.meaning.proofs.Choice.{eq-yes, eq-no}
 use Rattle.book.specs.declared.making.Making.{Making}
@@ -21,16 +20,15 @@ use Rattle.aspif.specs.declared.scan.Number.the-variants.{Outside as NoN
 use Rattle.aspif.specs.declared.rule.Ruled.{Ruled}
 use Rattle.aspif.specs.declared.rule.Ruled.the-variants.{Outside}
 use Rattle.aspif.specs.declared.rule.Ruled.the-variants.{Rule as Added}
-use Rattle.aspif.specs.declared.rules.Rules.{Rules}
-use Rattle.aspif.specs.Text.{opening, normal, plus, minus, lineEnd, outputLine}
-use Rattle.aspif.specs.Reading.{Got, got, outside, onGot, skip, itemIn, wholePart, bodyIn, ruleIn, rulesIn, outputsIn}
-use Rattle.aspif.specs.Reading.{topAtom, topRule, topRules}
-use Rattle.aspif.specs.Scanning.{went, seen, Reaches, Behind}
-use Rattle.aspif.specs.Gathering.{Held, Rises, PartSeen}
+use Rattle.aspif.specs.Text.{opening, normal, plus, minus, lineEnd}
+use Rattle.aspif.specs.Reading.{skip, itemIn, wholePart, bodyIn, ruleIn, rulesIn}
+use Rattle.aspif.specs.Reading.{topRule, topRules}
+use Rattle.aspif.specs.Scanning.{went, seen, Reaches}
+use Rattle.aspif.specs.Gathering.{Rises, PartSeen}
 use Rattle.aspif.specs.Lining.{Lined, lined, other, RulesSeen}
 use Rattle.aspif.proofs.Pieces.{on-got, on-outside, item-back}
 use Rattle.aspif.proofs.Scanned.{behind, reaches}
-use Rattle.aspif.proofs.LinesRead.{part-rises}
+use Rattle.aspif.proofs.PartsRead.{part-rises}
 
 -- ---- a body
 

@@ -1,14 +1,13 @@
 -- The lines of a text as the code stores them: what each loop has left to store, one line less after each turn, and how long a line is, piece
 -- by piece.
-use mathlib.Core.Path.{_≡_, refl, sym, _∙_, ap}
+use mathlib.Core.Path.{_≡_, refl, ap}
 use mathlib.Core.List.{List, [], _∷_, _++_, map, append-assoc}
-use Prim.Native.Nat.{ℕ, zero, suc, _+_, _-_, _<_, _≤_}
+use Prim.Native.Nat.{ℕ, suc, _+_, _-_, _<_, _≤_}
 use native.Mathlib.Numerals.{add-one}
 use native.Mathlib.Omega.{arith}
 use lib.ListN.{length, getD, drop, length-append, length-map, drop-of-length-le}
 use lib.Seq.{drop-cons}
 use Rattle.meaning.specs.declared.AtomNo.{AtomNo}
-use Rattle.meaning.specs.declared.RuleNo.{RuleNo}
 use Rattle.meaning.specs.Books.{atomNo, ruleNo, Rule, Book, rule, count}
 use Rattle.book.specs.Format.{bookIn, ReadAs}
 use Rattle.book.specs.declared.reader.Shape.{Shape}

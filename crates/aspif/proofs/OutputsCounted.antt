@@ -1,19 +1,18 @@
 -- The output lines read one after another: n were read, and what is left is to be read behind them.
-use mathlib.Core.Path.{_≡_, refl, sym, _∙_, ap}
-use mathlib.Core.List.{List, [], _∷_, _++_}
+use mathlib.Core.Path.{_≡_, sym, _∙_, ap}
+use mathlib.Core.List.{List}
 use Prim.Native.Nat.{ℕ, suc, _+_, _-_, _*_, _<_, _≤_}
 use native.Mathlib.Nat.{sub-zero}
 use native.Mathlib.Numerals.{add-one}
 use native.Mathlib.Omega.{arith}
 use lib.ListN.{length, drop, length-append}
 use Rattle.decimal.specs.Fewest.{decimal}
-use Rattle.decimal.proofs.Fewest.{decimal-short, decimal-some}
+use Rattle.decimal.proofs.Fewest.{decimal-short}
 use Rattle.aspif.specs.declared.scan.Went.{Went}
 use Rattle.aspif.specs.declared.scan.Went.the-variants.{To}
 use Rattle.aspif.specs.declared.scan.Went.the-variants.{Outside as NoWay}
-use Rattle.aspif.specs.declared.outputs.Outputs.{Outputs}
 use Rattle.aspif.specs.Text.{outputLine}
-use Rattle.aspif.specs.Reading.{got, outside, skip, outputsIn}
+use Rattle.aspif.specs.Reading.{skip, outputsIn}
 use Rattle.aspif.specs.Scanning.{went, Reaches}
 use Rattle.aspif.specs.Lining.{OutputsSeen}
 use Rattle.aspif.proofs.Pieces.{on-got, on-outside}

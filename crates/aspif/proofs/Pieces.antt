@@ -4,13 +4,13 @@
 --   x-there          what is written is read
 --   x-back           what is read was written
 use mathlib.Core.Path.{_≡_, refl, sym, _∙_, ap}
-use mathlib.Core.List.{List, [], _∷_, _++_, append-assoc}
-use Prim.Native.Nat.{ℕ, zero, suc, _+_, _<_, _≤_}
+use mathlib.Core.List.{List, [], _∷_, _++_}
+use Prim.Native.Nat.{ℕ, suc, _+_, _<_, _≤_}
 use Prim.{Unit, tt}
 use native.Mathlib.Omega.{arith}
 use lib.ListN.{length, take, drop, take-append-drop}
 use lib.Seq.{take-append-seam, drop-append-seam}
-use Rattle.meaning.specs.Choice.{ifLt, ifEq}
+use Rattle.meaning.specs.Choice.{ifLt}
 use Rattle.meaning.proofs.Choice.{lt-yes, lt-no, eq-yes, eq-no, eq-either, lt-either}
 use Rattle.decimal.specs.declared.Digits.{Digits}
 use Rattle.decimal.specs.declared.Digits.the-variants.{Value, Nothing}

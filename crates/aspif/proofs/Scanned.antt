@@ -1,6 +1,6 @@
 -- What the functions that read pieces find on each way through them is what specs/Reading says.
 use mathlib.Core.Path.{_≡_, refl, sym, _∙_, ap}
-use mathlib.Core.List.{List, []}
+use mathlib.Core.List.{List}
 use Prim.Native.Nat.{ℕ, _+_, _-_, _<_, _≤_}
 use native.Mathlib.Omega.{arith}
 use lib.ListN.{length, take, drop}
@@ -16,7 +16,7 @@ use Rattle.aspif.specs.declared.scan.Went.the-variants.{To}
 use Rattle.aspif.specs.declared.scan.Went.the-variants.{Outside as NoWay}
 use Rattle.aspif.specs.declared.scan.Number.{Number}
 use Rattle.aspif.specs.declared.scan.Number.the-variants.{Value, Outside}
-use Rattle.aspif.specs.Reading.{got, outside, onGot, skip, digitCount, numbered, numberIn, itemIn}
+use Rattle.aspif.specs.Reading.{skip, digitCount, numbered, numberIn, itemIn}
 use Rattle.aspif.specs.Scanning.{went, seen, Reaches, reached, nowhere, Behind, value, nothing}
 use Rattle.aspif.proofs.Pieces.{on-got, on-outside}
 

@@ -1,7 +1,7 @@
 -- How long the text of a book is that fits: at most 44,382 bytes. A rule line has at most 6 + 3 + 3 + 2 bytes, 16 positive literals of 4, 16
 -- negative ones of 5 and the line end; an output line is at most `4 4 x254 1 255` and the line end.
 use mathlib.Core.Path.{_≡_, refl}
-use mathlib.Core.List.{List, [], _∷_, _++_, List·Memᴰ, List·Memᴰ·head, List·Memᴰ·tail}
+use mathlib.Core.List.{List, [], _∷_, List·Memᴰ, List·Memᴰ·head, List·Memᴰ·tail}
 use Prim.Native.Nat.{ℕ, zero, suc, _+_, _*_, _<_, _≤_}
 use native.Mathlib.Omega.{arith}
 use lib.ListN.{length, length-append}

@@ -1,14 +1,13 @@
 -- The definitions of specs/Reading as the code goes through them: one turn of each loop and its end.
-use mathlib.Core.Path.{_≡_, refl, sym, _∙_, ap}
-use mathlib.Core.List.{List, [], _∷_}
+use mathlib.Core.Path.{_≡_}
+use mathlib.Core.List.{List}
 use Prim.Native.Nat.{ℕ, suc, _+_, _<_, _≤_}
-use Prim.{Unit, tt}
+use Prim.{tt}
 use native.Mathlib.Numerals.{add-one}
-use native.Mathlib.Omega.{arith}
 use lib.ListN.{length, getD, drop, drop-of-length-le}
 use lib.Seq.{drop-cons}
 use Rattle.meaning.specs.Choice.{ifLt, ifEq}
-use Rattle.aspif.specs.Reading.{Got, got, outside, skip, digitCount}
+use Rattle.aspif.specs.Reading.{got, outside, skip, digitCount}
 
 module _ (w s : List ℕ) (i j : ℕ) where
   pub skip-turn : i < length w → j < length s → skip (drop i w) (drop j s)

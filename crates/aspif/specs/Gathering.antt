@@ -12,7 +12,7 @@ use Rattle.meaning.specs.Sets.{_∈_, ascending}
 use Rattle.book.specs.Writing.{atomBytes}
 use Rattle.book.specs.Making.{saidOf}
 use Rattle.aspif.specs.declared.part.Part.{Part}
-use Rattle.aspif.specs.Reading.{Got, got, wholePart, topAtom}
+use Rattle.aspif.specs.Reading.{got, wholePart, topAtom}
 
 pub data Held (l : List AtomNo) : Bool → List Bool → Type 0 where
   held : {t : List Bool} → length t ≡ 255 → ((a : AtomNo) → List·Memᴰ a l → (a .0 < 255) × (a .0 ∈ saidOf t))

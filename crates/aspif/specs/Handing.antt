@@ -4,7 +4,7 @@
 --   toldText, toldBook   an answer's number and values, case by case
 --   exportOf book out    the answer and the buffer of a writer's call
 --   Restores s out r after   the answer r and the buffer afterwards of a reader's call
-use mathlib.Core.List.{List, [], _∷_, _++_}
+use mathlib.Core.List.{List, _++_}
 use Prim.Native.Nat.{ℕ, _<_, _≤_}
 use lib.ListN.{length, drop}
 use Rattle.meaning.specs.Books.{Book}

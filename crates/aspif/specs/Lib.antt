@@ -5,3 +5,4 @@ pub mod Scanning
 pub mod Handing
 pub mod Gathering
 pub mod Lining
+pub mod Sentences

@@ -1,8 +1,10 @@
-// The words ROOM and BYTES, which several commands take.
+// The words ROOM and BYTES, which several commands take, and bytes that were made, as an answer.
 ghost use Rattle.io.specs.Counts.{Counts};
 use talk::Number;
 use talk::first_word;
 use talk::other_words;
+use talk::put_bytes;
+use talk::put_text;
 use talk::read_bytes;
 use talk::read_number;
 
@@ -42,4 +44,12 @@ pub fn read_given(words: &[u8], bytes: &mut [u8], room: &[u8]) -> Given
         size,
         count: decoded.count,
     }
+}
+
+// A word and the bytes behind it, at the start of out.
+pub fn put_made(word: &[u8], bytes: &[u8], out: &mut [u8]) -> usize
+    ensures { λ r. ⌜ Counts r (now (out .exit)) ⌝ }
+{
+    let held = put_text(word, out, 0);
+    put_bytes(bytes, out, held)
 }

@@ -6,6 +6,8 @@ use crate::paper_check::answer_check;
 use crate::paper_name::answer_name;
 use crate::readings::answer_readings;
 use crate::settled::answer_settled;
+use crate::solver_text::answer_aspif;
+use crate::solver_text::answer_unaspif;
 use crate::table::answer_table;
 use crate::text_import::answer_lparse;
 use crate::two_books::answer_join;
@@ -71,6 +73,12 @@ fn answer_command(
     }
     if same(command, b"lparse") {
         return answer_lparse(words, other, room, out);
+    }
+    if same(command, b"aspif") {
+        return answer_aspif(words, book, room, out);
+    }
+    if same(command, b"unaspif") {
+        return answer_unaspif(words, other, room, out);
     }
     answer_of_book(command, words, book, room, out)
 }

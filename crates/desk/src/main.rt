@@ -16,9 +16,10 @@ mod paper_check;
 mod paper_name;
 mod readings;
 mod settled;
+mod solver_text;
 mod table;
-mod two_books;
 mod text_import;
+mod two_books;
 
 fn main() {
     if os::arg_count() != 1 {

@@ -1,24 +1,20 @@
 // `lparse ROOM TEXT`: the book of a text that the grounder wrote, in a buffer of ROOM bytes. Answers
 // `book BOOK` or `refused NUMBER [PLACE]`.
 ghost use Rattle.io.specs.Counts.{Counts};
+use crate::given::put_made;
 use crate::given::read_given;
 use lparse::Imported;
 use lparse::import;
 use talk::Refused;
 use talk::first_bytes;
-use talk::put_bytes;
 use talk::put_refused;
-use talk::put_text;
 
 // Asks for the book, and puts what is answered at the start of out.
 fn tell_imported(text: &[u8], room: &mut [u8], out: &mut [u8]) -> usize
     ensures { λ r. ⌜ Counts r (now (out .exit)) ⌝ }
 {
     match import(text, room) {
-        Imported::Book(n) => {
-            let held = put_text(b"book ", out, 0);
-            put_bytes(first_bytes(room, n), out, held)
-        }
+        Imported::Book(n) => put_made(b"book ", first_bytes(room, n), out),
         Imported::Format(place) => put_refused(Refused::At(30, place), out, 0),
         Imported::Kind(place) => put_refused(Refused::At(31, place), out, 0),
         Imported::NoFit => put_refused(Refused::Plain(32), out, 0),

@@ -4,6 +4,7 @@
 // `limit L`. Both answer `book1 refused NUMBER PLACE`, `book2 refused NUMBER PLACE` or
 // `refused NUMBER`.
 ghost use Rattle.io.specs.Counts.{Counts};
+use crate::given::put_made;
 use book::Refusal;
 use crews::Joined;
 use crews::Logged;
@@ -14,7 +15,6 @@ use talk::Refused;
 use talk::first_bytes;
 use talk::first_word;
 use talk::other_words;
-use talk::put_bytes;
 use talk::put_number;
 use talk::put_refused;
 use talk::put_text;
@@ -71,14 +71,6 @@ fn read_two(words: &[u8], book: &mut [u8], other: &mut [u8], room: &[u8]) -> Two
     }
 }
 
-// A word and the joined book, at the start of out.
-fn put_book(word: &[u8], book: &[u8], out: &mut [u8]) -> usize
-    ensures { λ r. ⌜ Counts r (now (out .exit)) ⌝ }
-{
-    let held = put_text(word, out, 0);
-    put_bytes(book, out, held)
-}
-
 // Which book is refused, and why, at the start of out.
 fn put_whose(word: &[u8], why: Refusal, out: &mut [u8]) -> usize
     ensures { λ r. ⌜ Counts r (now (out .exit)) ⌝ }
@@ -92,7 +84,7 @@ fn tell_joined<'a>(first: &'a [u8], second: &'a [u8], room: &mut [u8], out: &mut
     ensures { λ r. ⌜ Counts r (now (out .exit)) ⌝ }
 {
     match join(first, second, room) {
-        Joined::Book(n) => put_book(b"book ", first_bytes(room, n), out),
+        Joined::Book(n) => put_made(b"book ", first_bytes(room, n), out),
         Joined::First(why) => put_whose(b"book1 ", why, out),
         Joined::Second(why) => put_whose(b"book2 ", why, out),
         Joined::TooMany => put_refused(Refused::Plain(17), out, 0),
@@ -105,10 +97,10 @@ fn put_logged(answer: Logged, room: &[u8], out: &mut [u8]) -> usize
     ensures { λ r. ⌜ Counts r (now (out .exit)) ⌝ }
 {
     match answer {
-        Logged::Both(n) => put_book(b"both ", first_bytes(room, n), out),
-        Logged::NoneInFirst(n) => put_book(b"none-in-first ", first_bytes(room, n), out),
-        Logged::NoneInSecond(n) => put_book(b"none-in-second ", first_bytes(room, n), out),
-        Logged::NoneInEither(n) => put_book(b"none-in-either ", first_bytes(room, n), out),
+        Logged::Both(n) => put_made(b"both ", first_bytes(room, n), out),
+        Logged::NoneInFirst(n) => put_made(b"none-in-first ", first_bytes(room, n), out),
+        Logged::NoneInSecond(n) => put_made(b"none-in-second ", first_bytes(room, n), out),
+        Logged::NoneInEither(n) => put_made(b"none-in-either ", first_bytes(room, n), out),
         Logged::Stopped(tries) => {
             let held = put_text(b"limit ", out, 0);
             put_number(tries as u64, out, held)

@@ -34,6 +34,22 @@ fn put_no_reading(kind: Kind, rule: u64, line: &mut [u8], held: usize) -> usize
     }
 }
 
+// What is wrong with a text that a grounder wrote, or one for other solvers: 30 to 35.
+fn put_text_sentence(number: u8, line: &mut [u8], held: usize) -> usize
+    requires { ⌜ Counts held (now line) ⌝ }
+    ensures { λ r. ⌜ Counts r (now (line .exit)) ⌝ }
+{
+    let size = b"the book would have over 255 atoms, over 255 rules or over 16 atoms in a part";
+    match number {
+        30 => put_text(b"the text is not in Lparse's format", line, held),
+        31 => put_text(b"a rule of a type that is not read", line, held),
+        32 => put_text(size, line, held),
+        34 => put_text(b"the text is not one that exporting writes", line, held),
+        35 => put_text(size, line, held),
+        _ => held,
+    }
+}
+
 // What is wrong with a paper, or with the call for one of this kind: 9 to 27. `about` is the atom,
 // the rule or the number of tries that the sentence speaks of.
 fn put_paper_sentence(number: u8, kind: Kind, about: u64, line: &mut [u8], held: usize) -> usize
@@ -76,7 +92,7 @@ fn put_paper_sentence(number: u8, kind: Kind, about: u64, line: &mut [u8], held:
         25 => put_text(b"the step's condition does not hold", line, held),
         26 => put_text(gap, line, held),
         27 => put_text(b"the witness is wrong", line, held),
-        _ => held,
+        _ => put_text_sentence(number, line, held),
     }
 }
 
@@ -88,7 +104,6 @@ fn put_sentence(number: u8, kind: Kind, about: u64, line: &mut [u8], held: usize
     let entry = b"the rules do not follow each other up to the index";
     let record = b"a rule is cut short or has over 16 atoms in a part";
     let room = b"the buffer is shorter than the joined book";
-    let large = b"the book would have over 255 atoms, over 255 rules or over 16 atoms in a part";
     match number {
         1 => put_text(b"the book has under 6 or over 9,441 bytes", line, held),
         2 => put_text(b"the book's last two bytes are not 52 42", line, held),
@@ -99,9 +114,6 @@ fn put_sentence(number: u8, kind: Kind, about: u64, line: &mut [u8], held: usize
         7 => put_text(b"the atoms of a part do not ascend", line, held),
         17 => put_text(b"over 255 atoms or rules together", line, held),
         19 => put_text(room, line, held),
-        30 => put_text(b"the text is not in Lparse's format", line, held),
-        31 => put_text(b"a rule of a type that is not read", line, held),
-        32 => put_text(large, line, held),
         _ => put_paper_sentence(number, kind, about, line, held),
     }
 }

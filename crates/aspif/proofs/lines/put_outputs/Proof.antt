@@ -1,8 +1,7 @@
 -- `put_outputs` stores line by line.
-use Prim.Native.Nat.{_+_, _-_, _≤_}
+use Prim.Native.Nat.{_-_, _≤_}
 use native.Mathlib.Nat.{sub-zero}
 use native.Mathlib.Omega.{arith}
-use lib.ListN.{length}
 use borrow.Author.Needs.{needs}
 use Rattle.aspif.specs.Text.{outputLines}
 use Rattle.aspif.proofs.Onward.{Onward, onward-start}

@@ -1,7 +1,7 @@
 -- `put_rules` stores line by line.
 use Prim.Native.Nat.{_-_, _≤_}
 use native.Mathlib.Omega.{arith}
-use lib.ListN.{length, drop}
+use lib.ListN.{drop}
 use borrow.Author.Needs.{needs}
 use Rattle.book.specs.Format.{bookIn}
 use Rattle.aspif.specs.Text.{ruleLines}

@@ -1,6 +1,5 @@
 -- `read_number` reads the digits that stand there.
 use borrow.Author.Needs.{needs}
-use Rattle.aspif.specs.Scanning.{seen}
 use Rattle.aspif.proofs.Scanned.{number-value, number-nothing}
 use Rattle.aspif.proofs.scan.read_number.Statement.{statement}
 use Rattle.aspif.proofs.scan.read_number.Tie as tie

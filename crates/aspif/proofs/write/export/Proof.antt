@@ -1,5 +1,4 @@
 -- `export` reads the book, and hands its text over.
-use mathlib.Core.Path.{sym, _∙_}
 use mathlib.Core.List.{[]}
 use native.Mathlib.Omega.{arith}
 use borrow.Author.Needs.{needs}

@@ -1,37 +1,22 @@
--- The lines of a text, written and then read, and read and then written. Reading takes as many literals or lines as there are: what follows
--- them is none.
+-- The rule lines of a text, written and then read, and read and then written. Reading takes as many lines as there are: what follows them is
+-- none.
 --
---   Climbs least l   each atom's number there is greater than the one before it, the first at least `least`
 --   RuleWithin most r   every number of the rule's line is at most `most`
 use mathlib.Core.Path.{_≡_, refl, sym, _∙_, ap, subst}
 use mathlib.Core.List.{List, [], _∷_, _++_, append-assoc, append-nil, List·Memᴰ, List·Memᴰ·head, List·Memᴰ·tail}
 use Prim.Native.Nat.{ℕ, zero, suc, _+_, _-_, _<_, _≤_}
-use Prim.{Unit, tt}
-use native.Mathlib.Nat.{add-zero, zero-add, add-suc, suc-add}
-use native.Mathlib.Numerals.{add-one}
+use Prim.{tt}
 use native.Mathlib.Omega.{arith}
 use lib.ListN.{length, length-append}
 use Rattle.meaning.specs.declared.AtomNo.{AtomNo}
-use Rattle.meaning.specs.Books.{atomNo, Rule, Book}
+use Rattle.meaning.specs.Books.{atomNo, Rule}
 use Rattle.meaning.specs.Choice.{ifEq}
-use Rattle.meaning.proofs.Choice.{eq-yes, eq-no, eq-either}
-use Rattle.meaning.specs.Sets.{ascending}
-use Rattle.meaning.proofs.Tests.{both}
-use borrow.Author.Tests.{lt-ltb}
-use mathlib.Core.Bool.{true}
-use Rattle.book.specs.Writing.{atomBytes}
+use Rattle.meaning.proofs.Choice.{eq-yes, eq-either}
 use Rattle.decimal.specs.Fewest.{decimal}
-use Rattle.aspif.specs.Text.{opening, normal, plus, minus, lineEnd, partBytes, bodyBytes, ruleLine, ruleLines, outputLine, outputLines}
-use Rattle.aspif.specs.Reading.{Got, got, outside, onGot, skip, digitCount, itemIn, partIn, wholePart, bodyIn, ruleIn, rulesIn, outputsIn}
+use Rattle.aspif.specs.Text.{opening, normal, plus, minus, lineEnd, partBytes, bodyBytes, ruleLine, ruleLines}
+use Rattle.aspif.specs.Reading.{Got, got, outside, onGot, skip, digitCount, itemIn, wholePart, bodyIn, ruleIn, rulesIn}
 use Rattle.aspif.proofs.Pieces.{not-got, on-got, on-outside, then-got, skip-there, skip-back, skip-other, no-digit, item-there, item-back, item-none, item-other}
-
-pub data Climbs : ℕ → List AtomNo → Type 0 where
-  none : {least : ℕ} → Climbs least []
-  more : {least : ℕ} {a : AtomNo} {l : List AtomNo} → least ≤ a .0 + 1 → Climbs (a .0 + 1 + 1) l → Climbs least (a ∷ l)
-
--- every number of the part is at most `most`
-pub record PartWithin (most : ℕ) (l : List AtomNo) : Type 0 where
-  pub each : (a : AtomNo) → List·Memᴰ a l → a .0 + 1 ≤ most
+use Rattle.aspif.proofs.PartsRead.{Climbs, PartWithin, Sign, part-ends, part-there, part-short, PartRead, part-back}
 
 pub record RuleWithin (most : ℕ) (r : Rule) : Type 0 where
   pub head : r .head .0 + 1 ≤ most
@@ -40,70 +25,6 @@ pub record RuleWithin (most : ℕ) (r : Rule) : Type 0 where
   pub neg : PartWithin most (r .neg)
   pub pos-climbs : Climbs 1 (r .pos)
   pub neg-climbs : Climbs 1 (r .neg)
-
--- ---- a part
-
--- a sign is no digit: a number that a part follows ends there
-record Sign (sign : List ℕ) : Type 0 where
-  ends : (l : List ℕ) → digitCount (sign ++ l) ≡ 0
-
-part-ends : (sign : List ℕ) → Sign sign → (l : List AtomNo) (r : List ℕ) → digitCount r ≡ 0 → digitCount (partBytes sign l ++ r) ≡ 0
-unfolding partBytes
-part-ends sign s [] r e = e
-part-ends sign s (a ∷ l) r e = rw append-assoc (s .ends _)
-
-module _ (most : ℕ) (sign : List ℕ) (s : Sign sign) (r : List ℕ) (stops : (least : ℕ) → itemIn most sign least r ≡ outside)
-    (ends : digitCount r ≡ 0) where
-  part-there : (f : ℕ) (l acc : List AtomNo) (least : ℕ) → length l < f → Climbs least l → PartWithin most l
-      → partIn f most sign acc least (partBytes sign l ++ r) ≡ got (acc ++ l) r
-  unfolding partIn partBytes
-  part-there zero l acc least h c w = absurd (omega arith)
-  part-there (suc f) [] acc least h c w = on-outside _ _ (stops least) ∙ rw append-nil
-  part-there (suc f) (a ∷ l) acc least h (more g c) w =
-      let e : a .0 + 1 - 1 ≡ a .0 = omega arith in
-      rw (append-assoc, append-assoc)
-      (on-got _ _ (item-there most sign least (a .0 + 1) (partBytes sign l ++ r) g (w .each a (List·Memᴰ·head refl)) (part-ends sign s l r ends))
-      ∙ rw e (part-there f l (acc ++ (a ∷ [])) (a .0 + 1 + 1) (omega arith) c (record { each = λ b m. w .each b (List·Memᴰ·tail m) })
-      ∙ rw append-assoc))
-
--- a text is longer than the literals in it are many
-part-long : (x : ℕ) (m : List ℕ) (l : List AtomNo) → length l ≤ length (partBytes (x ∷ m) l)
-unfolding partBytes
-part-long x m [] = omega arith
-part-long x m (a ∷ l) = simp length-append (omega (arith, part-long x m l))
-
-part-short : (x : ℕ) (m : List ℕ) (l : List AtomNo) (r : List ℕ) → length l < suc (length (partBytes (x ∷ m) l ++ r))
-part-short x m l r = simp length-append (omega (arith, part-long x m l))
-
--- what was read behind acc
-record PartRead (sign : List ℕ) (acc : List AtomNo) (least : ℕ) (l : List ℕ) (x : List AtomNo) (r : List ℕ) : Type 0 where
-  part : List AtomNo
-  whole : x ≡ acc ++ part
-  climbs : Climbs least part
-  bytes : l ≡ partBytes sign part ++ r
-
-module _ (most : ℕ) (sign : List ℕ) where
-  part-back : (f : ℕ) (acc : List AtomNo) (least : ℕ) (l : List ℕ) (x : List AtomNo) (r : List ℕ) → 0 < least
-      → partIn f most sign acc least l ≡ got x r → PartRead sign acc least l x r
-  unfolding onGot partIn partBytes
-  part-back zero acc least l x r p e = record { part = []; whole = cc (append-nil acc); climbs = none; bytes = cc }
-  part-back (suc f) acc least l x r p e =
-      by-item (λ a n k. part-back f a n k x r) (itemIn most sign least l) refl e
-    where
-      by-item : ((a : List AtomNo) (n : ℕ) (k : List ℕ) → 0 < n → partIn f most sign a n k ≡ got x r → PartRead sign a n k x r)
-          → (z : Got ℕ) → itemIn most sign least l ≡ z
-          → onGot z (got acc l) (λ v r. partIn f most sign (acc ++ (atomNo (v - 1) ∷ [])) (v + 1) r) ≡ got x r → PartRead sign acc least l x r
-      by-item below outside i e = record { part = []; whole = cc (append-nil acc); climbs = none; bytes = cc }
-      by-item below (got v k) i e =
-          let (b, h) = item-back most sign least l k v i in
-          let t = below (acc ++ (atomNo (v - 1) ∷ [])) (v + 1) k (omega arith) e in
-          let g : v - 1 + 1 ≡ v = omega arith in
-          record {
-            part = atomNo (v - 1) ∷ t .part;
-            whole = t .whole ∙ append-assoc acc (atomNo (v - 1) ∷ []) (t .part);
-            climbs = more {least = least} {a = atomNo (v - 1)} {l = t .part} (rw g h) (rw g (t .climbs));
-            bytes = b ∙ rw (append-assoc, append-assoc, g) (ap (λ j. sign ++ (decimal v ++ j)) (t .bytes));
-          }
 
 -- ---- a rule line
 
@@ -219,7 +140,7 @@ module _ (most : ℕ) where
 
 -- ---- all rule lines
 
-lines-long : (l : List Rule) → length l ≤ length (ruleLines l)
+pub lines-long : (l : List Rule) → length l ≤ length (ruleLines l)
 unfolding ruleLines ruleLine
 lines-long [] = omega arith
 lines-long (r ∷ l) = simp length-append (omega (arith, lines-long l))
@@ -269,51 +190,3 @@ rules-back most (suc f) acc l x rest e = by-rule (λ a k. rules-back most f a k 
           climb = climb-more r (t .rules) (p, n) (t .climb);
           bytes = b ∙ rw append-assoc (ap (λ j. ruleLine r ++ j) (t .bytes));
         }
-
--- ---- the output lines
-
-outputs-long : (k n : ℕ) → n ≤ length (outputLines k n)
-unfolding outputLines outputLine
-outputs-long k zero = omega arith
-outputs-long k (suc n) = simp length-append (omega (arith, outputs-long (suc k) n))
-
-module _ (rest : List ℕ) (stops : (k : ℕ) → skip (outputLine k) rest ≡ outside) where
-  outputs-on : (f k n : ℕ) → n < f → outputsIn f k (outputLines k n ++ rest) ≡ got (k + n) rest
-  unfolding outputsIn outputLines
-  outputs-on zero k n h = absurd (omega arith)
-  outputs-on (suc f) k zero h = on-outside _ _ (stops k) ∙ rw add-zero
-  outputs-on (suc f) k (suc n) h =
-      rw append-assoc (on-got _ _ (skip-there (outputLine k) (outputLines (suc k) n ++ rest)) ∙ outputs-on f (suc k) n (omega arith)
-      ∙ rw (add-suc, suc-add))
-
-  pub outputs-there : (n : ℕ) → outputsIn (suc (length (outputLines 0 n ++ rest))) 0 (outputLines 0 n ++ rest) ≡ got n rest
-  outputs-there n = outputs-on _ 0 n (simp length-append (omega (arith, outputs-long 0 n))) ∙ rw zero-add
-
-pub outputs-back : (f k : ℕ) (l : List ℕ) (x : ℕ) (rest : List ℕ) → outputsIn f k l ≡ got x rest
-    → (k ≤ x) × (l ≡ outputLines k (x - k) ++ rest)
-unfolding onGot outputsIn outputLines
-outputs-back zero k l x rest e =
-    let h : k ≡ x = cc in let g : x - k ≡ 0 = omega arith in (omega arith, rw g cc)
-outputs-back (suc f) k l x rest e = by-line (outputs-back f (suc k)) (skip (outputLine k) l) refl e
-  where
-    by-line : ((j : List ℕ) (y : ℕ) (r : List ℕ) → outputsIn f (suc k) j ≡ got y r → (suc k ≤ y) × (j ≡ outputLines (suc k) (y - suc k) ++ r))
-        → (z : Got (Unit {0})) → skip (outputLine k) l ≡ z → onGot z (got k l) (λ u j. outputsIn f (suc k) j) ≡ got x rest
-        → (k ≤ x) × (l ≡ outputLines k (x - k) ++ rest)
-    by-line below outside i e = let h : k ≡ x = cc in let g : x - k ≡ 0 = omega arith in (omega arith, rw g cc)
-    by-line below (got u j) i e =
-        let (h, b) = below j x rest e in
-        let g : x - k ≡ suc (x - suc k) = omega arith in
-        (omega arith, skip-back (outputLine k) l j u i ∙ rw (g, append-assoc) (ap (λ m. outputLine k ++ m) b))
-
--- ---- parts ascend
-
--- the first of a climbing list is at least so much
-pub climbs-rise : {least : ℕ} {l : List AtomNo} → Climbs least l → ascending (atomBytes l) ≡ true
-unfolding ascending
-climbs-rise none = refl
-climbs-rise (more h none) = refl
-climbs-rise (more {a = a} h (more {a = b} g c)) = both (lt-ltb (a .0) (b .0) (omega arith)) (climbs-rise (more {a = b} g c))
-
-pub part-rises : (most : ℕ) (sign : List ℕ) (f : ℕ) (l : List ℕ) (x : List AtomNo) (r : List ℕ) → partIn f most sign [] 1 l ≡ got x r
-    → ascending (atomBytes x) ≡ true
-part-rises most sign f l x r e = let b = part-back most sign f [] 1 l x r (omega arith) e in rw (b .whole) (climbs-rise (b .climbs))
