@@ -8,28 +8,27 @@ use Prim.Native.Nat.{ℕ, _≤_, _<_}
 use native.Mathlib.Nat.{zero-add}
 use native.Mathlib.Omega.{arith}
 use lib.Dec.{ltb}
-use lib.ListN.{length, length-replicate, getD}
+use lib.ListN.{length-replicate}
 use lib.Seq.{ext-getD}
 use borrow.Author.Tests.{not-true, le-ltb, lt-ltb}
 use Rattle.meaning.specs.declared.RuleNo.{RuleNo}
 use Rattle.meaning.specs.Sets.{_∈_, _∉_}
 use Rattle.meaning.specs.Books.{Rules, Book, ruleNo, count, InBook}
-use Rattle.meaning.specs.Colours.{Pair, Within, Closed, Closing}
+use Rattle.meaning.specs.Colours.{Pair, Closed, Closing}
 use Rattle.meaning.specs.Bits.{below, less, tableFrom, listed}
 use Rattle.meaning.specs.Written.{Tables, of, coloured, stampFrom, lent, pair}
 use Rattle.meaning.specs.Lowest.{Pick, lowestFrom, lowest, inBoth, clashed}
 use Rattle.meaning.specs.Computed.{support, newly, newLevels, close}
 use Rattle.meaning.specs.Propagation.{Propagated, Propagation, propagate}
-use Rattle.meaning.specs.Pending.{joined}
 use Rattle.meaning.proofs.Tests.{both, and-left, and-right, either, or-left, or-right, true-and-false, refuted, decided, not-first}
-use Rattle.meaning.proofs.Rules.{within-both, within-on, some-rule-by, some-rule-one}
-use Rattle.meaning.proofs.RulesIn.{rules-more, rules-fewer}
+use Rattle.meaning.proofs.Rules.{some-rule-by, some-rule-one}
+use Rattle.meaning.proofs.RulesIn.{rules-fewer}
 use Rattle.meaning.proofs.Written.{Sized}
 use Rattle.meaning.proofs.Stamps.{length-stamp}
 use Rattle.meaning.proofs.Support.{support-is, length-support}
 use Rattle.meaning.proofs.Listed.{listed-long, table-long, table-at}
 use Rattle.meaning.proofs.Additions.{Reached, reached-start}
-use Rattle.meaning.proofs.Propagation.{reached-propagation, reached-unsupported, reached-propagated, propagated-closed}
+use Rattle.meaning.proofs.Propagation.{reached-propagation, reached-unsupported, reached-propagated}
 use Rattle.meaning.proofs.Propagate.{propagate-is, propagate-untouched}
 use Rattle.meaning.proofs.Remaining.{remaining, remaining-more}
 use Rattle.meaning.proofs.ClosedMarks.{closed-support}

@@ -6,12 +6,11 @@ use Prim.Native.Nat.{ℕ}
 use lib.Dec.{ltb}
 use borrow.Author.Tests.{ltb-true}
 use Rattle.meaning.specs.declared.RuleNo.{RuleNo}
-use Rattle.meaning.specs.Sets.{Set, _∈_, _∉_, everyBelow}
-use Rattle.meaning.specs.Books.{Rules, Book, ruleNo, count, someRule}
+use Rattle.meaning.specs.Sets.{Set, everyBelow}
+use Rattle.meaning.specs.Books.{Book, ruleNo, count}
 use Rattle.meaning.specs.Bits.{none, below, plus, less, implied, members, listed}
 use Rattle.meaning.specs.Written.{of}
 use Rattle.meaning.specs.Computed.{support}
-use Rattle.meaning.specs.Pending.{joined}
 use Rattle.meaning.proofs.Tests.{and-left, true-and-false, refuted}
 use Rattle.meaning.proofs.Rules.{some-rule-by, some-rule-one}
 use Rattle.closing.specs.Dropped.{unheld, Dropped}

@@ -1,5 +1,5 @@
 -- Atoms noted in a set, and the heads of rules noted one after the other (src/propagation.rt).
-use mathlib.Core.Path.{_≡_, refl, sym, ap, _∙_, fun-ext}
+use mathlib.Core.Path.{_≡_, sym, ap, _∙_, fun-ext}
 use mathlib.Core.Logic.{⊎-elim}
 use mathlib.Core.Bool.{Bool, true, false, _&&_, _||_, or-false}
 use mathlib.Core.List.{List, [], _∷_}
@@ -11,12 +11,12 @@ use lib.ListN.{set, replicate}
 use borrow.Author.Tests.{ltb-true, lt-ltb, le-ltb}
 use Rattle.meaning.specs.declared.AtomNo.{AtomNo}
 use Rattle.meaning.specs.declared.RuleNo.{RuleNo}
-use Rattle.meaning.specs.Sets.{Set, _∈_, _∉_}
+use Rattle.meaning.specs.Sets.{Set, _∈_}
 use Rattle.meaning.specs.Books.{Atoms, Rules, Book, atomNo, ruleNo, sameAtom, among, rule, count, InBook}
 use Rattle.meaning.specs.Colours.{heads, plus}
-use Rattle.meaning.specs.Bits.{none, members, listed, NextIn}
+use Rattle.meaning.specs.Bits.{members, listed, NextIn}
 use Rattle.meaning.specs.Written.{of}
-use Rattle.meaning.proofs.Tests.{both, and-left, and-right, either, or-left, or-right, same, true-and-false, refuted, not-first, not-second}
+use Rattle.meaning.proofs.Tests.{both, and-left, and-right, either, or-left, or-right, same, true-and-false, refuted, not-first}
 use Rattle.meaning.proofs.Rules.{same-atom, atom-same, among-one, one-among, heads-of, heads-by, heads-mono}
 use Rattle.meaning.proofs.Written.{of-set}
 use Rattle.meaning.proofs.Four.{members-nothing}

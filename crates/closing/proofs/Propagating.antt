@@ -13,16 +13,16 @@ use Rattle.meaning.specs.declared.AtomNo.{AtomNo}
 use Rattle.meaning.specs.declared.RuleNo.{RuleNo}
 use Rattle.meaning.specs.Sets.{Set, _∈_, _∉_, everyBelow, someBelow}
 use Rattle.meaning.specs.Books.{Atoms, Rules, Book, atomNo, count, InBook}
-use Rattle.meaning.specs.Colours.{Pair, heads, allIn, Within}
+use Rattle.meaning.specs.Colours.{Pair}
 use Rattle.meaning.specs.Bits.{none, below, implied, members, listed}
-use Rattle.meaning.specs.Written.{Tables, of, coloured, lent, pair}
+use Rattle.meaning.specs.Written.{Tables, of, coloured, lent}
 use Rattle.meaning.specs.Propagation.{propagate}
-use Rattle.meaning.specs.Pending.{Forced, Pending, noAtoms, hit, called, joined, dropped, newlyLost}
-use Rattle.meaning.proofs.Tests.{both, and-left, and-right, or-left, true-and-false, refuted, implies, decided}
+use Rattle.meaning.specs.Pending.{Forced, Pending, noAtoms, hit, dropped, newlyLost}
+use Rattle.meaning.proofs.Tests.{both, and-right, or-left, true-and-false, refuted, implies, decided}
 use Rattle.meaning.proofs.Tests.{implied as implied-by}
 use Rattle.meaning.proofs.Sets.{below-at, below-all, below-some, below-one}
-use Rattle.meaning.proofs.Rules.{within-both, in-book-or-not}
-use Rattle.meaning.proofs.Written.{Sized, Untouched}
+use Rattle.meaning.proofs.Rules.{within-both}
+use Rattle.meaning.proofs.Written.{Sized}
 use Rattle.meaning.proofs.Four.{members-small}
 use Rattle.meaning.proofs.Listed.{listed-long}
 use Rattle.meaning.proofs.Propagation.{forced-start}
@@ -32,7 +32,7 @@ use Rattle.meaning.proofs.Remaining.{remaining, remaining-more, remaining-on, r
 use Rattle.book.specs.declared.reader.Shape.{Shape}
 use Rattle.book.specs.Format.{bookIn, ReadAs}
 use Rattle.book.specs.RuleRows.{headedBy, lostBy, RuleRows}
-use Rattle.book.proofs.Places.{rule-keeps, in-shape, shape-count}
+use Rattle.book.proofs.Places.{rule-keeps, in-shape}
 use Rattle.book.proofs.RuleRows.{headed-by, lost-by}
 use Rattle.closing.specs.News.{atomSet, Fallen, Raised}
 use Rattle.closing.proofs.Falling.{at-rule}

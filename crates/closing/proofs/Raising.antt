@@ -2,24 +2,24 @@
 -- could not go on then; if it may now, one of its positive atoms has become true since, and is new.
 use mathlib.Core.Path.{_≡_, refl, sym, ap, ap₂, subst, fun-ext, _∙_}
 use mathlib.Core.Logic.{_⊎_, inl, inr, ⊎-elim}
-use mathlib.Core.Bool.{Bool, true, false, not, _&&_, _||_, or-false}
+use mathlib.Core.Bool.{Bool, true, not, _&&_, _||_, or-false}
 use mathlib.Core.List.{List, [], _∷_}
 use Prim.Native.Nat.{ℕ, _+_, _≤_, _<_}
 use native.Mathlib.Decide.{ℕ-discrete, decLt}
 use native.Mathlib.Omega.{arith}
 use lib.Dec.{ltb}
 use lib.ListN.{set}
-use borrow.Author.Tests.{not-true, ltb-false, lt-ltb, le-ltb}
+use borrow.Author.Tests.{not-true, lt-ltb, le-ltb}
 use Rattle.meaning.specs.declared.AtomNo.{AtomNo}
 use Rattle.meaning.specs.declared.RuleNo.{RuleNo}
-use Rattle.meaning.specs.Sets.{Set, _∈_, _∉_}
-use Rattle.meaning.specs.Books.{Atoms, Rules, Book, ruleNo, sameAtom, among, rule, count, InBook}
-use Rattle.meaning.specs.Colours.{Pair, onSide, put, plus, heads, mayOn}
+use Rattle.meaning.specs.Sets.{_∈_, _∉_}
+use Rattle.meaning.specs.Books.{Atoms, Rules, Book, ruleNo, sameAtom, rule, count, InBook}
+use Rattle.meaning.specs.Colours.{put, plus, heads, mayOn}
 use Rattle.meaning.specs.Bits.{less as less-in, members, listed, NextIn}
 use Rattle.meaning.specs.Written.{of}
-use Rattle.meaning.specs.Pending.{Forced, Pending, newlyTrue}
+use Rattle.meaning.specs.Pending.{newlyTrue}
 use Rattle.meaning.proofs.Tests.{both, and-left, and-right, either, or-left, decided, true-and-false, refuted, absent}
-use Rattle.meaning.proofs.Rules.{same-rule, among-one, heads-mono}
+use Rattle.meaning.proofs.Rules.{among-one, heads-mono}
 use Rattle.meaning.proofs.Written.{of-set}
 use Rattle.meaning.proofs.Listed.{listed-long}
 use Rattle.meaning.proofs.Propagation.{forced-on}

@@ -13,8 +13,8 @@ use lib.ListN.{length, getD}
 use borrow.Author.Tests.{lt-ltb}
 use Rattle.meaning.specs.declared.AtomNo.{AtomNo}
 use Rattle.meaning.specs.declared.RuleNo.{RuleNo}
-use Rattle.meaning.specs.Sets.{Set, _∈_, some}
-use Rattle.meaning.specs.Books.{Atoms, Rule, Book, atomNo, sameAtom, rule, count, InBook}
+use Rattle.meaning.specs.Sets.{Set, some}
+use Rattle.meaning.specs.Books.{Rule, Book, atomNo, sameAtom, rule, count, InBook}
 use Rattle.meaning.specs.Bits.{plus, members, NextIn}
 use Rattle.meaning.proofs.Tests.{both, and-left, and-right, either, or-left, or-right, same, true-and-false, refuted}
 use Rattle.meaning.proofs.Sets.{some-one, some-by, below-some, below-one}

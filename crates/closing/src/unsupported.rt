@@ -1,5 +1,4 @@
 // The rules that nothing holds up go off.
-ghost use mathlib.Core.Path.{_≡_};
 ghost use Rattle.meaning.specs.Bits.{listed};
 ghost use Rattle.meaning.specs.Written.{of};
 ghost use Rattle.book.specs.Format.{bookIn, ReadAs};

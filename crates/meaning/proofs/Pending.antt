@@ -4,7 +4,7 @@
 -- Step 1 is pending-drop with forced-drop; step 2, for each candidate, is pending-looked-on with forced-on, or pending-looked-past.
 use mathlib.Core.Path.{_≡_, refl, ap}
 use mathlib.Core.Logic.{_⊎_, inr, ⊎-elim, ⊎-map}
-use mathlib.Core.Bool.{true, false, not, _&&_, _||_}
+use mathlib.Core.Bool.{true, false, not, _||_}
 use mathlib.Core.List.{[], _∷_, List·Memᴰ}
 use borrow.Author.Tests.{not-true}
 use Rattle.meaning.specs.declared.AtomNo.{AtomNo}

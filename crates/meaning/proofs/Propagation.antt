@@ -9,7 +9,7 @@ use Rattle.meaning.specs.Sets.{_∈_, _∉_}
 use Rattle.meaning.specs.Books.{Rules, Book, InBook}
 use Rattle.meaning.specs.Colours.{Pair, Side, onSide, side, put, mayOn, blocked, starved, Under, Support}
 use Rattle.meaning.specs.Colours.{Closed, Within, ClosedAbove, Closing}
-use Rattle.meaning.specs.Propagation.{Propagated, PropagatedAbove, Propagation}
+use Rattle.meaning.specs.Propagation.{Propagated, Propagation}
 use Rattle.meaning.specs.Pending.{Forced}
 use Rattle.meaning.proofs.Tests.{absent, same}
 use Rattle.meaning.proofs.Least.{smallest-mono, smallest-unique, smallest-same, reached-smallest}

@@ -1,7 +1,6 @@
 -- The two searches, one after the other: the second decides where the first holds. The atoms of a good book are bytes, so the rows answer
 -- for each.
 use mathlib.Core.Path.{_≡_, sym, _∙_}
-use mathlib.Core.Bool.{Bool}
 use Prim.Native.Nat.{_<_}
 use borrow.Author.Needs.{needs}
 use borrow.Author.Tests.{not-true, not-false}

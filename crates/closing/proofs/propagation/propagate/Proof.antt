@@ -1,10 +1,7 @@
 -- The invariant: what is reached lies within every propagated pair above the start, and what is pending is in the three sets
 -- (Propagating). A turn that goes on has added a rule.
-use mathlib.Core.Path.{_≡_, ap, _∙_}
-use Prim.Native.Nat.{ℕ, _≤_}
 use native.Mathlib.Omega.{arith}
 use borrow.Author.Needs.{needs}
-use Rattle.meaning.specs.Books.{Book, count}
 use Rattle.meaning.specs.Colours.{Pair}
 use Rattle.meaning.specs.Bits.{listed}
 use Rattle.meaning.specs.Written.{of, lent}

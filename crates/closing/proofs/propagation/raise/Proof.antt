@@ -1,5 +1,4 @@
 -- The candidates below the one at which the search stands have had their look.
-use mathlib.Core.Path.{_≡_}
 use Prim.Native.Nat.{ℕ, _-_}
 use native.Mathlib.Omega.{arith}
 use lib.ListN.{replicate}

@@ -1,11 +1,10 @@
 -- The rules of the book that are neither marked nor off go off.
-use mathlib.Core.Path.{ap, ap₂, _∙_}
+use mathlib.Core.Path.{ap, _∙_}
 use mathlib.Core.List.{List}
 use Prim.Native.Nat.{ℕ}
 use borrow.Author.Needs.{needs}
 use Rattle.meaning.specs.Bits.{less, members}
 use Rattle.book.proofs.Places.{shape-count}
-use Rattle.meaning.specs.Sets.{Set}
 use Rattle.closing.proofs.Dropping.{dropped-none, dropped-some}
 use Rattle.closing.proofs.unsupported.drop_unsupported.Statement.{statement}
 use Rattle.closing.proofs.unsupported.drop_unsupported.Tie as tie
