@@ -18,6 +18,8 @@ use Rattle.meaning.proofs.Choice.{lt-yes, lt-no, lt-either, b-yes, b-no, b-eith
 use Rattle.book.specs.Writing.{Fits, bytesOfBook}
 use Rattle.book.specs.Format.{bookIn}
 use Rattle.book.proofs.Joined.{joined-fits, joined-read}
+use Rattle.meaning.specs.Written.{nothing}
+use Rattle.walk.specs.Events.{events}
 use Rattle.walk.specs.Tries.{Needs, to-reading, to-end}
 use Rattle.walk.specs.Readings.{readings}
 use Rattle.walk.specs.Find.{firstWalk}
@@ -35,9 +37,9 @@ use Rattle.crews.specs.Log.{afterSearch, logLaid, logIn}
 
 -- the three ways, told from the fixed walk and from answer sets alone
 pub data Ends (b : Book) (limit : ℕ) : Halt → Type 0 where
-  found-one : SomeAnswer b → {n : ℕ} → Needs b 1 n → n ≤ limit → Ends b limit Full
-  found-none : (SomeAnswer b → ⊥) → {n : ℕ} → Needs b 1 n → n ≤ limit → Ends b limit Going
-  passes : {n : ℕ} → Needs b 1 n → limit < n → Ends b limit Limit
+  found-one : SomeAnswer b → {n : ℕ} → Needs b (events b nothing) 1 n → n ≤ limit → Ends b limit Full
+  found-none : (SomeAnswer b → ⊥) → {n : ℕ} → Needs b (events b nothing) 1 n → n ≤ limit → Ends b limit Going
+  passes : {n : ℕ} → Needs b (events b nothing) 1 n → limit < n → Ends b limit Limit
 
 pub search-ends : (b : Book) (limit : ℕ) → b .atoms ≤ 255 → count b ≤ 255 → Ends b limit (searched b limit)
 search-ends b limit few rules = ⊎-elim
@@ -48,11 +50,11 @@ search-ends b limit few rules = ⊎-elim
     (λ h. rw (first-limited b limit few (to-end g) h) (passes (to-end g) h))
     (λ h. rw (first-none b limit few g h .0) (found-none (λ (x, answer). fewer-none b rules g x answer) (to-end g) h))
     (lt-or-le limit _))
-    (kth-or-fewer b 1 (omega arith))
+    (kth-or-fewer b (events b nothing) 1 (omega arith))
 
 -- the search needs no more tries than its limit
 abbrev pub Within : Book → ℕ → Type 0
-Within b limit = (n : ℕ) × Needs b 1 n × (n ≤ limit)
+Within b limit = (n : ℕ) × Needs b (events b nothing) 1 n × (n ≤ limit)
 
 module _ (b : Book) (limit : ℕ) (few : b .atoms ≤ 255) (rules : count b ≤ 255) where
   ends : Ends b limit (searched b limit)
@@ -74,7 +76,7 @@ module _ (b : Book) (limit : ℕ) (few : b .atoms ≤ 255) (rules : count b ≤ 
       go (found-none x y z) = refl
       go (passes y z) = absurd (omega (arith, needs-one b m y))
 
-  ends-limit : {n : ℕ} → Needs b 1 n → limit < n → searched b limit ≡ Limit
+  ends-limit : {n : ℕ} → Needs b (events b nothing) 1 n → limit < n → searched b limit ≡ Limit
   ends-limit m h = go ends
     where
       go : {h : Halt} → Ends b limit h → h ≡ Limit
@@ -91,8 +93,8 @@ pub data Logs (b c : Book) (limit other n : ℕ) : Told Entry → Type 0 where
   second-has-none : SomeAnswer b → (SomeAnswer c → ⊥) → Within b limit → Within c other → Logs b c limit other n (success (noneInSecond n))
   neither-has : (SomeAnswer b → ⊥) → (SomeAnswer c → ⊥) → Within b limit → Within c other
       → Logs b c limit other n (success (noneInEither n))
-  first-passes : {m : ℕ} → Needs b 1 m → limit < m → Logs b c limit other n (stopped limit)
-  second-passes : Within b limit → {m : ℕ} → Needs c 1 m → other < m → Logs b c limit other n (stopped other)
+  first-passes : {m : ℕ} → Needs b (events b nothing) 1 m → limit < m → Logs b c limit other n (stopped limit)
+  second-passes : Within b limit → {m : ℕ} → Needs c (events c nothing) 1 m → other < m → Logs b c limit other n (stopped other)
 
 module _ (b c : Book) (f : Fits b) (g : Fits c) (limit other : ℕ) (out : List ℕ) (few-atoms : b .atoms + c .atoms ≤ 255)
     (few-rules : count b + count c ≤ 255) (room : length (joinedBytes b c) ≤ length out) where
