@@ -23,7 +23,14 @@ impl Held {
 }
 
 // Answers the line that is held.
-fn answer_held(line: &[u8], held: Held, book: &mut [u8], room: &mut [u8], out: &mut [u8])
+fn answer_held(
+    line: &[u8],
+    held: Held,
+    book: &mut [u8],
+    other: &mut [u8],
+    room: &mut [u8],
+    out: &mut [u8],
+)
     requires { ⌜ Counts (held .count) (now line) ⌝ }
 {
     if !held.whole {
@@ -31,7 +38,7 @@ fn answer_held(line: &[u8], held: Held, book: &mut [u8], room: &mut [u8], out: &
         return;
     }
     let count = held.count;
-    answer_line(&line[..count], book, room, out);
+    answer_line(&line[..count], book, other, room, out);
 }
 
 // Takes the next byte of the input, and answers the line that it ends.
@@ -40,6 +47,7 @@ fn take_byte(
     line: &mut [u8],
     held: Held,
     book: &mut [u8],
+    other: &mut [u8],
     room: &mut [u8],
     out: &mut [u8],
 ) -> Held
@@ -47,7 +55,7 @@ fn take_byte(
     ensures { λ r. ⌜ Counts (r .count) (now (line .exit)) ⌝ }
 {
     if byte == b'\n' {
-        answer_held(line, held, book, room, out);
+        answer_held(line, held, book, other, room, out);
         return Held::NOTHING;
     }
     let count = held.count;
@@ -72,6 +80,7 @@ fn take_chunk(
     line: &mut [u8],
     held: Held,
     book: &mut [u8],
+    other: &mut [u8],
     room: &mut [u8],
     out: &mut [u8],
 ) -> Held
@@ -81,14 +90,21 @@ fn take_chunk(
     let mut now_held = held;
     let mut i = 0;
     while i < chunk.len() {
-        now_held = take_byte(chunk[i], line, now_held, book, room, out);
+        now_held = take_byte(chunk[i], line, now_held, book, other, room, out);
         i += 1;
     }
     now_held
 }
 
 // Reads once and takes what came. Nothing more comes where the input has ended or cannot be read.
-fn take_some(line: &mut [u8], held: Held, book: &mut [u8], room: &mut [u8], out: &mut [u8]) -> Held
+fn take_some(
+    line: &mut [u8],
+    held: Held,
+    book: &mut [u8],
+    other: &mut [u8],
+    room: &mut [u8],
+    out: &mut [u8],
+) -> Held
     requires { ⌜ Counts (held .count) (now line) ⌝ }
     ensures { λ r. ⌜ Counts (r .count) (now (line .exit)) ⌝ }
 {
@@ -102,18 +118,24 @@ fn take_some(line: &mut [u8], held: Held, book: &mut [u8], room: &mut [u8], out:
         };
     }
     let n = io::count(got, &chunk);
-    take_chunk(&chunk[..n], line, held, book, room, out)
+    take_chunk(&chunk[..n], line, held, book, other, room, out)
 }
 
 // Takes the whole input, and gives what is held of a last line without a line feed. Nothing says
 // that the input ends, so the turns are counted down from a number that no run uses up.
-fn take_all(line: &mut [u8], book: &mut [u8], room: &mut [u8], out: &mut [u8]) -> Held
+fn take_all(
+    line: &mut [u8],
+    book: &mut [u8],
+    other: &mut [u8],
+    room: &mut [u8],
+    out: &mut [u8],
+) -> Held
     ensures { λ r. ⌜ Counts (r .count) (now (line .exit)) ⌝ }
 {
     let mut held = Held::NOTHING;
     let mut turns = u64::MAX;
     while 0 < turns {
-        held = take_some(line, held, book, room, out);
+        held = take_some(line, held, book, other, room, out);
         if !held.going {
             return held;
         }
@@ -123,9 +145,15 @@ fn take_all(line: &mut [u8], book: &mut [u8], room: &mut [u8], out: &mut [u8]) -
 }
 
 // Answers all lines of the input.
-pub fn answer_all(line: &mut [u8], book: &mut [u8], room: &mut [u8], out: &mut [u8]) {
-    let held = take_all(line, book, room, out);
+pub fn answer_all(
+    line: &mut [u8],
+    book: &mut [u8],
+    other: &mut [u8],
+    room: &mut [u8],
+    out: &mut [u8],
+) {
+    let held = take_all(line, book, other, room, out);
     if 0 < held.count {
-        answer_held(line, held, book, room, out);
+        answer_held(line, held, book, other, room, out);
     }
 }

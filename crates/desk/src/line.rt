@@ -14,13 +14,17 @@ use talk::other_words;
 use talk::print;
 use talk::put_text;
 
-// Puts the answer to the line at the start of out, where it is a command of one answer, and gives
-// its length; 0 where it is none.
-fn answer_command(line: &[u8], book: &mut [u8], room: &mut [u8], out: &mut [u8]) -> usize
+// Puts the answer to a command about one book at the start of out, and gives its length; 0 where the
+// command is none of these or its words are not right.
+fn answer_of_book(
+    command: &[u8],
+    words: &[u8],
+    book: &mut [u8],
+    room: &mut [u8],
+    out: &mut [u8],
+) -> usize
     ensures { λ r. ⌜ Counts r (now (out .exit)) ⌝ }
 {
-    let command = first_word(line);
-    let words = other_words(line);
     if same(command, b"find") {
         return answer_find(words, book, room, out);
     }
@@ -42,9 +46,26 @@ fn answer_command(line: &[u8], book: &mut [u8], room: &mut [u8], out: &mut [u8])
     0
 }
 
+// Puts the answer to the line at the start of out, where it is a command of one answer, and gives
+// its length; 0 where it is none. What is no book alone, another book, a text or a list, is read into
+// the other buffer.
+fn answer_command(
+    line: &[u8],
+    book: &mut [u8],
+    other: &mut [u8],
+    room: &mut [u8],
+    out: &mut [u8],
+) -> usize
+    ensures { λ r. ⌜ Counts r (now (out .exit)) ⌝ }
+{
+    let command = first_word(line);
+    let words = other_words(line);
+    answer_of_book(command, words, book, room, out)
+}
+
 // Writes the answer to the line at once, or `bad line`.
-fn answer_at_once(line: &[u8], book: &mut [u8], room: &mut [u8], out: &mut [u8]) {
-    let held = answer_command(line, book, room, out);
+fn answer_at_once(line: &[u8], book: &mut [u8], other: &mut [u8], room: &mut [u8], out: &mut [u8]) {
+    let held = answer_command(line, book, other, room, out);
     if held == 0 {
         print(b"bad line\n");
         return;
@@ -54,8 +75,15 @@ fn answer_at_once(line: &[u8], book: &mut [u8], room: &mut [u8], out: &mut [u8])
 }
 
 // Writes the answer to the line: at once, but for `readings` and `table`, which go in pieces. A book
-// is read into the one buffer, another is lent to the engine, and the last takes the answer.
-pub fn answer_line(line: &[u8], book: &mut [u8], room: &mut [u8], out: &mut [u8]) {
+// is read into the one buffer, what comes beside it into the other, the room is lent to the engine, and
+// the last takes the answer.
+pub fn answer_line(
+    line: &[u8],
+    book: &mut [u8],
+    other: &mut [u8],
+    room: &mut [u8],
+    out: &mut [u8],
+) {
     if same(first_word(line), b"readings") {
         answer_readings(other_words(line), book);
         return;
@@ -64,5 +92,5 @@ pub fn answer_line(line: &[u8], book: &mut [u8], room: &mut [u8], out: &mut [u8]
         answer_table(line, book);
         return;
     }
-    answer_at_once(line, book, room, out);
+    answer_at_once(line, book, other, room, out);
 }

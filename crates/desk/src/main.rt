@@ -25,8 +25,9 @@ fn main() {
     // The longest line that is taken has `check`, a book of 16,384 bytes and a paper of 65,536.
     let mut line = [0u8; 163847];
     let mut book = [0u8; 16384];
+    let mut other = [0u8; 65536];
     let mut room = [0u8; 65536];
     // The longest answer but `readings` has `paper`, two numbers and the digits of all of the room.
     let mut out = [0u8; 131200];
-    input::answer_all(&mut line, &mut book, &mut room, &mut out);
+    input::answer_all(&mut line, &mut book, &mut other, &mut room, &mut out);
 }

@@ -8,14 +8,14 @@ use Rattle.desk.proofs.input.take_chunk.Statement.{statement}
 use Rattle.desk.proofs.input.take_chunk.Tie as tie
 
 abbrev Inv-loop : tie.InvT-loop
-Inv-loop chunk line₀ book₀ room₀ out₀ now-held₀ i₀ line book room out now-held i =
+Inv-loop chunk line₀ book₀ other₀ room₀ out₀ now-held₀ i₀ line book other room out now-held i =
     (i ≤ length chunk) × Counts (now-held .count) line
-    × (length line ≡ length line₀) × (length book ≡ length book₀) × (length room ≡ length room₀)
+    × (length line ≡ length line₀) × (length book ≡ length book₀) × (length other ≡ length other₀) × (length room ≡ length room₀)
     × (length out ≡ length out₀)
 
 abbrev μ-loop : tie.MeasureT-loop
-μ-loop chunk line₀ book₀ room₀ out₀ now-held₀ i₀ line book room out now-held i = length chunk - i
+μ-loop chunk line₀ book₀ other₀ room₀ out₀ now-held₀ i₀ line book other room out now-held i = length chunk - i
 
 pub take-chunk-spec : {M : Type 1} → statement M
 take-chunk-spec =
-    tie.close (tie.spec Inv-loop μ-loop (λ c. search needs) (λ c. search needs) (λ c κs. search needs) (λ c. search needs) (λ c. search needs) (λ c. search needs) (λ c. search needs) (λ c. search needs) (λ c. search needs) (λ c. search needs) (λ c. search needs))
+    tie.close (tie.spec Inv-loop μ-loop (λ c. search needs) (λ c. search needs) (λ c κs. search needs) (λ c. search needs) (λ c. search needs) (λ c. search needs) (λ c. search needs) (λ c. search needs) (λ c. search needs) (λ c. search needs) (λ c. search needs) (λ c. search needs))
