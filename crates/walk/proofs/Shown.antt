@@ -15,7 +15,7 @@ use Rattle.meaning.proofs.LeastModel.{Proper}
 use Rattle.book.specs.Format.{good, readOf, bookOf, bookIn}
 use Rattle.book.specs.Rows.{Bytes}
 use Rattle.walk.specs.Events.{Event, events}
-use Rattle.walk.specs.Readings.{readingsIn, readings}
+use Rattle.walk.specs.Readings.{readingsIn}
 use Rattle.walk.specs.Run.{rowOf}
 use Rattle.walk.specs.Page.{PageEnd, whole, last, cut, setIn, eventsFrom, pageIn, pageRead, pageOf}
 use Rattle.walk.specs.Listing.{rowsIn, SameRow, Ending, so-far, at-end, at-limit, rowsUpTo, Shows}

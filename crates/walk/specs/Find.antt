@@ -19,7 +19,7 @@ use Rattle.walk.specs.Run.{State, run}
 use Rattle.walk.specs.declared.tally.Halt.{Halt}
 use Rattle.walk.specs.declared.tally.Halt.the-variants.{Going, Full, Limit}
 use Rattle.walk.specs.declared.kth.Found.{Found}
-use Rattle.walk.specs.declared.kth.Found.the-variants.{Set, Fewer, Stopped, Book as BadBook, NoRoom, NoNumber}
+use Rattle.walk.specs.declared.kth.Found.the-variants.{Set, Fewer, Stopped, Book as BadBook, NoRoom, NoNumber, NoList}
 
 -- success tells the tries
 abbrev pub set : ℕ → Told ℕ
@@ -32,6 +32,7 @@ told (Stopped limit) = stopped limit
 told (BadBook f) = refusedAt (numberOf f) (placeOf f)
 told NoRoom = refused 8
 told NoNumber = refused 15
+told NoList = refused 16
 
 -- so many tries were made before, and none was contradictory as far as the way knows
 abbrev pub startAt : ℕ → List ℕ → State
