@@ -1,4 +1,4 @@
-// The words that `find` and `name` have in common: a number, L, ROOM and BOOK.
+// The words that `find`, `name` and others have in common: a number, L, ROOM and BOOK.
 ghost use Rattle.io.specs.Counts.{Counts};
 use talk::Number;
 use talk::first_word;

@@ -6,6 +6,7 @@ use crate::paper_check::answer_check;
 use crate::paper_name::answer_name;
 use crate::readings::answer_readings;
 use crate::settled::answer_settled;
+use crate::some_shown::answer_shown;
 use crate::table::answer_table;
 use check::same;
 use meaning::Kind;
@@ -60,6 +61,9 @@ fn answer_command(
 {
     let command = first_word(line);
     let words = other_words(line);
+    if same(command, b"shown") {
+        return answer_shown(words, book, other, room, out);
+    }
     answer_of_book(command, words, book, room, out)
 }
 

@@ -15,6 +15,7 @@ mod paper_check;
 mod paper_name;
 mod readings;
 mod settled;
+mod some_shown;
 mod table;
 
 fn main() {
