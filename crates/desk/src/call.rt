@@ -26,6 +26,35 @@ impl Call {
     };
 }
 
+// Reads the first three words. Where they are not right, or ask for more room than there is, it says
+// so.
+pub fn read_numbers(words: &[u8], room: &[u8]) -> Call
+    ensures { λ c. ⌜ Counts (c .size) (now (room .entry)) ⌝ }
+{
+    let Number::Value(first) = read_number(first_word(words)) else {
+        return Call::NOTHING;
+    };
+    let others = other_words(words);
+    let Number::Value(limit) = read_number(first_word(others)) else {
+        return Call::NOTHING;
+    };
+    let last = other_words(others);
+    let Number::Value(asked) = read_number(first_word(last)) else {
+        return Call::NOTHING;
+    };
+    let size = asked as usize;
+    if room.len() < size {
+        return Call::NOTHING;
+    }
+    Call {
+        good: true,
+        first,
+        limit,
+        size,
+        count: 0,
+    }
+}
+
 // Reads the words, and writes the book from byte 0 on. Where they are not right, or ask for more
 // room than there is, nothing is written.
 pub fn read_call(words: &[u8], book: &mut [u8], room: &[u8]) -> Call

@@ -45,7 +45,7 @@ pub fn put_unfound(answer: Found, out: &mut [u8]) -> usize
 }
 
 // Puts what the engine answered at the start of out; the answer is the buffer that it was lent.
-pub fn tell_found(book: &[u8], told: Found, answer: &[u8], out: &mut [u8]) -> usize
+pub fn put_found(book: &[u8], told: Found, answer: &[u8], out: &mut [u8]) -> usize
     ensures { λ r. ⌜ Counts r (now (out .exit)) ⌝ }
 {
     match told {
@@ -56,6 +56,14 @@ pub fn tell_found(book: &[u8], told: Found, answer: &[u8], out: &mut [u8]) -> us
         }
         _ => put_unfound(told, out),
     }
+}
+
+// Asks the engine, and puts what it answers at the start of out.
+fn tell_found(book: &[u8], k: u32, limit: u32, answer: &mut [u8], out: &mut [u8]) -> usize
+    ensures { λ r. ⌜ Counts r (now (out .exit)) ⌝ }
+{
+    let told = find(book, k, limit, answer);
+    put_found(book, told, answer, out)
 }
 
 // Puts the answer to the command at the start of out, and gives its length: 0 where the command's
@@ -69,6 +77,5 @@ pub fn answer_find(words: &[u8], book: &mut [u8], room: &mut [u8], out: &mut [u8
     }
     let n = call.count;
     let size = call.size;
-    let told = find(&book[..n], call.first, call.limit, &mut room[..size]);
-    tell_found(&book[..n], told, &room[..size], out)
+    tell_found(&book[..n], call.first, call.limit, &mut room[..size], out)
 }

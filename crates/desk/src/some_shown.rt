@@ -1,12 +1,11 @@
 // `shown K L ROOM SHOWN BOOK`: the K-th reading where only the atoms of the list SHOWN are shown, one
 // byte each. Answers as `find` does.
 ghost use Rattle.io.specs.Counts.{Counts};
-use crate::find::tell_found;
-use talk::Number;
+use crate::call::read_numbers;
+use crate::find::put_found;
 use talk::first_word;
 use talk::other_words;
 use talk::read_bytes;
-use talk::read_number;
 use walk::find_shown;
 
 // The longest list that is taken.
@@ -24,7 +23,7 @@ fn ask_shown(
     ensures { λ r. ⌜ Counts r (now (out .exit)) ⌝ }
 {
     let told = find_shown(book, k, limit, shown, answer);
-    tell_found(book, told, answer, out)
+    put_found(book, told, answer, out)
 }
 
 // The words behind the numbers: SHOWN and BOOK.
@@ -66,25 +65,15 @@ pub fn answer_shown(
 ) -> usize
     ensures { λ r. ⌜ Counts r (now (out .exit)) ⌝ }
 {
-    let Number::Value(k) = read_number(first_word(words)) else {
-        return 0;
-    };
-    let others = other_words(words);
-    let Number::Value(limit) = read_number(first_word(others)) else {
-        return 0;
-    };
-    let last = other_words(others);
-    let Number::Value(asked) = read_number(first_word(last)) else {
-        return 0;
-    };
-    let size = asked as usize;
-    if room.len() < size {
+    let call = read_numbers(words, room);
+    if !call.good {
         return 0;
     }
+    let size = call.size;
     answer_list(
-        other_words(last),
-        k,
-        limit,
+        other_words(other_words(other_words(words))),
+        call.first,
+        call.limit,
         book,
         other,
         &mut room[..size],
