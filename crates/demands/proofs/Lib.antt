@@ -14,3 +14,5 @@ pub mod Slips
 pub mod Useless
 pub mod UselessComputed
 pub mod Determined
+pub mod Shown
+pub mod UselessShown

@@ -4,7 +4,9 @@ pub mod Damaged
 pub mod Demand1
 pub mod Demand2
 pub mod Demand3
+pub mod DemandShown
 pub mod Printed
 pub mod Worked
 pub mod Forged
 pub mod Useless
+pub mod UselessShown
