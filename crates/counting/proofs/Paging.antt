@@ -19,7 +19,7 @@ use Rattle.book.specs.declared.reader.Shape.{Shape}
 use Rattle.book.specs.Format.{readOf, bookIn, ReadAs}
 use Rattle.book.proofs.Shape.{told-good}
 use Rattle.book.proofs.Places.{shape-atoms, shape-count, rule-keeps, in-shape}
-use Rattle.walk.specs.Events.{Event, clash, fork, reading, events}
+use Rattle.walk.specs.Events.{Event, clash, fork, reading, quiet, events}
 use Rattle.walk.specs.Readings.{readingsIn, readings}
 use Rattle.walk.specs.Run.{rowOf}
 use Rattle.walk.specs.Page.{PageEnd, setIn, eventsFrom, roomIn, told, pageIn, pageOf}
@@ -48,6 +48,7 @@ sets-at-most-tries b [] = omega arith
 sets-at-most-tries b (clash r ∷ es) = omega (arith, sets-at-most-tries b es)
 sets-at-most-tries b (fork r ∷ es) = omega (arith, sets-at-most-tries b es)
 sets-at-most-tries b (reading d ∷ es) = omega (arith, sets-at-most-tries b es)
+sets-at-most-tries b (quiet ∷ es) = omega (arith, sets-at-most-tries b es)
 
 -- ---- the sets of a page's rows are the readings
 
@@ -253,7 +254,6 @@ module _ (s : List ℕ) (h : Shape) (e : ReadAs s h) where
         )
 
         last-sum-fits : sets + m ≤ limit
-        unfolding readings
         last-sum-fits = omega (arith, last-sum, sets-at-most-tries b (events b nothing), ended .0, ended .1)
 
         pub last-addable : Addable (h .atoms) limit sets counts m

@@ -13,7 +13,7 @@ use Rattle.meaning.specs.Computed.{iterate, upheld, supportMore, support, goesO
 use Rattle.meaning.specs.Lowest.{oneOr, lowestFrom, lowest, clashed}
 use Rattle.book.specs.Format.{u16At, partOf, andThen, bytesOf, recordOf, lengthOf, ruleOf, recordsOf, rulesOf, ifFine, bodyOf, readOf, bookOf, bookIn}
 use Rattle.walk.specs.Events.{after, eventsIn, events}
-use Rattle.walk.specs.Readings.{readingsIn, readings}
+use Rattle.walk.specs.Readings.{readingsIn}
 use Rattle.counting.specs.Counts.{standing, numbersFrom}
 use Rattle.counting.specs.Count.{countIn, countRead, countOf}
 use Rattle.counting.specs.Totals.{numberBelow, noTotals, totalsFrom, totalsWith}
@@ -56,6 +56,6 @@ pub worked-tables :
     (record { certain = 1; some = 0; none = 0; atoms = 1 }))
 unfolding every some everyBelow someBelow sameAtom count rule everyRule someRule ifb ifLt ifEq heads allIn mayOn blocked starved
     clashing uncoloured of addFrom added iterate upheld supportMore support goesOff closeMore marked stamped close oneOr lowestFrom lowest clashed
-    u16At partOf andThen bytesOf recordOf lengthOf ruleOf recordsOf rulesOf ifFine bodyOf readOf after eventsIn events readingsIn readings
+    u16At partOf andThen bytesOf recordOf lengthOf ruleOf recordsOf rulesOf ifFine bodyOf readOf after eventsIn events readingsIn
     standing numbersFrom countIn countRead countOf bookOf bookIn numberBelow totalsFrom totalsWith turnBy turnOf turnsOf withoutFrom tableOf
 worked-tables = (refl, refl, refl, refl)

@@ -13,6 +13,8 @@ use Rattle.meaning.specs.Choice.{ifb}
 use Rattle.meaning.specs.Told.{Told, success, stopped, Answered}
 use Rattle.meaning.proofs.Tests.{lt-or-le}
 use Rattle.book.specs.Writing.{Fits}
+use Rattle.meaning.specs.Written.{nothing}
+use Rattle.walk.specs.Events.{events}
 use Rattle.walk.specs.Tries.{Needs, to-reading, to-end}
 use Rattle.walk.specs.declared.tally.Halt.{Halt}
 use Rattle.walk.specs.declared.tally.Halt.the-variants.{Going, Full, Limit}
@@ -28,9 +30,9 @@ use Rattle.crews.proofs.Laying.{laid-fitting}
 
 -- the three ways, told from the fixed walk and from answer sets alone
 pub data Ends (b : Book) (limit : ℕ) : Halt → Type 0 where
-  found-one : SomeAnswer b → {n : ℕ} → Needs b 1 n → n ≤ limit → Ends b limit Full
-  found-none : (SomeAnswer b → ⊥) → {n : ℕ} → Needs b 1 n → n ≤ limit → Ends b limit Going
-  passes : {n : ℕ} → Needs b 1 n → limit < n → Ends b limit Limit
+  found-one : SomeAnswer b → {n : ℕ} → Needs b (events b nothing) 1 n → n ≤ limit → Ends b limit Full
+  found-none : (SomeAnswer b → ⊥) → {n : ℕ} → Needs b (events b nothing) 1 n → n ≤ limit → Ends b limit Going
+  passes : {n : ℕ} → Needs b (events b nothing) 1 n → limit < n → Ends b limit Limit
 
 pub search-ends : (b : Book) (limit : ℕ) → b .atoms ≤ 255 → count b ≤ 255 → Ends b limit (searched b limit)
 search-ends b limit few rules = ⊎-elim
@@ -41,7 +43,7 @@ search-ends b limit few rules = ⊎-elim
     (λ h. rw (first-limited b limit few (to-end g) h) (passes (to-end g) h))
     (λ h. rw (first-none b limit few g h .0) (found-none (λ (x, answer). fewer-none b rules g x answer) (to-end g) h))
     (lt-or-le limit _))
-    (kth-or-fewer b 1 (omega arith))
+    (kth-or-fewer b (events b nothing) 1 (omega arith))
 
 module _ (b : Book) (limit : ℕ) (few : b .atoms ≤ 255) (rules : count b ≤ 255) where
   ends : Ends b limit (searched b limit)
@@ -63,7 +65,7 @@ module _ (b : Book) (limit : ℕ) (few : b .atoms ≤ 255) (rules : count b ≤ 
       go (found-none x y z) = refl
       go (passes y z) = absurd (omega (arith, needs-one b m y))
 
-  ends-limit : {n : ℕ} → Needs b 1 n → limit < n → searched b limit ≡ Limit
+  ends-limit : {n : ℕ} → Needs b (events b nothing) 1 n → limit < n → searched b limit ≡ Limit
   ends-limit m h = go ends
     where
       go : {h : Halt} → Ends b limit h → h ≡ Limit

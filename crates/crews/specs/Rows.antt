@@ -16,6 +16,8 @@ use Rattle.meaning.specs.Books.{Book, count}
 use Rattle.meaning.specs.Joined.{SomeAnswer}
 use Rattle.meaning.specs.Told.{Told, success, stopped}
 use Rattle.book.specs.Rows.{GoodBook}
+use Rattle.meaning.specs.Written.{nothing}
+use Rattle.walk.specs.Events.{events}
 use Rattle.walk.specs.Tries.{Needs}
 use Rattle.crews.specs.Join.{joinedBytes}
 use Rattle.crews.specs.Log.{Entry, both, noneInFirst, noneInSecond, noneInEither}
@@ -40,10 +42,10 @@ Fitting b c room = Together b c × (length (joinedBytes b c) ≤ room)
 
 -- 9: "when either search passes its own L"
 abbrev pub Within : Book → ℕ → Type 0
-Within b limit = (n : ℕ) × Needs b 1 n × (n ≤ limit)
+Within b limit = (n : ℕ) × Needs b (events b nothing) 1 n × (n ≤ limit)
 
 abbrev pub Passes : Book → ℕ → Type 0
-Passes b limit = (n : ℕ) × Needs b 1 n × (limit < n)
+Passes b limit = (n : ℕ) × Needs b (events b nothing) 1 n × (limit < n)
 
 -- "the log must say which book has none, or that neither has any"
 pub data Says (b c : Book) (n : ℕ) : Entry → Type 0 where

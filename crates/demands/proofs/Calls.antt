@@ -14,6 +14,8 @@ use Rattle.book.specs.Format.{bookOf}
 use Rattle.book.specs.Rows.{Bytes}
 use Rattle.book.specs.Writing.{Fits}
 use Rattle.book.proofs.Shape.{good-fits}
+use Rattle.meaning.specs.Written.{nothing}
+use Rattle.walk.specs.Events.{events}
 use Rattle.walk.specs.Readings.{readings, AllReadings}
 use Rattle.walk.specs.Tries.{Needs}
 use Rattle.walk.specs.Find.{findIn, findOf}
@@ -54,22 +56,22 @@ module _ {book : List ℕ} {b : Book} (g : GoodBook book b) where
 
 -- so a good call has its list and its number of tries
 pub call-counts : {book : List ℕ} {b : Book} {k : ℕ} {answer : List ℕ} → Call book b k answer
-    → (l : List Atoms) × AllReadings b l × (n : ℕ) × Needs b k n
+    → (l : List Atoms) × AllReadings b l × (n : ℕ) × Needs b (events b nothing) k n
 call-counts {b = b} {k = k} c =
-    let (n, needs) = needs-some b k (c .good-number) in (readings b, readings-there (c .good-book) (c .bytes), n, needs)
+    let (n, needs) = needs-some b (events b nothing) k (c .good-number) in (readings b, readings-there (c .good-book) (c .bytes), n, needs)
 
 -- and one only; a call for a paper has two numbers of tries, of the first walk and of the paper's, and one only of each
 module _ (b : Book) where
-  pub call-counts-one : {k n i : ℕ} {l m : List Atoms} → AllReadings b l → AllReadings b m → Needs b k n → Needs b k i
+  pub call-counts-one : {k n i : ℕ} {l m : List Atoms} → AllReadings b l → AllReadings b m → Needs b (events b nothing) k n → Needs b (events b nothing) k i
       → (l ≡ m) × (n ≡ i)
   call-counts-one p q u v = (readings-only b _ _ p q, needs-one b u v)
 
   module _ (k : Claim) where
-    pub asking-counts : (n : ℕ) × Needs b 1 n × (m : ℕ) × PaperNeeds b k m
+    pub asking-counts : (n : ℕ) × Needs b (events b nothing) 1 n × (m : ℕ) × PaperNeeds b k m
     asking-counts =
-        let (n, needs) = needs-some b 1 (omega arith) in let (m, paper) = paper-needs-some b k in (n, needs, m, paper)
+        let (n, needs) = needs-some b (events b nothing) 1 (omega arith) in let (m, paper) = paper-needs-some b k in (n, needs, m, paper)
 
-    pub asking-counts-one : {n i m j : ℕ} → Needs b 1 n → Needs b 1 i → PaperNeeds b k m → PaperNeeds b k j → (n ≡ i) × (m ≡ j)
+    pub asking-counts-one : {n i m j : ℕ} → Needs b (events b nothing) 1 n → Needs b (events b nothing) 1 i → PaperNeeds b k m → PaperNeeds b k j → (n ≡ i) × (m ≡ j)
     asking-counts-one p q u v = (needs-one b p q, paper-needs-one b k u v)
 
 pub nameable : {book : List ℕ} {b : Book} {a : AtomNo} (q : Kind) → Asking book b a → Nameable b (claim q a)

@@ -21,3 +21,5 @@ pub mod UselessCrews
 pub mod Imports
 pub mod UselessImports
 pub mod WorkedImports
+pub mod Shown
+pub mod UselessShown

@@ -12,6 +12,8 @@ use Rattle.meaning.specs.Books.{Atoms, Book, count}
 use Rattle.meaning.specs.AnswerSet.{AnswerSet}
 use Rattle.meaning.proofs.Rules.{rule-member}
 use Rattle.meaning.proofs.LeastModel.{answer-inside}
+use Rattle.meaning.specs.Written.{nothing}
+use Rattle.walk.specs.Events.{events}
 use Rattle.walk.specs.Readings.{readings, AllReadings}
 use Rattle.walk.specs.Tries.{Needs}
 use Rattle.walk.specs.Run.{rowOf}
@@ -33,7 +35,7 @@ module _ (book : List ℕ) (b : Book) (k : ℕ) (answer : List ℕ) (c : Call bo
 
   reading-answer : k ≤ length (readings b) → AnswerSet b (getD (readings b) (k - 1) no-atoms)
   reading-answer h = ⊎-elim (λ (t, x, kth). rw (kth-reading b kth no-atoms) (kth-answer b few kth)) (λ l. absurd (omega arith))
-      (kth-or-fewer b k (c .good-number))
+      (kth-or-fewer b (events b nothing) k (c .good-number))
 
   -- a reading is found again from its row
   row-back : k ≤ length (readings b) → setIn (rowOf b (getD (readings b) (k - 1) no-atoms)) ≡ getD (readings b) (k - 1) no-atoms
@@ -42,7 +44,7 @@ module _ (book : List ℕ) (b : Book) (k : ℕ) (answer : List ℕ) (c : Call bo
 
 pub given-once : (e : Engine) → GivesReadings e → (book : List ℕ) (b : Book) (k j limit : ℕ) (answer : List ℕ)
     → Call book b k answer → Call book b j answer → k < j → (l : List Atoms) → AllReadings b l → j ≤ length l
-    → (n m : ℕ) → Needs b k n → Needs b j m → n ≤ limit → m ≤ limit
+    → (n m : ℕ) → Needs b (events b nothing) k n → Needs b (events b nothing) j m → n ≤ limit → m ≤ limit
     → e .find book k limit answer .buffer ≡ e .find book j limit answer .buffer → ⊥
 given-once e gives book b k j limit answer c d h l all most n m needs more p q same =
     let z = readings-same (c .good-book) (c .bytes) all in

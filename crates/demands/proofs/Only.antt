@@ -16,6 +16,8 @@ use Rattle.meaning.specs.Told.{Told, refusedAt, refused, fewer, stopped, Answer
 use Rattle.meaning.proofs.Tests.{lt-or-le, apart}
 use Rattle.meaning.specs.Paper.{paperBytes}
 use Rattle.book.specs.Rows.{Bytes}
+use Rattle.meaning.specs.Written.{nothing}
+use Rattle.walk.specs.Events.{events}
 use Rattle.walk.specs.Readings.{AllReadings}
 use Rattle.walk.specs.Tries.{Needs, to-reading, to-end, lastClash}
 use Rattle.walk.specs.Run.{rowOf}
@@ -54,7 +56,7 @@ module _ (book : List ℕ) (bytes : Bytes book) (k limit : ℕ) (answer : List �
       λ i. record { told = told i; buffer = kept i }
 
   module _ {b : Book} (c : Call book b k answer) where
-    gives : {l : List Atoms} → AllReadings b l → {n : ℕ} → Needs b k n → n ≤ limit → k ≤ length l
+    gives : {l : List Atoms} → AllReadings b l → {n : ℕ} → Needs b (events b nothing) k n → n ≤ limit → k ≤ length l
         → Finds (record { told = set n; buffer = rowOf b (getD l (k - 1) (λ a. false)) ++ drop (b .atoms) answer })
     unfolding Finds
     gives all needs h m e p q =
@@ -69,7 +71,7 @@ module _ (book : List ℕ) (bytes : Bytes book) (k limit : ℕ) (answer : List �
         (λ h. ⊎-elim
         (λ m. (
           _,
-          refuses (fewer n (length l) (lastClash b)) (λ u z. apart (cc))
+          refuses (fewer n (length l) (lastClash (events b nothing))) (λ u z. apart (cc))
               (λ e p q. q .tells-fewer book b k limit answer c l all n needs h .1 m),
         ))
         (λ m. (_, gives all needs h m)) (lt-or-le (length l) k)) (lt-or-le limit n)
@@ -132,15 +134,15 @@ module _ (q : Kind) (book : List ℕ) (bytes : Bytes book) (a : AtomNo) (limit :
           (holds-or-not q c (w .first))
 
     call-written : (r : Answered Handed) × Writes r
-    call-written = by (needs-some b 1 (omega arith) .1)
+    call-written = by (needs-some b (events b nothing) 1 (omega arith) .1)
       where
-        stops : {n : ℕ} → Needs b 1 n
+        stops : {n : ℕ} → Needs b (events b nothing) 1 n
             → (limit < n) ⊎ ((n ≤ limit) × ((x : Atoms) × AnswerSet b x) × (limit < paper-needs-some b (claim q a) .0))
             → Writes (record { told = stopped limit; buffer = buffer })
         stops needs l = leaves (stopped limit) (λ u n z. apart (cc))
             (λ e p s r. s .asking-stops q book b a limit buffer c _ _ needs (paper-needs-some b (claim q a) .1) .1 l)
 
-        by : {n : ℕ} → Needs b 1 n → (r : Answered Handed) × Writes r
+        by : {n : ℕ} → Needs b (events b nothing) 1 n → (r : Answered Handed) × Writes r
         by {n} (to-reading {x = x} first) = ⊎-elim (λ h. (_, stops (to-reading first) (inl h)))
             (λ h. let (m, needs) = paper-needs-some b (claim q a) in ⊎-elim
             (λ l. (_, stops (to-reading first) (inr (h, (x, kth-answer b (nameable q c .few-rules) first), l))))
@@ -149,7 +151,7 @@ module _ (q : Kind) (book : List ℕ) (bytes : Bytes book) (a : AtomNo) (limit :
         by {n} (to-end f) = ⊎-elim (λ h. (_, stops (to-end f) (inl h)))
             (λ h. (
               _,
-              leaves (fewer n 0 (lastClash b)) (λ u m z. apart (cc))
+              leaves (fewer n 0 (lastClash (events b nothing))) (λ u m z. apart (cc))
                   (λ e p s r. s .asking-fewer q book b a limit buffer c n (to-end f) h .1 (fewer-none b (nameable q c .few-rules) f)),
             )) (lt-or-le limit n)
 

@@ -13,8 +13,10 @@ use Rattle.meaning.specs.Claim.{claim, claimed}
 use Rattle.meaning.specs.Told.{Told, refusedAt, refused, fewer, stopped, Answered}
 use Rattle.meaning.proofs.Choice.{lt-yes, lt-no, lt-either, eq-yes, eq-no, eq-either}
 use Rattle.meaning.proofs.Tests.{apart}
+use Rattle.meaning.specs.Written.{nothing}
+use Rattle.walk.specs.Events.{events}
 use Rattle.walk.specs.Run.{State}
-use Rattle.walk.specs.Find.{set, toldBy, findIn, findOf}
+use Rattle.walk.specs.Find.{set, toldBy, findAlong, findIn, findOf}
 use Rattle.walk.specs.declared.tally.Halt.{Halt}
 use Rattle.walk.specs.declared.tally.Halt.the-variants.{Going, Full, Limit}
 use Rattle.walk.proofs.Demand.{find-bad-book}
@@ -51,7 +53,7 @@ module _ (b : Book) (k limit : ℕ) (answer : List ℕ) where
   walk-tells Limit s = too-long
 
   find-tells : FindTells (findIn b k limit answer .told)
-  unfolding findIn
+  unfolding findAlong
   find-tells =
       let P : Answered ℕ → Type 0 = λ a. FindTells (a .told) in
       eq-either P _ _ _ _ no-number λ n. lt-either P _ _ _ _ (no-room (omega arith)) λ h. walk-tells _ _
@@ -80,7 +82,7 @@ module _ (book : List ℕ) (k limit : ℕ) (answer : List ℕ) where
       never w = elim w [ ]
 
   find-zero : (findOf book k limit answer .told ≡ refused 15) ↔ ((b : Book) × GoodBook book b × (k ≡ 0))
-  unfolding findIn
+  unfolding findAlong
   find-zero = (
     λ e. find-cases ((b : Book) × GoodBook book b × (k ≡ 0)) e (λ b g w. (b, g, there w)) (λ i at d q. apart (cc)),
     λ (b, g, e). ap (λ (a : Answered ℕ). a .told) (found-as g k limit answer ∙ eq-yes _ _ _ _ e),
@@ -90,7 +92,7 @@ module _ (book : List ℕ) (k limit : ℕ) (answer : List ℕ) where
       there (no-number e) = e
 
   find-short : (findOf book k limit answer .told ≡ refused 8) ↔ ((b : Book) × GoodBook book b × (0 < k) × (length answer < b .atoms))
-  unfolding findIn
+  unfolding findAlong
   find-short = (
     λ e. find-cases ((b : Book) × GoodBook book b × (0 < k) × (length answer < b .atoms)) e
         (λ b g w. let (h, l) = there w in (b, g, h, l)) (λ i at d q. apart (cc)),
@@ -105,7 +107,7 @@ module _ (book : List ℕ) (k limit : ℕ) (answer : List ℕ) where
   find-buffer f = ⊎-elim
       (λ (b, g).
       let e = found-as g k limit answer in
-      ap (λ (a : Answered ℕ). a .buffer) e ∙ find-keeps b k limit answer (λ t p. f t (ap (λ (a : Answered ℕ). a .told) e ∙ p)))
+      ap (λ (a : Answered ℕ). a .buffer) e ∙ find-keeps b (events b nothing) k limit answer (λ t p. f t (ap (λ (a : Answered ℕ). a .told) e ∙ p)))
       (λ (i, at, d). ap (λ (a : Answered ℕ). a .buffer) (find-bad-book book k limit answer _ _ (damaged-bad book d))) (every-book book)
 
 -- ---- naming and clearing

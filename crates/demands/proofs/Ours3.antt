@@ -23,6 +23,8 @@ use Rattle.meaning.proofs.Tests.{decided, true-and-false, lt-or-le}
 use Rattle.meaning.proofs.Claim.{claim-holds, not-both}
 use Rattle.book.specs.Format.{bookIn}
 use Rattle.book.specs.Rows.{Bytes}
+use Rattle.meaning.specs.Written.{nothing}
+use Rattle.walk.specs.Events.{events}
 use Rattle.walk.specs.Tries.{Kth, to-reading}
 use Rattle.writer.specs.Branches.{branches}
 use Rattle.writer.specs.PaperNeeds.{settled, Stuck, to-stuck, to-last, paperFor}
@@ -61,7 +63,7 @@ check-accepts-all q book s b a g k h =
 -- ---- the writer
 
 -- a claim about an atom of a book with a reading holds if every branch of the paper's walk is settled, and only then
-module _ {book : List ℕ} {b : Book} {a : AtomNo} (q : Kind) (c : Asking book b a) {t : ℕ} {x : Atoms} (first : Kth b 1 t x) where
+module _ {book : List ℕ} {b : Book} {a : AtomNo} (q : Kind) (c : Asking book b a) {t : ℕ} {x : Atoms} (first : Kth b (events b nothing) 1 t x) where
   pub settled-holds : every settled (branches b (claim q a) start) ≡ true → Holding q b a
   settled-holds s =
       let few = nameable q c .few-rules in

@@ -92,7 +92,7 @@ module _ (book : List ℕ) (bytes : Bytes book) (k limit : ℕ) (answer : List �
       let (b, c) = call-of good-set told in
       let g = c .good-book in
       let ours-told = ap (λ (a : Answered ℕ). a .told) (sym (found-as g k limit answer)) ∙ told in
-      let (x, kth, h) = find-set b k limit answer (c .good-number) (c .good-room) t .0 ours-told in
+      let (x, kth, h) = find-set b (events b nothing) k limit answer (c .good-number) (c .good-room) t .0 ours-told in
       let all = readings-there g bytes in
       let n = to-reading kth in
       let l = kth-count b kth in

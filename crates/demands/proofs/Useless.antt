@@ -17,6 +17,8 @@ use Rattle.meaning.specs.Told.{Told, fewer, stopped, Answered}
 use Rattle.meaning.proofs.Tests.{lt-or-le, apart}
 use Rattle.meaning.proofs.Told.{success-one}
 use Rattle.book.specs.Rows.{Bytes}
+use Rattle.meaning.specs.Written.{nothing}
+use Rattle.walk.specs.Events.{events}
 use Rattle.walk.specs.Find.{set, findOf}
 use Rattle.walk.specs.Tries.{Needs}
 use Rattle.walk.proofs.Needs.{needs-one}
@@ -225,7 +227,7 @@ first-seen-fails e p s =
 -- whatever an engine counts for the limit: if it stops exactly when its count passes the limit, its count is the tries of the fixed walk
 pub counts-tries : (e : Engine) → Stops e → (book : List ℕ) (b : Book) (k : ℕ) (answer : List ℕ) → Call book b k answer
     → (counted : ℕ) → ((limit : ℕ) → (e .find book k limit answer .told ≡ stopped limit) ↔ (limit < counted))
-    → (n : ℕ) → Needs b k n → counted ≡ n
+    → (n : ℕ) → Needs b (events b nothing) k n → counted ≡ n
 counts-tries e stops book b k answer c counted own n needs = ⊎-elim
     (λ h. absurd (omega (arith, own counted .0 (stops book b k counted answer c .1 (n, needs, h)))))
     (λ h. ⊎-elim

@@ -25,6 +25,8 @@ use Rattle.meaning.specs.Claim.{claim, Holding}
 use Rattle.meaning.specs.Paper.{Keeps, paperBytes}
 use Rattle.meaning.specs.Told.{refused}
 use Rattle.book.specs.Rows.{Bytes}
+use Rattle.meaning.specs.Written.{nothing}
+use Rattle.walk.specs.Events.{events}
 use Rattle.walk.specs.Tries.{Kth}
 use Rattle.writer.specs.PaperNeeds.{PaperNeeds, paperFor}
 use Rattle.writer.specs.Write.{paper, lacking}
@@ -47,7 +49,7 @@ Complete q e = (book s : List ℕ) (b : Book) (a : AtomNo) → GoodBook book b �
 
 pub record InLimit (b : Book) (k : Claim) (limit : ℕ) (x : Atoms) (m : ℕ) : Type 0 where
   pub tries : ℕ
-  pub first : Kth b 1 tries x
+  pub first : Kth b (events b nothing) 1 tries x
   pub first-within : tries ≤ limit
   pub needs : PaperNeeds b k m
   pub paper-within : m ≤ limit

@@ -4,6 +4,7 @@ pub mod Damaged
 pub mod Demand1
 pub mod Demand2
 pub mod Demand3
+pub mod DemandShown
 pub mod Printed
 pub mod Worked
 pub mod Forged
@@ -13,3 +14,4 @@ pub mod WorkedCrews
 pub mod UselessCrews
 pub mod Imports
 pub mod UselessImports
+pub mod UselessShown

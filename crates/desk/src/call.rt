@@ -1,4 +1,4 @@
-// The words that `find` and `name` have in common: a number, L, ROOM and BOOK.
+// The words that `find`, `name` and others have in common: a number, L, ROOM and BOOK.
 ghost use Rattle.io.specs.Counts.{Counts};
 use talk::Number;
 use talk::first_word;
@@ -24,6 +24,35 @@ impl Call {
         size: 0,
         count: 0,
     };
+}
+
+// Reads the first three words. Where they are not right, or ask for more room than there is, it says
+// so.
+pub fn read_numbers(words: &[u8], room: &[u8]) -> Call
+    ensures { λ c. ⌜ Counts (c .size) (now (room .entry)) ⌝ }
+{
+    let Number::Value(first) = read_number(first_word(words)) else {
+        return Call::NOTHING;
+    };
+    let others = other_words(words);
+    let Number::Value(limit) = read_number(first_word(others)) else {
+        return Call::NOTHING;
+    };
+    let last = other_words(others);
+    let Number::Value(asked) = read_number(first_word(last)) else {
+        return Call::NOTHING;
+    };
+    let size = asked as usize;
+    if room.len() < size {
+        return Call::NOTHING;
+    }
+    Call {
+        good: true,
+        first,
+        limit,
+        size,
+        count: 0,
+    }
 }
 
 // Reads the words, and writes the book from byte 0 on. Where they are not right, or ask for more

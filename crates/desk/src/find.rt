@@ -40,14 +40,14 @@ pub fn put_unfound(answer: Found, out: &mut [u8]) -> usize
         Found::Book(why) => put_refused(refused_book(why), out, 0),
         Found::NoRoom => put_refused(Refused::Plain(8), out, 0),
         Found::NoNumber => put_refused(Refused::Plain(15), out, 0),
+        Found::NoList => put_refused(Refused::Plain(16), out, 0),
     }
 }
 
-// Asks the engine, and puts what it answers at the start of out.
-fn tell_found(book: &[u8], k: u32, limit: u32, answer: &mut [u8], out: &mut [u8]) -> usize
+// Puts what the engine answered at the start of out; the answer is the buffer that it was lent.
+pub fn put_found(book: &[u8], told: Found, answer: &[u8], out: &mut [u8]) -> usize
     ensures { λ r. ⌜ Counts r (now (out .exit)) ⌝ }
 {
-    let told = find(book, k, limit, answer);
     match told {
         Found::Set(tries) => {
             let held = put_text(b"set ", out, 0);
@@ -56,6 +56,14 @@ fn tell_found(book: &[u8], k: u32, limit: u32, answer: &mut [u8], out: &mut [u8]
         }
         _ => put_unfound(told, out),
     }
+}
+
+// Asks the engine, and puts what it answers at the start of out.
+fn tell_found(book: &[u8], k: u32, limit: u32, answer: &mut [u8], out: &mut [u8]) -> usize
+    ensures { λ r. ⌜ Counts r (now (out .exit)) ⌝ }
+{
+    let told = find(book, k, limit, answer);
+    put_found(book, told, answer, out)
 }
 
 // Puts the answer to the command at the start of out, and gives its length: 0 where the command's

@@ -8,6 +8,7 @@ use crate::readings::answer_readings;
 use crate::settled::answer_settled;
 use crate::solver_text::answer_aspif;
 use crate::solver_text::answer_unaspif;
+use crate::some_shown::answer_shown;
 use crate::table::answer_table;
 use crate::text_import::answer_lparse;
 use crate::two_books::answer_join;
@@ -79,6 +80,9 @@ fn answer_command(
     }
     if same(command, b"unaspif") {
         return answer_unaspif(words, other, room, out);
+    }
+    if same(command, b"shown") {
+        return answer_shown(words, book, other, room, out);
     }
     answer_of_book(command, words, book, room, out)
 }

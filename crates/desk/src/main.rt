@@ -17,6 +17,7 @@ mod paper_name;
 mod readings;
 mod settled;
 mod solver_text;
+mod some_shown;
 mod table;
 mod text_import;
 mod two_books;

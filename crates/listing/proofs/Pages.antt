@@ -19,7 +19,7 @@ use Rattle.book.specs.Numbers.{numberOf, placeOf}
 use Rattle.book.proofs.Shape.{told-good}
 use Rattle.book.specs.declared.reader.Shape.{Shape}
 use Rattle.book.specs.declared.refusal.Refusal.{Refusal}
-use Rattle.walk.specs.Events.{Event, clash, fork, reading}
+use Rattle.walk.specs.Events.{Event, clash, fork, reading, quiet}
 use Rattle.walk.specs.Readings.{readingsIn, readings}
 use Rattle.walk.specs.Run.{rowOf}
 use Rattle.walk.specs.declared.page_answer.Page.{Page}
@@ -154,6 +154,7 @@ readings-few b [] = omega arith
 readings-few b (clash r ∷ es) = omega (arith, readings-few b es)
 readings-few b (fork r ∷ es) = omega (arith, readings-few b es)
 readings-few b (reading d ∷ es) = omega (arith, readings-few b es)
+readings-few b (quiet ∷ es) = omega (arith, readings-few b es)
 
 whole-adds : (b : Book) (limit n : ℕ) (row out : List ℕ) {todo : List Event} {A : Answered PageEnd} → Outcome b limit n row out todo A
     → (t : ℕ) → A .told ≡ success (whole t) → (n + roomIn b (length out) ≤ t) × (t ≤ limit)

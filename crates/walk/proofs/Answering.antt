@@ -24,7 +24,7 @@ use Rattle.book.proofs.Places.{shape-atoms}
 use Rattle.walk.specs.Events.{events, rest}
 use Rattle.walk.specs.Run.{Wanted, State, run}
 use Rattle.walk.specs.Room.{Room}
-use Rattle.walk.specs.Find.{toldBy, startAt, startOf, answeredBy, findIn, findOf}
+use Rattle.walk.specs.Find.{toldBy, startAt, startOf, answeredBy, findAlong, findIn, findOf}
 use Rattle.walk.specs.Page.{PageEnd, endedBy, setIn, eventsFrom, roomIn, pagedBy, pageIn, pageRead, pageOf}
 use Rattle.walk.specs.declared.tally.Halt.{Halt}
 use Rattle.walk.specs.declared.tally.Halt.the-variants.{Going, Full, Limit}
@@ -84,19 +84,19 @@ module _ (s : List ℕ) (h : Shape) (e : ReadAs s h) where
     find-read = find-good-book s k limit answer _ _ _ _ (told-good (readOf s) _ _ _ e)
 
     pub find-no-number : k ≡ 0 → record { told = refused 15; buffer = answer } ≡ findOf s k limit answer
-    unfolding findIn
+    unfolding findAlong
     find-no-number z = sym (find-read ∙ eq-yes _ _ _ _ z)
 
     module _ (n : k ≡ 0 → ⊥) where
       pub find-no-room : length answer < h .atoms → record { told = refused 8; buffer = answer } ≡ findOf s k limit answer
-      unfolding findIn
+      unfolding findAlong
       find-no-room l = sym (find-read ∙ eq-no _ _ _ _ n ∙ lt-yes _ _ _ _ (rw (shape-atoms s h e) l))
 
       pub find-walked : h .atoms ≤ length answer → {t : Tally} {out : List ℕ} {r : Told ℕ}
           → record { tally = t; out = out }
           ≡ run (bookIn s) (record { pass = k - 1; room = 1; limit = limit }) (startOf answer) (events (bookIn s) nothing)
           → r ≡ toldBy (t .halt) (record { tally = t; out = [] }) limit → record { told = r; buffer = out } ≡ findOf s k limit answer
-      unfolding findIn
+      unfolding findAlong
       find-walked l {t} {out} f g =
           rw (g ∙ any-buffer (t .halt) t limit [] out)
           (sym (find-read ∙ eq-no _ _ _ _ n ∙ lt-no _ _ _ _ (rw (shape-atoms s h e) l)

@@ -17,7 +17,7 @@ use Rattle.meaning.specs.Lowest.{one, clashed}
 use Rattle.meaning.proofs.Lowest.{clashed-one}
 use Rattle.meaning.proofs.Written.{sized-nothing}
 use Rattle.meaning.proofs.Tests.{apart}
-use Rattle.walk.specs.Events.{Event, clash, fork, reading, events}
+use Rattle.walk.specs.Events.{Event, clash, fork, reading, quiet, events}
 use Rattle.walk.specs.Readings.{readingsIn, readings}
 use Rattle.walk.specs.Tries.{clashIn, lastClash}
 use Rattle.walk.proofs.Readings.{readings-append}
@@ -29,6 +29,7 @@ clash-append n [] fs = refl
 clash-append n (clash r ∷ es) fs = clash-append (r .0) es fs
 clash-append n (fork r ∷ es) fs = clash-append n es fs
 clash-append n (reading d ∷ es) fs = clash-append n es fs
+clash-append n (quiet ∷ es) fs = clash-append n es fs
 
 -- no event of the list is a contradiction
 abbrev pub NoClash : List Event → Type 0
@@ -40,18 +41,17 @@ clash-none n [] f = refl
 clash-none n (clash r ∷ es) f = absurd (f r (List·Memᴰ·head refl))
 clash-none n (fork r ∷ es) f = clash-none n es (λ q m. f q (List·Memᴰ·tail m))
 clash-none n (reading d ∷ es) f = clash-none n es (λ q m. f q (List·Memᴰ·tail m))
+clash-none n (quiet ∷ es) f = clash-none n es (λ q m. f q (List·Memᴰ·tail m))
+
+-- the rule of the last contradictory try, or 255
+pub last-clash : (earlier : List Event) (r : RuleNo) (later : List Event) → NoClash later → lastClash (earlier ++ (clash r ∷ later)) ≡ r .0
+unfolding clashIn
+last-clash earlier r later f = clash-append 255 earlier (clash r ∷ later) ∙ clash-none (r .0) later f
+
+pub no-last-clash : (es : List Event) → NoClash es → lastClash es ≡ 255
+no-last-clash es f = clash-none 255 es f
 
 module _ (b : Book) where
-  -- the rule of the last contradictory try, or 255
-  pub last-clash : (earlier : List Event) (r : RuleNo) (later : List Event) → events b nothing ≡ earlier ++ (clash r ∷ later) → NoClash later
-      → lastClash b ≡ r .0
-  unfolding lastClash clashIn
-  last-clash earlier r later q f = ap (clashIn 255) q ∙ clash-append 255 earlier (clash r ∷ later) ∙ clash-none (r .0) later f
-
-  pub no-last-clash : NoClash (events b nothing) → lastClash b ≡ 255
-  unfolding lastClash
-  no-last-clash f = clash-none 255 (events b nothing) f
-
   -- each is told of a pair that was closed to its end
   pub clash-closed : {c : Tables} {es : List Event} → Walk b c es → (r : RuleNo) → List·Memᴰ (clash r) es
       → (d : Tables) × (clashed b (pair (close b d)) ≡ one r)
@@ -74,6 +74,5 @@ module _ (b : Book) where
       let (q, h, z) = walk-clashes w none (clashIn n on) in
       (q, h, clash-append n on off ∙ z)
 
-  pub none-clashes : count b ≤ 255 → readings b ≡ [] → (r : RuleNo) × InBook b r × (lastClash b ≡ r .0)
-  unfolding readings lastClash
+  pub none-clashes : count b ≤ 255 → readings b ≡ [] → (r : RuleNo) × InBook b r × (lastClash (events b nothing) ≡ r .0)
   none-clashes fits e = walk-clashes (walks b fits nothing sized-nothing) (ap length e) 255

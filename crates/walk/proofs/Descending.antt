@@ -20,7 +20,7 @@ use Rattle.meaning.proofs.Closing.{close-sized}
 use Rattle.meaning.proofs.Tests.{apart}
 use Rattle.closing.specs.Left.{left, Shallow}
 use Rattle.closing.proofs.Left.{left-count}
-use Rattle.walk.specs.Events.{Event, clash, fork, reading}
+use Rattle.walk.specs.Events.{Event, clash, fork, reading, quiet, events}
 use Rattle.walk.specs.Readings.{readingOf, readingsIn}
 use Rattle.walk.specs.Tries.{Kth}
 use Rattle.walk.specs.Levels.{sideOf, afterDown, downIn, down}
@@ -76,6 +76,7 @@ unfolding readingsIn
 reading-in b [] d m = absurd (List·Memᴰ·not-nil m)
 reading-in b (clash r ∷ es) d m = ⊎-elim (λ e. apart (cc)) (reading-in b es d) (List·Memᴰ·cases-cons m)
 reading-in b (fork r ∷ es) d m = ⊎-elim (λ e. apart (cc)) (reading-in b es d) (List·Memᴰ·cases-cons m)
+reading-in b (quiet ∷ es) d m = ⊎-elim (λ e. apart (cc)) (reading-in b es d) (List·Memᴰ·cases-cons m)
 reading-in b (reading e ∷ es) d m = ⊎-elim
     (λ q. let z : d ≡ e = cc in List·Memᴰ·head (ap (readingOf b) z)) (λ n. List·Memᴰ·tail (reading-in b es d n)) (List·Memᴰ·cases-cons m)
 
@@ -99,7 +100,7 @@ module _ {b : Book} where
 
 module _ (b : Book) (fits : count b ≤ 255) where
   -- V7: the way down that follows the k-th reading ends at the colouring that the walk met
-  pub down-found : {k t : ℕ} {x : Atoms} → (c : Kth b k t x) → down b nothing x ≡ c .found
+  pub down-found : {k t : ℕ} {x : Atoms} → (c : Kth b (events b nothing) k t x) → down b nothing x ≡ c .found
   down-found c =
       ap (down b nothing) (c .set) ∙ walk-down (walks b fits nothing sized-nothing) (c .found)
       (rw (c .walk) (Memᴰ·append-right (c .earlier) (List·Memᴰ·head refl)))

@@ -12,7 +12,7 @@ use Rattle.meaning.specs.Computed.{close}
 use Rattle.meaning.specs.Lowest.{Pick, none, one}
 use Rattle.meaning.proofs.Written.{sized-nothing}
 use Rattle.meaning.proofs.WellFounded.{first-calm}
-use Rattle.walk.specs.Events.{Event, clash, fork, reading, after, events}
+use Rattle.walk.specs.Events.{Event, clash, fork, reading, quiet, after, events}
 use Rattle.walk.proofs.Events.{events-unfold}
 
 -- the list begins with a contradiction
@@ -21,6 +21,7 @@ clashesFirst [] = false
 clashesFirst (clash r ∷ es) = true
 clashesFirst (fork r ∷ es) = false
 clashesFirst (reading d ∷ es) = false
+clashesFirst (quiet ∷ es) = false
 
 calm-after : (d : Tables) (p : Pick) (f : Tables → List Event) → clashesFirst (after d none p f) ≡ false
 unfolding after clashesFirst

@@ -16,7 +16,7 @@ use Rattle.walk.specs.Events.{events}
 use Rattle.walk.specs.Readings.{readingsIn, readings}
 use Rattle.walk.specs.Tries.{Kth, Needs, lastClash}
 use Rattle.walk.specs.Run.{rowOf, State}
-use Rattle.walk.specs.Find.{set, toldBy, answeredBy, findIn, firstWalk}
+use Rattle.walk.specs.Find.{set, toldBy, answeredBy, findAlong, findIn, firstWalk}
 use Rattle.walk.specs.Page.{setIn}
 use Rattle.walk.specs.declared.tally.Halt.{Halt}
 use Rattle.walk.specs.declared.tally.Halt.the-variants.{Going, Full, Limit}
@@ -55,8 +55,8 @@ module _ (b : Book) where
   -- ---- readings are answer sets
 
   module _ (fits : count b ≤ 255) where
-    pub kth-answer : {k t : ℕ} {x : Atoms} → Kth b k t x → AnswerSet b x
-    unfolding readings readingsIn
+    pub kth-answer : {k t : ℕ} {x : Atoms} → Kth b (events b nothing) k t x → AnswerSet b x
+    unfolding readingsIn
     kth-answer {x = x} c = readings-all b fits .sound x (rw (c .walk, readings-append, c .set)
         (Memᴰ·append-right (readingsIn b (c .earlier)) (List·Memᴰ·head refl)))
 
@@ -95,25 +95,25 @@ module _ (b : Book) where
       walked = firstWalk b limit
 
       as-found : findIn b 1 limit (zeros 255) ≡ answeredBy walked limit
-      unfolding findIn firstWalk
+      unfolding findAlong firstWalk
       as-found = eq-no _ _ _ _ (λ (e : _≡_ {A = ℕ} 1 0). absurd (omega arith)) ∙ lt-no _ _ _ _ few
 
       told-as : {t : Told ℕ} → findIn b 1 limit (zeros 255) .told ≡ t → toldBy (walked .tally .halt) walked limit ≡ t
       told-as e = ap (λ (a : Answered ℕ). a .told) (sym as-found) ∙ e
 
-      pub first-limited : {n : ℕ} → Needs b 1 n → limit < n → firstWalk b limit .tally .halt ≡ Limit
-      first-limited p h = told-limit _ walked (told-as (find-stopped b 1 limit (zeros 255) (omega arith) few .1 (_, p, h)))
+      pub first-limited : {n : ℕ} → Needs b (events b nothing) 1 n → limit < n → firstWalk b limit .tally .halt ≡ Limit
+      first-limited p h = told-limit _ walked (told-as (find-stopped b (events b nothing) 1 limit (zeros 255) (omega arith) few .1 (_, p, h)))
 
       pub first-none : length (readings b) < 1 → length (events b nothing) ≤ limit
           → (firstWalk b limit .tally .halt ≡ Going) × (firstWalk b limit .tally .tries ≡ length (events b nothing))
-          × (firstWalk b limit .tally .clash .0 ≡ lastClash b)
+          × (firstWalk b limit .tally .clash .0 ≡ lastClash (events b nothing))
       first-none p h =
-          told-going _ walked _ _ _ (told-as (find-fewer b 1 limit (zeros 255) (omega arith) few _ _ _ .1 (p, refl, refl, refl, h)))
+          told-going _ walked _ _ _ (told-as (find-fewer b (events b nothing) 1 limit (zeros 255) (omega arith) few _ _ _ .1 (p, refl, refl, refl, h)))
 
-      pub first-found : {t : ℕ} {x : Atoms} → Kth b 1 t x → t ≤ limit
+      pub first-found : {t : ℕ} {x : Atoms} → Kth b (events b nothing) 1 t x → t ≤ limit
           → (firstWalk b limit .tally .halt ≡ Full) × (firstWalk b limit .out ≡ rowOf b x ++ drop (b .atoms) (replicate 255 0))
       first-found {t} {x} p h =
-          let e = find-set b 1 limit (zeros 255) (omega arith) few t .1 (x, p, h) in (
+          let e = find-set b (events b nothing) 1 limit (zeros 255) (omega arith) few t .1 (x, p, h) in (
             told-full _ walked t (told-as e),
-            ap (λ (a : Answered ℕ). a .buffer) (sym as-found) ∙ find-row b 1 limit (zeros 255) t x e p,
+            ap (λ (a : Answered ℕ). a .buffer) (sym as-found) ∙ find-row b (events b nothing) 1 limit (zeros 255) t x e p,
           )

@@ -22,6 +22,7 @@ use Rattle.meaning.proofs.Closing.{close-is, close-sized}
 use Rattle.meaning.proofs.Lowest.{lowest-one, lowest-total, clashed-clashing, clashed-none}
 use Rattle.meaning.proofs.Answers.{total-answer, total-stands, answer-heads, closing-keeps-answers, clash-no-answer}
 use Rattle.walk.specs.Readings.{readingOf, Agree, Before}
+use Rattle.walk.specs.Search.{Generated}
 use Rattle.closing.proofs.Left.{chosen-above, chosen-within, chosen-in}
 use Rattle.walk.proofs.Events.{Closes, Forks, fork-in-book, fork-low}
 
@@ -40,10 +41,10 @@ stands-nothing b x p = record {
 
 module _ {b : Book} {c d : Tables} where
   module _ (k : Closes b c d) where
-    closing : Closing b (pair c) (pair d)
+    pub closing : Closing b (pair c) (pair d)
     closing = rw (k .closed) (close-is b (k .few) c (k .sized))
 
-    sized : Sized d
+    pub sized : Sized d
     sized = rw (k .closed) (close-sized b (k .few) c (k .sized))
 
     -- ---- the answer sets above c are those above d
@@ -71,6 +72,15 @@ module _ {b : Book} {c d : Tables} where
             answer = total-answer b (pair d) closed total consistent;
             holds = within-both b (λ r h m. sym (alike r h .0) ∙ m) (λ r h m. sym (alike r h .1) ∙ m);
           })
+
+      -- its on rules are the generating ones of the set that their heads are
+      pub reading-generated : Generated b (d .on)
+      reading-generated =
+          let closed = closing .good .closed in let consistent = clashing-no b (pair d) (clashed-none b (pair d) .0 t) in
+          record {
+            answer = total-answer b (pair d) closed total consistent;
+            rules = λ r h. sym (total-stands b (pair d) closed total consistent r h .0);
+          }
 
       pub reading-only : (x : Atoms) → Stands b c x → Agree x (readingOf b d)
       reading-only x s a = sym (answer-heads b x (s .answer) a) ∙ same _ _ (heads-mono b on-if a) (heads-mono b (within-on b w) a)

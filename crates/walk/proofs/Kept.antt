@@ -7,16 +7,15 @@ use Prim.Native.Nat.{ℕ, _-_, _≤_}
 use native.Mathlib.Omega.{arith}
 use Rattle.meaning.specs.Books.{Book}
 use Rattle.meaning.specs.Told.{Answered}
-use Rattle.meaning.specs.Written.{nothing}
 use Rattle.meaning.proofs.Choice.{lt-either, eq-yes, eq-either}
 use Rattle.meaning.proofs.Tests.{apart}
-use Rattle.walk.specs.Events.{Event, clash, fork, reading, events}
+use Rattle.walk.specs.Events.{Event, clash, fork, reading, quiet}
 use Rattle.walk.specs.Run.{Wanted, State, readingMet, tried, met, run}
-use Rattle.walk.specs.Find.{set, startOf, toldBy, findIn}
+use Rattle.walk.specs.Find.{set, startOf, toldBy, findAlong}
 use Rattle.walk.specs.declared.tally.Halt.the-variants.{Going, Full}
 use Rattle.walk.proofs.Run.{run-keeps}
 
-module _ (b : Book) (k limit : ℕ) (answer : List ℕ) where
+module _ (b : Book) (es : List Event) (k limit : ℕ) (answer : List ℕ) where
   -- the buffer is as it was as long as readings are passed over; the one that is written ends the way
   Kept : State → Type 0
   Kept s = (s .tally .halt ≡ Full) ⊎ ((s .tally .sets ≤ k - 1) × (s .out ≡ answer))
@@ -28,6 +27,7 @@ module _ (b : Book) (k limit : ℕ) (answer : List ℕ) where
   unfolding Kept tried readingMet
   try-kept s (clash r) h o = inr (h, o)
   try-kept s (fork r) h o = inr (h, o)
+  try-kept s quiet h o = inr (h, o)
   try-kept s (reading d) h o = lt-either Kept _ _ _ _ (λ l. inr (omega arith, o)) (λ l. inl (eq-yes _ _ _ _ (omega arith)))
 
   event-kept : (s : State) (e : Event) → s .tally .halt ≡ Going → Kept s → Kept (met b one Going s e)
@@ -35,7 +35,7 @@ module _ (b : Book) (k limit : ℕ) (answer : List ℕ) where
   event-kept s e g (inl f) = apart (cc)
   event-kept s e g (inr (h, o)) = lt-either Kept _ _ _ _ (λ l. try-kept s e h o) (λ l. inr (h, o))
 
-  walk-kept : Kept (run b one (startOf answer) (events b nothing))
+  walk-kept : Kept (run b one (startOf answer) es)
   unfolding Kept
   walk-kept = run-keeps b one Kept event-kept _ _ (inr (omega arith, refl))
 
@@ -45,8 +45,8 @@ module _ (b : Book) (k limit : ℕ) (answer : List ℕ) where
   kept-out s (inr (h, o)) f = o
 
   -- nothing is written on any answer but a reading
-  pub find-keeps : ((t : ℕ) → findIn b k limit answer .told ≡ set t → ⊥) → findIn b k limit answer .buffer ≡ answer
-  unfolding findIn
+  pub find-keeps : ((t : ℕ) → findAlong b es k limit answer .told ≡ set t → ⊥) → findAlong b es k limit answer .buffer ≡ answer
+  unfolding findAlong
   find-keeps =
       let P : Answered ℕ → Type 0 = λ a. ((t : ℕ) → a .told ≡ set t → ⊥) → a .buffer ≡ answer in
       eq-either P _ _ _ _ (λ e f. refl) λ n. lt-either P _ _ _ _ (λ h f. refl) λ h. kept-out _ walk-kept

@@ -33,7 +33,7 @@ use Rattle.walk.specs.Events.{reading, events}
 use Rattle.walk.specs.Readings.{readingOf, readings}
 use Rattle.walk.specs.Tries.{Kth}
 use Rattle.walk.specs.Run.{rowOf, State, run}
-use Rattle.walk.specs.Find.{set as given, told, startOf, toldBy, findIn}
+use Rattle.walk.specs.Find.{set as given, told, startOf, toldBy, findAlong, findIn}
 use Rattle.walk.specs.Page.{setIn}
 use Rattle.walk.specs.Levels.{down, levelsBy, leveledBy, levelsIn, levelsRead, levelsOf}
 use Rattle.walk.specs.declared.tally.Halt.{Halt}
@@ -144,7 +144,7 @@ module _ (b : Book) (fits : count b ≤ 255) (small : b .atoms ≤ 255) (proper 
   walked = run b (record { pass = k - 1; room = 1; limit = limit }) (startOf zeros) (events b nothing)
 
   find-walks : findIn b k limit zeros ≡ record { told = toldBy (walked .tally .halt) walked limit; buffer = walked .out }
-  unfolding findIn
+  unfolding findAlong
   find-walks = eq-no _ _ _ _ (λ z. omega arith) ∙ lt-no _ _ _ _ (omega (arith, length-replicate {A = ℕ} 255 0))
 
   levels-walk : levelsIn b k limit out ≡ leveledBy b walked limit out
@@ -180,11 +180,10 @@ module _ (b : Book) (fits : count b ≤ 255) (small : b .atoms ≤ 255) (proper 
           (lt-or-le i (b .atoms))
 
   sets-in : {d : Tables} → List·Memᴰ (reading d) (events b nothing) → List·Memᴰ (readingOf b d) (readings b)
-  unfolding readings
   sets-in {d} m = reading-in b (events b nothing) d m
 
   -- the bytes told are the levels of the colouring of the k-th reading, and the later bytes are kept
-  pub levels-kth : (t : ℕ) (x : Atoms) → levelsIn b k limit out .told ≡ given t → (c : Kth b k t x)
+  pub levels-kth : (t : ℕ) (x : Atoms) → levelsIn b k limit out .told ≡ given t → (c : Kth b (events b nothing) k t x)
       → levelsIn b k limit out .buffer ≡ take (count b) (c .found .levels) ++ drop (count b) out
   unfolding levelsBy
   levels-kth t x e c =
@@ -192,7 +191,7 @@ module _ (b : Book) (fits : count b ≤ 255) (small : b .atoms ≤ 255) (proper 
       let full = full-if (walked .tally .halt) t told-walk in
       let row : walked .out ≡ rowOf b x ++ drop (b .atoms) zeros =
       sym (ap (λ (a : Answered ℕ). a .buffer) find-walks)
-      ∙ find-row b k limit zeros t x (ap (λ (a : Answered ℕ). a .told) find-walks ∙ told-walk) c in
+      ∙ find-row b (events b nothing) k limit zeros t x (ap (λ (a : Answered ℕ). a .told) find-walks ∙ told-walk) c in
       let member : List·Memᴰ (reading (c .found)) (events b nothing) = rw (c .walk) (Memᴰ·append-right (c .earlier) (List·Memᴰ·head refl)) in
       let inside : Inside b x =
       subst (Inside b) (sym (c .set)) (answer-inside b fits _ proper (readings-all b fits .sound _ (sets-in member))) in

@@ -36,7 +36,6 @@ listed-start b row = record { walk = refl; tries = refl; next = refl }
 -- the rows so far and those to come are the readings
 pub listed-readings : (b : Book) (n : ℕ) (row : List ℕ) (done todo : List Event) → Listed b n row done todo
     → readings b ≡ readingsIn b done ++ readingsIn b todo
-unfolding readings
 listed-readings b n row done todo l = ap (readingsIn b) (l .walk) ∙ readings-append b done todo
 
 pub later-events : (b : Book) (n : ℕ) (x : Atoms) → 1 ≤ n → eventsFrom b n x ≡ rest b nothing x

@@ -9,10 +9,9 @@ use lib.ListN.{length, getD, take, drop, length-append}
 use lib.Seq.{getD-at, take-at, drop-at, take-append-seam, take-append-add}
 use Rattle.meaning.specs.Written.{Tables}
 use Rattle.meaning.specs.Books.{Atoms, Book}
-use Rattle.meaning.specs.Written.{nothing}
 use Rattle.meaning.proofs.Tests.{lt-or-le}
-use Rattle.walk.specs.Events.{Event, clash, fork, reading, events}
-use Rattle.walk.specs.Readings.{readingOf, readingsIn, readings}
+use Rattle.walk.specs.Events.{Event, clash, fork, reading, quiet}
+use Rattle.walk.specs.Readings.{readingOf, readingsIn}
 use Rattle.walk.specs.Tries.{Kth, Needs, to-reading, to-end}
 use Rattle.walk.proofs.Readings.{readings-append}
 
@@ -55,6 +54,7 @@ module _ (b : Book) where
   met-or-fewer [] k h = inr h
   met-or-fewer (clash r ∷ es) k h = ⊎-map (λ m. met-later (clash r) m k (m .number)) (λ g. g) (met-or-fewer es k h)
   met-or-fewer (fork r ∷ es) k h = ⊎-map (λ m. met-later (fork r) m k (m .number)) (λ g. g) (met-or-fewer es k h)
+  met-or-fewer (quiet ∷ es) k h = ⊎-map (λ m. met-later quiet m k (m .number)) (λ g. g) (met-or-fewer es k h)
   met-or-fewer (reading d ∷ es) zero h = absurd (omega arith)
   met-or-fewer (reading d ∷ es) (suc zero) h = inl (record { earlier = []; found = d; later = es; walk = refl; number = refl })
   met-or-fewer (reading d ∷ es) (suc (suc k)) h = ⊎-map
@@ -87,37 +87,36 @@ module _ (b : Book) where
       equal {i} {j} f g e = ⊎-elim (λ h. absurd (omega (arith, f h)))
           (λ h. ⊎-elim (λ l. absurd (omega (arith, g l))) (λ l. omega arith) (lt-or-le j i)) (lt-or-le i j)
 
-  -- ---- the k-th reading of the walk
+  -- ---- the k-th reading of a walk
 
-  kth-met : {k t : ℕ} {x : Atoms} → Kth b k t x → Met (events b nothing) k
+  kth-met : {es : List Event} {k t : ℕ} {x : Atoms} → Kth b es k t x → Met es k
   kth-met c = record { earlier = c .earlier; found = c .found; later = c .later; walk = c .walk; number = c .number }
 
-  pub kth-one : {k t u : ℕ} {x y : Atoms} → Kth b k t x → Kth b k u y → (t ≡ u) × (x ≡ y)
+  pub kth-one : {es : List Event} {k t u : ℕ} {x y : Atoms} → Kth b es k t x → Kth b es k u y → (t ≡ u) × (x ≡ y)
   unfolding kth-met
   kth-one c d =
       let (p, q) = met-one (kth-met c) (kth-met d) in
       (c .try ∙ ap (λ (l : List Event). length l + 1) p ∙ sym (d .try), c .set ∙ ap (readingOf b) q ∙ sym (d .set))
 
-  kth-splits : {k t : ℕ} {x : Atoms} (c : Kth b k t x)
-      → readings b ≡ readingsIn b (c .earlier) ++ (readingOf b (c .found) ∷ readingsIn b (c .later))
-  unfolding readings readingsIn
+  kth-splits : {es : List Event} {k t : ℕ} {x : Atoms} (c : Kth b es k t x)
+      → readingsIn b es ≡ readingsIn b (c .earlier) ++ (readingOf b (c .found) ∷ readingsIn b (c .later))
+  unfolding readingsIn
   kth-splits c = ap (readingsIn b) (c .walk) ∙ readings-append b (c .earlier) (reading (c .found) ∷ c .later)
 
-  pub kth-count : {k t : ℕ} {x : Atoms} → Kth b k t x → k ≤ length (readings b)
+  pub kth-count : {es : List Event} {k t : ℕ} {x : Atoms} → Kth b es k t x → k ≤ length (readingsIn b es)
   kth-count c =
       let l = readingsIn b (c .earlier) in let m = readingOf b (c .found) ∷ readingsIn b (c .later) in
       omega (arith, ap length (kth-splits c), length-append l m, c .number)
 
   -- it is the k-th of the readings
-  pub kth-reading : {k t : ℕ} {x : Atoms} → Kth b k t x → (z : Atoms) → getD (readings b) (k - 1) z ≡ x
-  kth-reading {k} c z =
+  pub kth-reading : {es : List Event} {k t : ℕ} {x : Atoms} → Kth b es k t x → (z : Atoms) → getD (readingsIn b es) (k - 1) z ≡ x
+  kth-reading {k = k} c z =
       ap (λ (l : List Atoms). getD l (k - 1) z) (kth-splits c)
       ∙ getD-at (readingsIn b (c .earlier)) (readingOf b (c .found)) (readingsIn b (c .later)) z (k - 1) (omega (arith, c .number))
       ∙ sym (c .set)
 
-  pub kth-or-fewer : (k : ℕ) → 1 ≤ k → ((t : ℕ) × (x : Atoms) × Kth b k t x) ⊎ (length (readings b) < k)
-  unfolding readings
-  kth-or-fewer k h = ⊎-map (λ m. (
+  pub kth-or-fewer : (es : List Event) (k : ℕ) → 1 ≤ k → ((t : ℕ) × (x : Atoms) × Kth b es k t x) ⊎ (length (readingsIn b es) < k)
+  kth-or-fewer es k h = ⊎-map (λ m. (
     length (m .earlier) + 1,
     readingOf b (m .found),
     record {
@@ -129,14 +128,14 @@ module _ (b : Book) where
       number = m .number;
       set = refl;
     },
-  )) (λ g. g) (met-or-fewer (events b nothing) k h)
+  )) (λ g. g) (met-or-fewer es k h)
 
   -- ---- the tries that a call needs
 
-  pub needs-some : (k : ℕ) → 1 ≤ k → (n : ℕ) × Needs b k n
-  needs-some k h = ⊎-elim (λ (t, x, c). (t, to-reading c)) (λ g. (length (events b nothing), to-end g)) (kth-or-fewer k h)
+  pub needs-some : (es : List Event) (k : ℕ) → 1 ≤ k → (n : ℕ) × Needs b es k n
+  needs-some es k h = ⊎-elim (λ (t, x, c). (t, to-reading c)) (λ g. (length es, to-end g)) (kth-or-fewer es k h)
 
-  pub needs-one : {k m n : ℕ} → Needs b k m → Needs b k n → m ≡ n
+  pub needs-one : {es : List Event} {k m n : ℕ} → Needs b es k m → Needs b es k n → m ≡ n
   needs-one (to-reading c) (to-reading d) = kth-one c d .0
   needs-one (to-reading c) (to-end h) = absurd (omega (arith, kth-count c))
   needs-one (to-end h) (to-reading d) = absurd (omega (arith, kth-count d))

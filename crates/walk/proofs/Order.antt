@@ -56,9 +56,9 @@ module _ (b : Book) where
       earlier h = ⊎-elim (λ e. let z : q .at ≡ p .at = (λ i. record { 0 = e i }) in true-and-false (rw z at (q .in-first)) (p .not-in-second))
           (λ l. l) (eq-or-lt-of-le h)
 
-  -- the lowest rule that is generating for just one
-  pub before-total : (x y : Atoms) → AnswerSet b x → AnswerSet b y → (Agree x y → ⊥) → Before b x y ⊎ Before b y x
-  before-total x y p q n = go (lowest b differing) refl
+  -- the lowest rule that is generating for just one, if there is any
+  pub before-or-agree : (x y : Atoms) → AnswerSet b x → AnswerSet b y → Agree x y ⊎ (Before b x y ⊎ Before b y x)
+  before-or-agree x y p q = go (lowest b differing) refl
     where
       differing : Rules
       differing r = not (agree (generating b x r) (generating b y r))
@@ -70,12 +70,15 @@ module _ (b : Book) where
       all-alike f a = sym (answer-heads b x p a) ∙ same _ _
           (heads-mono b (λ r h m. sym (f r h) ∙ m) a) (heads-mono b (λ r h m. f r h ∙ m) a) ∙ answer-heads b y q a
 
-      go : (k : Pick) → lowest b differing ≡ k → Before b x y ⊎ Before b y x
-      go none e = absurd (n (all-alike (λ r h. alike r (lowest-none b _ e r h))))
-      go (one r) e = let (h, m, f) = lowest-one b _ r e in ⊎-map
+      go : (k : Pick) → lowest b differing ≡ k → Agree x y ⊎ (Before b x y ⊎ Before b y x)
+      go none e = inl (all-alike (λ r h. alike r (lowest-none b _ e r h)))
+      go (one r) e = let (h, m, f) = lowest-one b _ r e in inr (⊎-map
           (λ (i, o). record { at = r; in-book = h; in-first = i; not-in-second = o; lower-agree = λ u l. alike u (f u l) })
           (λ (o, i). record { at = r; in-book = h; in-first = i; not-in-second = o; lower-agree = λ u l. sym (alike u (f u l)) })
-          (differ _ _ (not-true _ m))
+          (differ _ _ (not-true _ m)))
+
+  pub before-total : (x y : Atoms) → AnswerSet b x → AnswerSet b y → (Agree x y → ⊥) → Before b x y ⊎ Before b y x
+  before-total x y p q n = ⊎-elim (λ e. absurd (n e)) (λ h. h) (before-or-agree x y p q)
 
   -- ---- lists in this order
 
@@ -103,7 +106,7 @@ module _ (b : Book) where
 
   -- ---- the only list with its members
 
-  abbrev Holds : List Atoms → List Atoms → Type 0
+  abbrev pub Holds : List Atoms → List Atoms → Type 0
   Holds m l = (x : Atoms) → List·Memᴰ x l → List·Memᴰ x m
 
   module _ {x y : Atoms} {l m : List Atoms} (f : (z : Atoms) → List·Memᴰ z l → Before b x z) (u : Holds (y ∷ m) (x ∷ l)) where
@@ -119,7 +122,7 @@ module _ (b : Book) where
     same-later e z k = ⊎-elim (λ q. absurd (before-irreflexive x (subst (Before b x) (q ∙ sym e) (f z k)))) (λ n. n)
         (List·Memᴰ·cases-cons (u z (List·Memᴰ·tail k)))
 
-  ordered-same : (l m : List Atoms) → Ordered b l → Ordered b m → Holds m l → Holds l m → l ≡ m
+  pub ordered-same : (l m : List Atoms) → Ordered b l → Ordered b m → Holds m l → Holds l m → l ≡ m
   ordered-same [] [] o p u v = refl
   ordered-same [] (y ∷ m) o p u v = absurd (List·Memᴰ·not-nil (v y (List·Memᴰ·head refl)))
   ordered-same (x ∷ l) [] o p u v = absurd (List·Memᴰ·not-nil (u x (List·Memᴰ·head refl)))

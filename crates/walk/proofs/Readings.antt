@@ -14,7 +14,7 @@ use Rattle.meaning.specs.Colours.{onSide, offSide, side}
 use Rattle.meaning.specs.Written.{nothing, chosen}
 use Rattle.meaning.proofs.Tests.{decided}
 use Rattle.meaning.proofs.Written.{sized-nothing}
-use Rattle.walk.specs.Events.{Event, clash, fork, reading, events}
+use Rattle.walk.specs.Events.{Event, clash, fork, reading, quiet, events}
 use Rattle.walk.specs.Readings.{readingOf, readingsIn, readings, Agree, Ordered, no-more, comes-first, AllReadings}
 use Rattle.walk.proofs.Events.{Walk, at-clash, at-reading, at-fork, walks}
 use Rattle.walk.proofs.Order.{ordered-append, ordered-once}
@@ -29,6 +29,7 @@ readings-append b [] fs = refl
 readings-append b (clash r ∷ es) fs = readings-append b es fs
 readings-append b (fork r ∷ es) fs = readings-append b es fs
 readings-append b (reading d ∷ es) fs = ap (λ (l : List Atoms). readingOf b d ∷ l) (readings-append b es fs)
+readings-append b (quiet ∷ es) fs = readings-append b es fs
 
 -- ---- the readings of a walk
 
@@ -64,7 +65,6 @@ module _ {b : Book} where
 
 module _ (b : Book) (fits : count b ≤ 255) where
   pub readings-all : AllReadings b (readings b)
-  unfolding readings
   readings-all = record {
     sound = λ x m. walk-sound walk x m .answer;
     complete = λ x p. walk-complete walk x (stands-nothing b x p);

@@ -11,7 +11,7 @@ use Rattle.meaning.specs.declared.RuleNo.{RuleNo}
 use Rattle.meaning.specs.Books.{Atoms, Book}
 use Rattle.meaning.specs.Choice.{ifEq}
 use Rattle.meaning.proofs.Choice.{lt-yes, lt-no, lt-either, eq-either}
-use Rattle.walk.specs.Events.{Event, clash, fork, reading}
+use Rattle.walk.specs.Events.{Event, clash, fork, reading, quiet}
 use Rattle.walk.specs.Readings.{readingOf}
 use Rattle.meaning.specs.Buffers.{writeAt}
 use Rattle.walk.specs.Run.{rowOf, Wanted, State, counted, clashedAt, halting, readingMet, tried, met, run}
@@ -40,6 +40,7 @@ module _ (b : Book) (w : Wanted) where
   unfolding tried readingMet
   try-moves s (clash r) h = no-reading r h
   try-moves s (fork r) h = no-reading (s .tally .clash) h
+  try-moves s quiet h = no-reading (s .tally .clash) h
   try-moves s (reading d) h = lt-either (Moved s) _ _ _ _ (passed-over h) (λ p. written (readingOf b d) _ h p full)
     where
       full : ifEq (s .tally .sets + 1) (w .pass + w .room) Full Going ≡ Going → s .tally .sets + 1 ≡ w .pass + w .room → ⊥

@@ -15,7 +15,7 @@ use Rattle.meaning.proofs.LeastModel.{Proper}
 use Rattle.book.specs.Format.{good, readOf, bookOf, bookIn}
 use Rattle.book.specs.Rows.{Bytes}
 use Rattle.walk.specs.Events.{Event, events}
-use Rattle.walk.specs.Readings.{readingsIn, readings}
+use Rattle.walk.specs.Readings.{readingsIn}
 use Rattle.walk.specs.Run.{rowOf}
 use Rattle.walk.specs.Page.{PageEnd, whole, last, cut, setIn, eventsFrom, pageIn, pageRead, pageOf}
 use Rattle.walk.specs.Listing.{rowsIn, SameRow, Ending, so-far, at-end, at-limit, rowsUpTo, Shows}
@@ -125,7 +125,7 @@ module _ (b : Book) (fits : count b ≤ 255) (proper : Proper b) (limit : ℕ) w
 
   shows : {shown : List (List ℕ)} {ending : Ending} (es later : List Event) → events b nothing ≡ es ++ later
       → shown ≡ map (rowOf b) (readingsIn b es) → Stands (length es) ending → Shows b limit shown ending
-  unfolding Shows rowsUpTo readings
+  unfolding Shows rowsUpTo
   shows es later w r (going e h) =
       (r ∙ rw (e, w, take-append-seam es later), omega (arith, ap length w, length-append es later), omega arith)
   shows es later w r (ended e t h) =

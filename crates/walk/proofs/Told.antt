@@ -8,7 +8,7 @@ use Rattle.meaning.specs.Told.{Told}
 use Rattle.meaning.proofs.Told.{valuesAgain, again, one-again}
 use Rattle.book.proofs.Told.{refusalAt, refusal-again}
 use Rattle.walk.specs.declared.kth.Found.{Found}
-use Rattle.walk.specs.declared.kth.Found.the-variants.{Set, Fewer, Stopped, Book, NoRoom, NoNumber}
+use Rattle.walk.specs.declared.kth.Found.the-variants.{Set, Fewer, Stopped, Book, NoRoom, NoNumber, NoList}
 use Rattle.walk.specs.declared.page_answer.Page.{Page}
 use Rattle.walk.specs.declared.page_answer.Page.the-variants.{Whole, Last, Cut}
 use Rattle.walk.specs.declared.page_answer.Page.the-variants.{Book as BadBook, NoRoom as TooSmall}
@@ -18,7 +18,7 @@ use Rattle.walk.specs.Page.{told as pageTold}
 
 abbrev foundAt : Told ℕ → Found
 foundAt = again Set (valuesAgain NoNumber Stopped (λ tries sets rule. Fewer tries sets (ruleNo rule))) (λ number at. Book (refusalAt number at))
-    (λ number. ifEq number 8 NoRoom NoNumber)
+    (λ number. ifEq number 8 NoRoom (ifEq number 15 NoNumber NoList))
 
 found-again : (f : Found) → foundAt (told f) ≡ f
 unfolding ifEq ifb
@@ -28,6 +28,7 @@ found-again (Stopped limit) = refl
 found-again (Book f) = ap Book (refusal-again f)
 found-again NoRoom = refl
 found-again NoNumber = refl
+found-again NoList = refl
 
 pub found-one : (f g : Found) → told f ≡ told g → f ≡ g
 found-one = one-again told foundAt found-again

@@ -4,13 +4,15 @@ use mathlib.Core.Path.{_≡_, refl, sym, _∙_, ap}
 use mathlib.Core.Logic.{_⊎_, inl, inr, ⊎-elim}
 use mathlib.Core.Bool.{Bool, true, false}
 use mathlib.Core.List.{List, [], _∷_}
-use Prim.Native.Nat.{ℕ, _≤_, _<_}
+use Prim.Native.Nat.{ℕ, _+_, _≤_, _<_}
 use native.Mathlib.Omega.{arith}
 use lib.ListN.{length}
 use types.Run.{OneOf}
 use denote.Enum.Declared.{tagOf}
 use Rattle.meaning.specs.declared.RuleNo.{RuleNo}
 use Rattle.meaning.specs.Written.{Tables}
+use Rattle.meaning.specs.Sets.{Set}
+use Rattle.meaning.specs.Choice.{ifb}
 use Rattle.meaning.specs.Books.{Atoms, Book, count}
 use Rattle.meaning.specs.AnswerSet.{generating}
 use Rattle.meaning.specs.Colours.{Side, onSide, offSide, heads, uncoloured}
@@ -18,13 +20,16 @@ use Rattle.meaning.specs.Written.{of, chosen, lent, pair}
 use Rattle.meaning.specs.Computed.{close}
 use Rattle.meaning.specs.Lowest.{Pick, none, one, lowestFrom, lowest, clashed}
 use Rattle.meaning.proofs.Tests.{apart}
+use Rattle.meaning.proofs.Choice.{b-yes, b-no, lt-either}
 use Rattle.book.specs.declared.reader.Shape.{Shape}
 use Rattle.book.specs.Format.{bookIn, ReadAs}
 use Rattle.book.proofs.Places.{shape-count}
 use Rattle.closing.specs.Left.{left, Shallow}
-use Rattle.walk.specs.Events.{Event, clash, fork, reading, after, eventsIn, events, rest}
+use Rattle.walk.specs.Events.{Event, clash, fork, reading, quiet, after, eventsIn, events, rest}
 use Rattle.walk.specs.Run.{Wanted, State, counted, clashedAt, halting, readingMet, tried, run}
 use Rattle.walk.specs.Room.{Room}
+use Rattle.walk.specs.Readings.{readingOf}
+use Rattle.walk.specs.FirstAlike.{countedBy}
 use Rattle.closing.specs.Picked.{picked}
 use Rattle.closing.specs.declared.clash.Picked.{Picked}
 use Rattle.closing.specs.declared.clash.Picked.the-variants.{Rule}
@@ -36,6 +41,7 @@ use Rattle.walk.proofs.Events.{Closes, events-clash, events-reading, re
 use Rattle.walk.proofs.Events.{Forks, fork-falls, fork-shallow, events-fork, rest-fork-on, rest-fork-off}
 use Rattle.closing.proofs.Searches.{lowest-in}
 use Rattle.walk.proofs.Run.{run-append, run-ended, run-try, run-stops, run-fine}
+use Rattle.walk.proofs.Fresh.{counted-append}
 use Rattle.walk.proofs.Meeting.{wanted, room-fine, fine-room}
 
 -- ---- what is kept to
@@ -101,33 +107,67 @@ events-some : (b : Book) (c : Tables) → (e : Event) × (es : List Event) × (e
 unfolding events eventsIn
 events-some b c = after-some _ _ _ _
 
-module _ (b : Book) (w : Wanted) (s : State) (c : Tables) where
-  pub walk-ended : (s .tally .halt ≡ Going → ⊥) → s ≡ run b w s (events b c)
-  walk-ended n = sym (run-ended b w s (events b c) n)
+-- the readings in p count
+counted-some : (b : Book) (p : Set Atoms) (e : Event) (es : List Event) → (f : Event) × (fs : List Event) × (countedBy b p (e ∷ es) ≡ f ∷ fs)
+unfolding countedBy
+counted-some b p (clash r) es = (clash r, _, refl)
+counted-some b p (fork r) es = (fork r, _, refl)
+counted-some b p (reading d) es = (ifb (p (readingOf b d)) (reading d) quiet, _, refl)
+counted-some b p quiet es = (quiet, _, refl)
+
+module _ (b : Book) (p : Set Atoms) (w : Wanted) (s : State) (c : Tables) where
+  -- the events from c, of which the readings in p count
+  abbrev way : List Event
+  way = countedBy b p (events b c)
+
+  pub walk-ended : (s .tally .halt ≡ Going → ⊥) → s ≡ run b w s (countedBy b p (events b c))
+  walk-ended n = sym (run-ended b w s way n)
 
   module _ (going : s .tally .halt ≡ Going) where
-    pub walk-stops : w .limit ≤ s .tally .tries → halting Limit s ≡ run b w s (events b c)
-    walk-stops h = let (e, es, q) = events-some b c in sym (ap (run b w s) q ∙ run-stops b w s going e es h)
+    pub walk-stops : w .limit ≤ s .tally .tries → halting Limit s ≡ run b w s (countedBy b p (events b c))
+    walk-stops h =
+        let (e, es, q) = events-some b c in
+        let (f, fs, r) = counted-some b p e es in
+        sym (ap (run b w s) (ap (countedBy b p) q ∙ r) ∙ run-stops b w s going f fs h)
 
     module _ (h : s .tally .tries < w .limit) {d : Tables} where
       pub walk-clash : {t : Tally} {r : RuleNo} → Closes b c d → clashed b (pair d) ≡ one r → t ≡ clashedAt s r
-          → record { tally = t; out = s .out } ≡ run b w s (events b c)
-      unfolding run tried
-      walk-clash k z e = rw e (sym (ap (run b w s) (events-clash k z) ∙ run-try b w s going (clash _) [] h))
+          → record { tally = t; out = s .out } ≡ run b w s (countedBy b p (events b c))
+      unfolding run tried countedBy
+      walk-clash k z e = rw e (sym (ap (λ (es : List Event). run b w s (countedBy b p es)) (events-clash k z) ∙ run-try b w s going (clash _) [] h))
 
-      pub walk-reading : {u : State} → Closes b c d → clashed b (pair d) ≡ none → lowest b (uncoloured (pair d)) ≡ none
-          → u ≡ readingMet b w s (heads b (of (d .on))) → u ≡ run b w s (events b c)
-      unfolding run tried
-      walk-reading k z p e = e ∙ sym (ap (run b w s) (events-reading k z p) ∙ run-try b w s going (reading d) [] h)
+      module _ (k : Closes b c d) (z : clashed b (pair d) ≡ none) (q : lowest b (uncoloured (pair d)) ≡ none)
+          {x : Bool} (asked : x ≡ p (heads b (of (d .on)))) where
+        one-event : (e : Event) → ifb (p (heads b (of (d .on)))) (reading d) quiet ≡ e → way ≡ e ∷ []
+        unfolding countedBy
+        one-event e f = ap (countedBy b p) (events-reading k z q) ∙ ap (λ (g : Event). g ∷ []) f
+
+        pub walk-reading : {u : State} → x ≡ true → u ≡ readingMet b w s (heads b (of (d .on))) → u ≡ run b w s (countedBy b p (events b c))
+        unfolding run tried
+        walk-reading t e = e ∙ sym (ap (run b w s) (one-event (reading d) (b-yes _ _ _ (sym asked ∙ t))) ∙ run-try b w s going (reading d) [] h)
+
+        pub walk-quiet : {t : Tally} → x ≡ false → t ≡ counted s (s .tally .sets) Going
+            → record { tally = t; out = s .out } ≡ run b w s (countedBy b p (events b c))
+        unfolding run tried
+        walk-quiet f e = rw e (sym (ap (run b w s) (one-event quiet (b-no _ _ _ (sym asked ∙ f))) ∙ run-try b w s going quiet [] h))
 
       -- x and y are the two sides of the fork, u the state after the first and v after the second
       pub walk-fork : {r : RuleNo} {t : Tally} {x y : Tables} {u v : State} → Forks b c d r → t ≡ counted s (s .tally .sets) Going
-          → x ≡ chosen onSide r d → u ≡ run b w (record { tally = t; out = s .out }) (events b x)
-          → y ≡ chosen offSide r d → v ≡ run b w u (events b y) → v ≡ run b w s (events b c)
-      unfolding tried
+          → x ≡ chosen onSide r d → u ≡ run b w (record { tally = t; out = s .out }) (countedBy b p (events b x))
+          → y ≡ chosen offSide r d → v ≡ run b w u (countedBy b p (events b y)) → v ≡ run b w s (countedBy b p (events b c))
+      unfolding tried countedBy
       walk-fork {r} f et ex eu ey ev =
           ev ∙ rw (ey, eu, ex, et)
-          (sym (ap (run b w s) (events-fork f) ∙ run-try b w s going (fork r) _ h ∙ run-append b w _ _ _))
+          (sym (ap (λ (es : List Event). run b w s (countedBy b p es)) (events-fork f)
+          ∙ run-try b w s going (fork r) _ h
+          ∙ ap (run b w _) (counted-append b p (events b (chosen onSide r d)) (events b (chosen offSide r d)))
+          ∙ run-append b w _ _ _))
+
+-- one reading more
+pub met-sets : (b : Book) (w : Wanted) (s : State) (x : Atoms) {t : State} → t ≡ readingMet b w s x → t .tally .sets ≡ s .tally .sets + 1
+unfolding readingMet
+met-sets b w s x e = ap (λ (u : State). u .tally .sets) e
+    ∙ lt-either (λ (u : State). u .tally .sets ≡ s .tally .sets + 1) _ _ _ _ (λ h. refl) (λ h. refl)
 
 -- ---- the ways of a call that goes on behind a set x
 

@@ -13,7 +13,7 @@ use Rattle.meaning.specs.Books.{Book}
 use Rattle.meaning.specs.Choice.{ifLt, ifEq}
 use Rattle.meaning.proofs.Tests.{lt-or-le, apart}
 use Rattle.meaning.proofs.Choice.{lt-yes, lt-no, eq-yes, eq-no}
-use Rattle.walk.specs.Events.{Event, clash, fork, reading}
+use Rattle.walk.specs.Events.{Event, clash, fork, reading, quiet}
 use Rattle.walk.specs.Readings.{readingOf, readingsIn}
 use Rattle.walk.specs.Tries.{clashIn}
 use Rattle.meaning.specs.Buffers.{writeAt}
@@ -29,6 +29,7 @@ module _ (b : Book) (w : Wanted) where
   unfoldable pub step : State → Event → State
   step s (clash r) = record { tally = clashedAt s r; out = s .out }
   step s (fork r) = record { tally = counted s (s .tally .sets) Going; out = s .out }
+  step s quiet = record { tally = counted s (s .tally .sets) Going; out = s .out }
   step s (reading d) = record {
     tally = counted s (s .tally .sets + 1) Going;
     out = ifLt (s .tally .sets) (w .pass) (s .out) (writeAt ((s .tally .sets - w .pass) * b .atoms) (rowOf b (readingOf b d)) (s .out));
@@ -69,6 +70,7 @@ module _ (b : Book) (w : Wanted) where
   gone-tries s [] = omega arith
   gone-tries s (clash r ∷ es) = omega (arith, gone-tries (step s (clash r)) es)
   gone-tries s (fork r ∷ es) = omega (arith, gone-tries (step s (fork r)) es)
+  gone-tries s (quiet ∷ es) = omega (arith, gone-tries (step s quiet) es)
   gone-tries s (reading d ∷ es) = omega (arith, gone-tries (step s (reading d)) es)
 
   pub gone-sets : (s : State) (es : List Event) → gone s es .tally .sets ≡ s .tally .sets + length (readingsIn b es)
@@ -76,6 +78,7 @@ module _ (b : Book) (w : Wanted) where
   gone-sets s [] = omega arith
   gone-sets s (clash r ∷ es) = gone-sets (step s (clash r)) es
   gone-sets s (fork r ∷ es) = gone-sets (step s (fork r)) es
+  gone-sets s (quiet ∷ es) = gone-sets (step s quiet) es
   gone-sets s (reading d ∷ es) = omega (arith, gone-sets (step s (reading d)) es)
 
   pub gone-clash : (s : State) (es : List Event) → gone s es .tally .clash .0 ≡ clashIn (s .tally .clash .0) es
@@ -83,6 +86,7 @@ module _ (b : Book) (w : Wanted) where
   gone-clash s [] = refl
   gone-clash s (clash r ∷ es) = gone-clash (step s (clash r)) es
   gone-clash s (fork r ∷ es) = gone-clash (step s (fork r)) es
+  gone-clash s (quiet ∷ es) = gone-clash (step s quiet) es
   gone-clash s (reading d ∷ es) = gone-clash (step s (reading d)) es
 
   -- readings that are passed over leave the buffer
@@ -91,6 +95,7 @@ module _ (b : Book) (w : Wanted) where
   gone-passes s [] h = refl
   gone-passes s (clash r ∷ es) h = gone-passes (step s (clash r)) es h
   gone-passes s (fork r ∷ es) h = gone-passes (step s (fork r)) es h
+  gone-passes s (quiet ∷ es) h = gone-passes (step s quiet) es h
   gone-passes s (reading d ∷ es) h = gone-passes (step s (reading d)) es (omega arith) ∙ lt-yes _ _ _ _ (omega arith)
 
   -- the place of the next row
@@ -105,6 +110,7 @@ module _ (b : Book) (w : Wanted) where
   gone-writes s [] p h = sym (write-none (place s) (s .out))
   gone-writes s (clash r ∷ es) p h = gone-writes (step s (clash r)) es p h
   gone-writes s (fork r ∷ es) p h = gone-writes (step s (fork r)) es p h
+  gone-writes s (quiet ∷ es) p h = gone-writes (step s quiet) es p h
   gone-writes s (reading d ∷ es) p h =
       let t = step s (reading d) in let row = rowOf b (readingOf b d) in let rows = rowsOf b (readingsIn b es) in
       let o : t .out ≡ writeAt (place s) row (s .out) = lt-no _ _ _ _ p in
@@ -172,6 +178,9 @@ module _ (b : Book) (w : Wanted) where
         (lt-or-le (s .tally .tries) (w .limit))
     way s (fork r ∷ es) g h o = ⊎-elim
         (λ l. goes-on s g (fork r) es l refl (way (step s (fork r)) es refl (omega arith) o)) (stops s g (fork r) es h o)
+        (lt-or-le (s .tally .tries) (w .limit))
+    way s (quiet ∷ es) g h o = ⊎-elim
+        (λ l. goes-on s g quiet es l refl (way (step s quiet) es refl (omega arith) o)) (stops s g quiet es h o)
         (lt-or-le (s .tally .tries) (w .limit))
     way s (reading d ∷ es) g h o = ⊎-elim
         (λ l. ⊎-elim

@@ -19,11 +19,12 @@ use Rattle.meaning.specs.Computed.{close}
 use Rattle.meaning.specs.Lowest.{Pick, none, one, lowest, clashed}
 
 -- how a try ends: in a contradiction, with the lowest rule in both sets of the closed pair; at a rule without a colour; or with every rule
--- coloured
+-- coloured; a quiet try ends in neither a contradiction nor a reading that counts, and `events` has none
 pub data Event : Type 0 where
   clash : RuleNo → Event
   fork : RuleNo → Event
   reading : Tables → Event
+  quiet : Event
 
 -- after a closing that gave d: its lowest rule in both sets, its lowest uncoloured rule, and the walk below
 unfoldable pub after : Tables → Pick → Pick → (Tables → List Event) → List Event

@@ -2,6 +2,7 @@
 -- "Finding: 15, 8, then the walk."
 --
 --   told             an answer's number and values, case by case
+--   findAlong b es k limit answer   the answer and the buffer, along the events es of a walk
 --   findOf book k limit answer   the answer and the buffer, of the bytes of the book and of the buffer before
 --   firstWalk b limit            the walk to answer set 1, for whoever needs no more than that there is one
 use mathlib.Core.List.{List}
@@ -13,12 +14,12 @@ use Rattle.meaning.specs.Choice.{ifLt, ifEq}
 use Rattle.meaning.specs.Told.{Told, success, refusedAt, refused, fewer, stopped, Answered}
 use Rattle.book.specs.Numbers.{numberOf, placeOf}
 use Rattle.book.specs.Format.{BookRead, good, bad, readOf}
-use Rattle.walk.specs.Events.{events}
+use Rattle.walk.specs.Events.{Event, events}
 use Rattle.walk.specs.Run.{State, run}
 use Rattle.walk.specs.declared.tally.Halt.{Halt}
 use Rattle.walk.specs.declared.tally.Halt.the-variants.{Going, Full, Limit}
 use Rattle.walk.specs.declared.kth.Found.{Found}
-use Rattle.walk.specs.declared.kth.Found.the-variants.{Set, Fewer, Stopped, Book as BadBook, NoRoom, NoNumber}
+use Rattle.walk.specs.declared.kth.Found.the-variants.{Set, Fewer, Stopped, Book as BadBook, NoRoom, NoNumber, NoList}
 
 -- success tells the tries
 abbrev pub set : ℕ → Told ℕ
@@ -31,6 +32,7 @@ told (Stopped limit) = stopped limit
 told (BadBook f) = refusedAt (numberOf f) (placeOf f)
 told NoRoom = refused 8
 told NoNumber = refused 15
+told NoList = refused 16
 
 -- so many tries were made before, and none was contradictory as far as the way knows
 abbrev pub startAt : ℕ → List ℕ → State
@@ -48,11 +50,14 @@ abbrev pub answeredBy : State → ℕ → Answered ℕ
 answeredBy s limit = record { told = toldBy (s .tally .halt) s limit; buffer = s .out }
 
 -- the k-th reading: pass over one less, then write one row
-unfoldable pub findIn : Book → ℕ → ℕ → List ℕ → Answered ℕ
-findIn b k limit answer =
+unfoldable pub findAlong : Book → List Event → ℕ → ℕ → List ℕ → Answered ℕ
+findAlong b es k limit answer =
     ifEq k 0 (record { told = refused 15; buffer = answer })
     (ifLt (length answer) (b .atoms) (record { told = refused 8; buffer = answer })
-    (answeredBy (run b (record { pass = k - 1; room = 1; limit = limit }) (startOf answer) (events b nothing)) limit))
+    (answeredBy (run b (record { pass = k - 1; room = 1; limit = limit }) (startOf answer) es) limit))
+
+abbrev pub findIn : Book → ℕ → ℕ → List ℕ → Answered ℕ
+findIn b k limit answer = findAlong b (events b nothing) k limit answer
 
 unfoldable pub findRead : BookRead → ℕ → ℕ → List ℕ → Answered ℕ
 findRead (good n r index l) k limit answer = findIn (record { atoms = n; rules = l }) k limit answer

@@ -8,3 +8,8 @@ pub mod Page
 pub mod Listing
 pub mod Room
 pub mod Levels
+pub mod Shown
+pub mod FirstAlike
+pub mod Search
+pub mod Memory
+pub mod FindShown

@@ -18,7 +18,7 @@ use Rattle.meaning.specs.Books.{Atoms, Book, InBook}
 use Rattle.meaning.specs.AnswerSet.{AnswerSet, generating}
 use Rattle.meaning.specs.Colours.{heads}
 use Rattle.meaning.specs.Written.{of, nothing}
-use Rattle.walk.specs.Events.{Event, clash, fork, reading, events}
+use Rattle.walk.specs.Events.{Event, clash, fork, reading, quiet, events}
 
 abbrev pub readingOf : Book → Tables → Atoms
 readingOf b d = heads b (of (d .on))
@@ -28,8 +28,9 @@ readingsIn b [] = []
 readingsIn b (clash r ∷ es) = readingsIn b es
 readingsIn b (fork r ∷ es) = readingsIn b es
 readingsIn b (reading d ∷ es) = readingOf b d ∷ readingsIn b es
+readingsIn b (quiet ∷ es) = readingsIn b es
 
-unfoldable pub readings : Book → List Atoms
+abbrev pub readings : Book → List Atoms
 readings b = readingsIn b (events b nothing)
 
 abbrev pub Agree : Atoms → Atoms → Type 0

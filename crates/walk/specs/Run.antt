@@ -11,7 +11,7 @@ use Rattle.meaning.specs.declared.RuleNo.{RuleNo}
 use Rattle.meaning.specs.Books.{Atoms, atomNo, Book}
 use Rattle.meaning.specs.Choice.{ifb, ifLt, ifEq}
 use Rattle.meaning.specs.Buffers.{writeAt}
-use Rattle.walk.specs.Events.{Event, clash, fork, reading}
+use Rattle.walk.specs.Events.{Event, clash, fork, reading, quiet}
 use Rattle.walk.specs.Readings.{readingOf}
 use Rattle.walk.specs.declared.tally.Tally.{Tally}
 use Rattle.walk.specs.declared.tally.Halt.{Halt}
@@ -60,6 +60,7 @@ unfoldable pub tried : Book → Wanted → State → Event → State
 tried b w s (clash r) = record { tally = clashedAt s r; out = s .out }
 tried b w s (fork r) = record { tally = counted s (s .tally .sets) Going; out = s .out }
 tried b w s (reading d) = readingMet b w s (readingOf b d)
+tried b w s quiet = record { tally = counted s (s .tally .sets) Going; out = s .out }
 
 -- one event: nothing more once the way has ended; the limit stops it before another try
 unfoldable pub met : Book → Wanted → Halt → State → Event → State

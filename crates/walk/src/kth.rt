@@ -35,6 +35,8 @@ pub enum Found {
     NoRoom,
     // 15: k is 0.
     NoNumber,
+    // 16: the list of shown atoms is out of range or out of order.
+    NoList,
 }
 
 // Walks to the k-th reading of a good book and writes it, by the rows that are lent.

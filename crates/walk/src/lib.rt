@@ -3,13 +3,20 @@
 
 mod bytes;
 mod colours;
+mod counts;
 mod descent;
 mod kth;
+mod list;
 mod meet;
+mod memory;
 mod page_answer;
 mod pages;
+mod part;
 mod resume;
+mod search;
+mod selected;
 mod tally;
+mod verdict;
 mod walk;
 
 pub use colours::lowest_uncoloured;
@@ -20,5 +27,6 @@ pub use kth::first;
 pub use page_answer::Page;
 pub use pages::page;
 pub use resume::generates;
+pub use selected::find_shown;
 pub use tally::Halt;
 pub use tally::Tally;

@@ -8,7 +8,10 @@ ghost use Rattle.closing.specs.Left.{Shallow};
 ghost use Rattle.walk.specs.Events.{events};
 ghost use Rattle.walk.specs.Run.{State, run};
 ghost use Rattle.walk.specs.Room.{Room};
+ghost use Rattle.walk.specs.FirstAlike.{counts, countedBy};
+ghost use Rattle.walk.specs.Search.{shownIn, Remembers};
 use crate::colours::lowest_uncoloured;
+use crate::counts::does_count;
 use crate::meet::meet;
 use crate::tally::Halt;
 use crate::tally::Tally;
@@ -18,27 +21,36 @@ use closing::close;
 use meaning::Colouring;
 
 // Walks on from the colouring c: one try, and after a choice first with the rule on, then with it
-// off, each from the colouring before the choice.
+// off, each from the colouring before the choice. Every reading counts, or only those that no earlier
+// one matches on the shown atoms, which are the mask; the memory holds what was found to count.
 // It ends because each choice leaves fewer rules without a colour: closing takes no colour away, and
 // the chosen rule, which had none, gets one. So it goes at most 255 levels deep.
-pub fn walk(
+pub fn walk_shown(
     book: &[u8],
     shape: Shape,
     rows: &[u64; 3072],
     c: Colouring,
+    every: bool,
+    mask: &[u64; 4],
     pass: u32,
     room: usize,
     limit: u32,
     t: Tally,
+    seen: &mut [u64],
     out: &mut [u8],
 ) -> Tally
     requires { ⌜ ReadAs (now book) shape
         × Room (bookIn (now book)) pass room (record { tally = t; out = now out })
         × Shallow (bookIn (now book)) (written c)
-        × RuleRows (bookIn (now book)) (now rows) ⌝ }
-    ensures { λ r. ⌜ _≡_ {A = State} (record { tally = r; out = now (out .exit) })
+        × RuleRows (bookIn (now book)) (now rows)
+        × Remembers every (bookIn (now book)) (shownIn (now mask)) (now seen) (t .sets) ⌝ }
+    ensures { λ r. ⌜ (_≡_ {A = State} (record { tally = r; out = now (out .exit) })
         (run (bookIn (now (book .entry))) (record { pass = pass; room = room; limit = limit })
-        (record { tally = t; out = now (out .entry) }) (events (bookIn (now (book .entry))) (written c))) ⌝ }
+        (record { tally = t; out = now (out .entry) })
+        (countedBy (bookIn (now (book .entry)))
+        (counts every (bookIn (now (book .entry))) (shownIn (now (mask .entry))))
+        (events (bookIn (now (book .entry))) (written c)))))
+        × Remembers every (bookIn (now (book .entry))) (shownIn (now (mask .entry))) (now (seen .exit)) (r .sets) ⌝ }
 {
     let halt = t.halt;
     let Halt::Going = halt else {
@@ -60,20 +72,77 @@ pub fn walk(
     }
     let d = closed.colours;
     let Picked::Rule(r) = lowest_uncoloured(shape.rules, d.on, d.off) else {
+        if !does_count(book, shape, rows, d.on, every, mask, t.sets, seen) {
+            return t.tried(t.sets, Halt::Going);
+        }
         return meet(book, shape, d.on, pass, room, limit, t, out);
     };
     let forked = t.tried(t.sets, Halt::Going);
     let chosen = d.choose_on(r);
-    let first = walk(book, shape, rows, chosen, pass, room, limit, forked, out);
-    walk(
+    let first = walk_shown(
+        book,
+        shape,
+        rows,
+        chosen,
+        every,
+        mask,
+        pass,
+        room,
+        limit,
+        forked,
+        seen,
+        out,
+    );
+    walk_shown(
         book,
         shape,
         rows,
         d.choose_off(r),
+        every,
+        mask,
         pass,
         room,
         limit,
         first,
+        seen,
+        out,
+    )
+}
+
+// The walk on which every reading counts.
+pub fn walk(
+    book: &[u8],
+    shape: Shape,
+    rows: &[u64; 3072],
+    c: Colouring,
+    pass: u32,
+    room: usize,
+    limit: u32,
+    t: Tally,
+    out: &mut [u8],
+) -> Tally
+    requires { ⌜ ReadAs (now book) shape
+        × Room (bookIn (now book)) pass room (record { tally = t; out = now out })
+        × Shallow (bookIn (now book)) (written c)
+        × RuleRows (bookIn (now book)) (now rows) ⌝ }
+    ensures { λ r. ⌜ _≡_ {A = State} (record { tally = r; out = now (out .exit) })
+        (run (bookIn (now (book .entry))) (record { pass = pass; room = room; limit = limit })
+        (record { tally = t; out = now (out .entry) }) (events (bookIn (now (book .entry))) (written c))) ⌝ }
+{
+    let mask = [0u64; 4];
+    let mut seen = [0u64; 1];
+    walk_shown(
+        book,
+        shape,
+        rows,
+        c,
+        true,
+        &mask,
+        pass,
+        room,
+        limit,
+        t,
+        &mut seen,
         out,
     )
 }

@@ -20,6 +20,8 @@ use Rattle.meaning.specs.Claim.{meant}
 use Rattle.meaning.specs.Paper.{Keeps, paperBytes}
 use Rattle.meaning.specs.Told.{Told, success, refusedWith, refusedAt, refused, fewer, stopped, Answered}
 use Rattle.meaning.proofs.Tests.{true-and-false}
+use Rattle.meaning.specs.Written.{nothing}
+use Rattle.walk.specs.Events.{events}
 use Rattle.walk.specs.Readings.{readings}
 use Rattle.walk.specs.Tries.{Kth, to-reading, to-end, lastClash}
 use Rattle.walk.specs.Tries.{Needs}
@@ -51,7 +53,7 @@ module _ (b : Book) (k : Claim) (limit : ℕ) (buffer : List ℕ) where
       × (after ≡ paperFor b k x ++ drop (s .size) buffer)
   Says (refusedWith i []) after = ⊥
   Says (refusedWith i (l ∷ [])) after =
-      ((n : ℕ) × Needs b 1 n × (limit < n)) ⊎ ((n : ℕ) × PaperNeeds b k n × (limit < n) × (x : Atoms) × Found b limit x)
+      ((n : ℕ) × Needs b (events b nothing) 1 n × (limit < n)) ⊎ ((n : ℕ) × PaperNeeds b k n × (limit < n) × (x : Atoms) × Found b limit x)
   Says (refusedWith i (t ∷ (n ∷ l))) after = length (readings b) < 1
   Says (refusedAt i at) after = ⊥
   Says (refused i) after = ((n : ℕ) × Stuck b k n × (i ≡ lacking (k .kind))) ⊎ ((x : Atoms) × Found b limit x × TooLong b k buffer x × (i ≡ 14))
@@ -75,18 +77,18 @@ module _ (b : Book) (k : Claim) (limit : ℕ) (buffer : List ℕ) where
     -- ---- in document 01's order
 
     -- "9 exactly if the first walk needs more than L tries to come to answer set 1 or to its end"; for the converse see write-stopped
-    pub write-first-stopped : {n : ℕ} → Needs b 1 n → limit < n
+    pub write-first-stopped : {n : ℕ} → Needs b (events b nothing) 1 n → limit < n
         → writeIn b k limit buffer ≡ record { told = stopped limit; buffer = buffer }
     write-first-stopped p h = way-first-stopped b k limit buffer good p h
 
-    module _ {n : ℕ} (tries : Needs b 1 n) (within : n ≤ limit) where
+    module _ {n : ℕ} (tries : Needs b (events b nothing) 1 n) (within : n ≤ limit) where
       -- "otherwise 11 exactly if there is no answer set", with all tries of that walk and the rule that clashed last in it
-      pub write-none : (writeIn b k limit buffer .told ≡ fewer n 0 (lastClash b)) ↔ ((x : Atoms) → AnswerSet b x → ⊥)
+      pub write-none : (writeIn b k limit buffer .told ≡ fewer n 0 (lastClash (events b nothing))) ↔ ((x : Atoms) → AnswerSet b x → ⊥)
       unfolding Says
       write-none = (λ e. fewer-none b (good .few-rules) (says e), back tries within)
         where
-          back : {n : ℕ} → Needs b 1 n → n ≤ limit → ((x : Atoms) → AnswerSet b x → ⊥)
-              → writeIn b k limit buffer .told ≡ fewer n 0 (lastClash b)
+          back : {n : ℕ} → Needs b (events b nothing) 1 n → n ≤ limit → ((x : Atoms) → AnswerSet b x → ⊥)
+              → writeIn b k limit buffer .told ≡ fewer n 0 (lastClash (events b nothing))
           back (to-reading {x = x} first) h none = absurd (none x (kth-answer b (good .few-rules) first))
           back (to-end f) h none = told-by (way-no-reading b k limit buffer good f h)
 
@@ -94,7 +96,7 @@ module _ (b : Book) (k : Claim) (limit : ℕ) (buffer : List ℕ) where
         found : (x : Atoms) × Found b limit x
         found = by tries within
           where
-            by : {n : ℕ} → Needs b 1 n → n ≤ limit → (x : Atoms) × Found b limit x
+            by : {n : ℕ} → Needs b (events b nothing) 1 n → n ≤ limit → (x : Atoms) × Found b limit x
             by {n} (to-reading {x = x} first) h = (x, (n, first, h))
             by (to-end f) h = absurd (fewer-none b (good .few-rules) f (some .0) (some .1))
 
@@ -116,7 +118,7 @@ module _ (b : Book) (k : Claim) (limit : ℕ) (buffer : List ℕ) where
             λ u. told-by (way-stuck b k limit buffer good (found .1) u enough),
           )
 
-          module _ (all : every settled (branches b k start) ≡ true) {t : ℕ} {x : Atoms} (first : Kth b 1 t x) where
+          module _ (all : every settled (branches b k start) ≡ true) {t : ℕ} {x : Atoms} (first : Kth b (events b nothing) 1 t x) where
             first-found : Found b limit x
             first-found = (t, first, omega (arith, needs-one b (to-reading first) tries))
 
@@ -142,7 +144,7 @@ module _ (b : Book) (k : Claim) (limit : ℕ) (buffer : List ℕ) where
             write-paper l h = way-paper b k limit buffer good first-found within-limit l h
 
     -- both 9s together
-    pub write-stopped : {n m : ℕ} → Needs b 1 n → PaperNeeds b k m → (writeIn b k limit buffer .told ≡ stopped limit)
+    pub write-stopped : {n m : ℕ} → Needs b (events b nothing) 1 n → PaperNeeds b k m → (writeIn b k limit buffer .told ≡ stopped limit)
         ↔ ((limit < n) ⊎ ((n ≤ limit) × ((x : Atoms) × AnswerSet b x) × (limit < m)))
     unfolding Says
     write-stopped tries needs = (
@@ -196,7 +198,7 @@ module _ (b : Book) (k : Claim) (limit : ℕ) (buffer : List ℕ) where
 
     -- "When the atom is in all answer sets, and there is at least one, the engine writes such a paper unless document 01's walks pass the
     -- tries limit or its paper passes the room given or 60,000 bytes"
-    pub write-writes : Throughout b (meant k) → {t : ℕ} {x : Atoms} → Kth b 1 t x → t ≤ limit → length (branches b k start) ≤ limit
+    pub write-writes : Throughout b (meant k) → {t : ℕ} {x : Atoms} → Kth b (events b nothing) 1 t x → t ≤ limit → length (branches b k start) ≤ limit
         → length (paperFor b k x) ≤ length buffer → length (paperFor b k x) ≤ paperBytes
         → (writeIn b k limit buffer ≡ written b k buffer x) × Keeps b k (paperFor b k x)
     write-writes c {t} {x} first h l room most =

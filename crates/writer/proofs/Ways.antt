@@ -60,7 +60,7 @@ written b k buffer x = record {
 
 -- answer set 1 is x, and is found within the limit
 abbrev pub Found : Book → ℕ → Atoms → Type 0
-Found b limit x = (t : ℕ) × Kth b 1 t x × (t ≤ limit)
+Found b limit x = (t : ℕ) × Kth b (events b nothing) 1 t x × (t ≤ limit)
 
 -- every branch is settled, and they are within the limit
 abbrev pub Settled : Book → Claim → ℕ → Type 0
@@ -72,8 +72,8 @@ TooLong b k buffer x = (length buffer < length (paperFor b k x)) ⊎ (paperBytes
 
 module _ (b : Book) (k : Claim) (limit : ℕ) (buffer : List ℕ) where
   pub data Outcome : Answered Handed → Type 0 where
-    first-stopped : {n : ℕ} → Needs b 1 n → limit < n → Outcome (only buffer (stopped limit))
-    no-reading : length (readings b) < 1 → length (events b nothing) ≤ limit → Outcome (only buffer (fewer (length (events b nothing)) 0 (lastClash b)))
+    first-stopped : {n : ℕ} → Needs b (events b nothing) 1 n → limit < n → Outcome (only buffer (stopped limit))
+    no-reading : length (readings b) < 1 → length (events b nothing) ≤ limit → Outcome (only buffer (fewer (length (events b nothing)) 0 (lastClash (events b nothing))))
     paper-stopped : {x : Atoms} {n : ℕ} → Found b limit x → PaperNeeds b k n → limit < n → Outcome (only buffer (stopped limit))
     got-stuck : {x : Atoms} {n : ℕ} → Found b limit x → Stuck b k n → n ≤ limit → Outcome (only buffer (refused (lacking (k .kind))))
     too-long : {x : Atoms} → Found b limit x → Settled b k limit → TooLong b k buffer x → Outcome (only buffer (refused 14))
@@ -86,12 +86,12 @@ module _ (b : Book) (k : Claim) (limit : ℕ) (buffer : List ℕ) where
 
     -- ---- what each way answers
 
-    pub way-first-stopped : {n : ℕ} → Needs b 1 n → limit < n → writeIn b k limit buffer ≡ only buffer (stopped limit)
+    pub way-first-stopped : {n : ℕ} → Needs b (events b nothing) 1 n → limit < n → writeIn b k limit buffer ≡ only buffer (stopped limit)
     unfolding writeIn afterFirstWalk
     way-first-stopped p h = lt-yes _ _ _ _ (good .atom-below) ∙ rw (first-limited b limit (good .few-atoms) p h)
 
     pub way-no-reading : length (readings b) < 1 → length (events b nothing) ≤ limit
-        → writeIn b k limit buffer ≡ only buffer (fewer (length (events b nothing)) 0 (lastClash b))
+        → writeIn b k limit buffer ≡ only buffer (fewer (length (events b nothing)) 0 (lastClash (events b nothing)))
     unfolding writeIn afterFirstWalk
     way-no-reading p h =
         let (e, t, c) = first-none b limit (good .few-atoms) p h in lt-yes _ _ _ _ (good .atom-below) ∙ rw (e, t, c)
@@ -154,7 +154,7 @@ module _ (b : Book) (k : Claim) (limit : ℕ) (buffer : List ℕ) where
         (λ (t, x, first). ⊎-elim (λ h. stopped-first (to-reading first) h) (λ h. found-outcome (t, first, h)) (lt-or-le limit t))
         (λ none. ⊎-elim (λ h. stopped-first (to-end none) h) (λ h. rw (way-no-reading none h) (no-reading none h))
         (lt-or-le limit (length (events b nothing))))
-        (kth-or-fewer b 1 (omega arith))
+        (kth-or-fewer b (events b nothing) 1 (omega arith))
       where
-        stopped-first : {n : ℕ} → Needs b 1 n → limit < n → Outcome answer
+        stopped-first : {n : ℕ} → Needs b (events b nothing) 1 n → limit < n → Outcome answer
         stopped-first p h = rw (way-first-stopped p h) (first-stopped p h)

@@ -1,0 +1,251 @@
+-- The walk meets its contract: each return is one way of the laws in Walking, with what the calls on that way said. The measure is the
+-- number of rules without a colour: each side of a fork has fewer.
+use mathlib.Core.Path.{_≡_, sym, _∙_, ap}
+use Prim.Native.Nat.{ℕ, _<_}
+use native.Mathlib.Omega.{arith}
+use borrow.Author.Needs.{needs}
+use borrow.Author.Tests.{not-true, not-false}
+use borrow.Fn.Kinds.{In}
+use borrow.Fn.PlainCycle.{Measures, is, falls, and}
+use Rattle.meaning.specs.Colours.{onSide, offSide, uncoloured}
+use Rattle.meaning.specs.Written.{written, pair}
+use Rattle.meaning.specs.Lowest.{none, clashed, lowest}
+use Rattle.meaning.proofs.Choice.{b-yes, b-no}
+use Rattle.meaning.proofs.Written.{Sized}
+use Rattle.meaning.proofs.Listed.{sized-written}
+use Rattle.book.specs.Format.{bookIn}
+use Rattle.closing.specs.Left.{left}
+use Rattle.walk.specs.declared.tally.Tally.{Tally}
+use Rattle.walk.specs.declared.tally.Halt.the-variants.{Going}
+use Rattle.walk.proofs.Events.{Closes, Forks, fork-low, fork-level}
+use Rattle.walk.proofs.Forks.{reading-generated}
+use Rattle.walk.proofs.Remembering.{remembers-at}
+use Rattle.walk.proofs.Walking.{few, clash-told, lowest-told, forks-told, side-falls, side-shallow, room-tried, room-run, met-sets}
+use Rattle.walk.proofs.Walking.{halted-told, walk-ended, walk-stops, walk-clash, walk-reading, walk-quiet, walk-fork}
+use Rattle.walk.proofs.walk.walk_shown.Reads as walk
+use Rattle.walk.proofs.walk.walk_shown.Kinds as kinds
+use Rattle.walk.proofs.walk.+walk_shown.Lts-walk_shown as lts
+use Rattle.closing.proofs.close.Reads as close-reads
+use Rattle.meaning.proofs.colouring.Colouring.choose_off.Reads as choose-off-reads
+use Rattle.meaning.proofs.colouring.Colouring.choose_on.Reads as choose-on-reads
+use Rattle.walk.proofs.colours.lowest_uncoloured.Reads as lowest-uncoloured-reads
+use Rattle.walk.proofs.counts.does_count.Reads as does-count-reads
+use Rattle.walk.proofs.meet.meet.Reads as meet-reads
+use Rattle.walk.proofs.tally.Tally.clashed.Reads as clashed-reads
+use Rattle.walk.proofs.tally.Tally.tried.Reads as tried-reads
+use Rattle.walk.proofs.walk.+walk_shown.{statement}
+use Rattle.walk.proofs.walk.+walk_shown.Tie.{close}
+
+abbrev μ-walk : Measures 5 kinds.ps ℕ
+μ-walk κs a = let (book, (shape, (rows, (c, more)))) = a in left (bookIn (book .now)) (written c)
+
+module _ (t : ℕ) where
+  -- this call's measure is t, that of the calls below is less
+  abbrev here : In 5 kinds.ps
+  here = and 5 kinds.ps (is 5 kinds.ps μ-walk t) walk.Pre
+
+  abbrev below : In 5 kinds.ps
+  below = and 5 kinds.ps (falls 5 kinds.ps _<_ μ-walk t) walk.Pre
+
+  abbrev calls : lts.Claims
+  calls = (
+    close-reads.Asked,
+    close-reads.Learnt,
+    clashed-reads.Asked,
+    clashed-reads.Learnt,
+    lowest-uncoloured-reads.Asked,
+    lowest-uncoloured-reads.Learnt,
+    does-count-reads.Asked,
+    does-count-reads.Learnt,
+    tried-reads.Asked,
+    tried-reads.Learnt,
+    meet-reads.Asked,
+    meet-reads.Learnt,
+    choose-on-reads.Asked,
+    choose-on-reads.Learnt,
+    below,
+    walk.Post,
+    choose-off-reads.Asked,
+    choose-off-reads.Learnt,
+  )
+
+  -- ---- the places on the way, with what is known there
+
+  sized : (c : lts.Start calls here walk.Post) → Sized (written (c .args .c))
+  sized c = sized-written (c .args .c) (search needs)
+
+  small : (c : lts.Start calls here walk.Post) → c .args .shape .rules < 256
+  small c = search needs
+
+  limit-small : (c : lts.Start calls here walk.Post) → c .args .limit < 4294967296
+  limit-small c = search needs
+
+  -- behind the closing
+  module _ (c : lts.After-close calls here walk.Post) where
+    abbrev start : lts.Start calls here walk.Post
+    start = c .before .before .before .before .before .before .before .before
+
+    closes : Closes (bookIn (start .args .book .now)) (written (start .args .c)) (written (c .close .result .colours))
+    closes = record { few = few _ _ (start .pre .1 .0) (small start); sized = sized start; closed = c .close .ensures .0 }
+
+    going : start .args .t .halt ≡ Going
+    going = c .before .before .before .enum-told .given .1
+
+    within : start .args .t .tries < start .args .limit
+    within = c .before .if1 .left
+
+    more : start .args .t .tries < 4294967295
+    more = omega (arith, within, limit-small start)
+
+  -- behind the search for a rule to choose: there was no contradiction
+  module _ (c : lts.After-lowest-uncoloured calls here walk.Post) where
+    abbrev quiet : lts.After-enum-told2 calls here walk.Post
+    quiet = c .before .before
+
+    abbrev closing : lts.After-close calls here walk.Post
+    closing = quiet .before .before
+
+    calm : clashed (bookIn (start closing .args .book .now)) (pair (written (closing .close .result .colours))) ≡ none
+    calm = clash-told (closes closing) (closing .close .ensures .1) (quiet .enum-told2 .given .1)
+
+  -- where there is none
+  module _ (c : lts.After-enum-told3 calls here walk.Post) where
+    abbrev asked : lts.After-lowest-uncoloured calls here walk.Post
+    asked = c .before .before
+
+    abbrev full : lts.After-close calls here walk.Post
+    full = closing asked
+
+    all : lowest (bookIn (start full .args .book .now)) (uncoloured (pair (written (full .close .result .colours)))) ≡ none
+    all = lowest-told _ _ (start full .pre .1 .0) _ _ (asked .lowest-uncoloured .ensures) (c .enum-told3 .given .1)
+
+  -- where there is such a rule
+  module _ (c : lts.After-known-told2 calls here walk.Post) where
+    abbrev searched : lts.After-lowest-uncoloured calls here walk.Post
+    searched = c .before .before .before
+
+    abbrev closed : lts.After-close calls here walk.Post
+    closed = closing searched
+
+    abbrev first : lts.Start calls here walk.Post
+    first = start closed
+
+    forks : Forks (bookIn (first .args .book .now)) (written (first .args .c)) (written (closed .close .result .colours)) (c .before .r .given .0 .0)
+    forks =
+        forks-told _ _ (first .pre .1 .0) (closes closed) (calm searched) (searched .lowest-uncoloured .ensures) (c .before .r .given .1)
+
+  -- ---- the needs
+
+  returns : lts.Need-returns calls here walk.Post
+  returns c = (walk-ended _ _ _ _ _ (halted-told _ (c .match .keys2)), c .before .before .before .before .pre .1 .4)
+
+  returns-2 : lts.Need-returns-2 calls here walk.Post
+  returns-2 c = (walk-stops _ _ _ _ _ (c .before .before .before .enum-told .given .1) (c .before .if1 .taken), c .before .before .before .before .before .before .before .before .pre .1 .4)
+
+  returns-3 : lts.Need-returns-3 calls here walk.Post
+  returns-3 c =
+      let k = c .before .before .before .before in (
+        walk-clash _ _ _ _ _ (going k) (within k) (closes k)
+            (clash-told (closes k) (k .close .ensures .1) (c .before .before .clash2 .given .1)) (c .clashed .ensures),
+        remembers-at (ap (λ (u : Tally). u .sets) (c .clashed .ensures)) (start k .pre .1 .4),
+      )
+
+  does-count-requires : lts.Need-does-count-requires calls here walk.Post
+  does-count-requires c κs =
+      let e = c .before in
+      let k = full e in
+      let s = start k .pre .1 in
+      (s .0, s .3, reading-generated (closes k) (calm (asked e)) (all e), s .4)
+
+  tried-requires : lts.Need-tried-requires calls here walk.Post
+  tried-requires c κs = more (full (c .before .before .before .before .before))
+
+  returns-4 : lts.Need-returns-4 calls here walk.Post
+  returns-4 c =
+      let n = c .before .before .before .before in
+      let e = n .before .before in
+      let k = full e in
+      let f = not-true _ (c .before .if2 .taken) in (
+        walk-quiet _ _ _ _ _ (going k) (within k) (closes k) (calm (asked e)) (all e) (n .does-count .ensures .0) f (c .tried .ensures),
+        remembers-at (ap (λ (u : Tally). u .sets) (c .tried .ensures) ∙ sym (b-no _ _ _ f)) (n .does-count .ensures .1),
+      )
+
+  meet-requires : lts.Need-meet-requires calls here walk.Post
+  meet-requires c κs =
+      let k = full (c .before .before .before .before .before .before) in
+      let s = start k .pre .1 in
+      (s .0, within k, going k, s .1)
+
+  returns-5 : lts.Need-returns-5 calls here walk.Post
+  returns-5 c =
+      let m = c .before .before in
+      let n = c .before .before .before .before .before .before .before in
+      let e = n .before .before in
+      let k = full e in
+      let f = not-false _ (c .before .before .before .before .if2 .left) in (
+        walk-reading _ _ _ _ _ (going k) (within k) (closes k) (calm (asked e)) (all e) (n .does-count .ensures .0) f (m .meet .ensures),
+        remembers-at (met-sets _ _ _ _ (m .meet .ensures) ∙ sym (b-yes _ _ _ f)) (n .does-count .ensures .1),
+      )
+
+  tried-requires-2 : lts.Need-tried-requires-2 calls here walk.Post
+  tried-requires-2 c κs = more (closed c)
+
+  choose-on-requires : lts.Need-choose-on-requires calls here walk.Post
+  choose-on-requires c κs = let f = c .before in (fork-low (forks f), fork-level (forks f) (first f .pre .1 .2))
+
+  requires-on : lts.Need-walk-shown-requires calls here walk.Post
+  requires-on c κs =
+      let u = c .before .before .before in
+      let f = u .before in
+      let s = first f .pre .1 in
+      let e = c .before .before .choose-on .ensures in (
+        side-falls (forks f) (first f .pre .0) onSide e,
+        (
+          s .0,
+          room-tried (s .1) (going (closed f)) (u .tried2 .ensures),
+          side-shallow (forks f) (s .2) onSide e,
+          s .3,
+          remembers-at (ap (λ (u : Tally). u .sets) (u .tried2 .ensures)) (s .4),
+        ),
+      )
+
+  choose-off-requires : lts.Need-choose-off-requires calls here walk.Post
+  choose-off-requires c κs = let f = c .before .before .before .before .before .before .before .before .before in (fork-low (forks f), fork-level (forks f) (first f .pre .1 .2))
+
+  requires-off : lts.Need-walk-shown-requires-2 calls here walk.Post
+  requires-off c κs =
+      let v = c .before .before .before .before .before .before .before in
+      let u = v .before .before .before .before in
+      let f = u .before in
+      let s = first f .pre .1 in
+      let e = c .before .before .choose-off .ensures in (
+        side-falls (forks f) (first f .pre .0) offSide e,
+        (
+          s .0,
+          room-run (room-tried (s .1) (going (closed f)) (u .tried2 .ensures)) _ _ (v .walk-shown .ensures .0),
+          side-shallow (forks f) (s .2) offSide e,
+          s .3,
+          v .walk-shown .ensures .1,
+        ),
+      )
+
+  returns-6 : lts.Need-returns-6 calls here walk.Post
+  returns-6 c =
+      let w = c .before .before .before .before in
+      let v = c .before .before .before .before .before .before .before .before .before .before .before .before in
+      let y = v .before .before .before in
+      let u = y .before in
+      let f = u .before in
+      let k = closed f in (
+        walk-fork _ _ _ _ _ (going k) (within k) (forks f) (u .tried2 .ensures) (y .choose-on .ensures) (v .walk-shown .ensures .0)
+            (c .before .before .before .before .before .before .before .choose-off .ensures) (w .walk-shown2 .ensures .0),
+        w .walk-shown2 .ensures .1,
+      )
+
+pub +walk-shown-spec : {M : Type 1} → statement M
++walk-shown-spec = close μ-walk λ t. lts.spec (calls t) (here t) walk.Post
+    (λ c. search needs) (returns t) (returns-2 t) (λ c κs. search needs) (λ c. search needs) (λ c κs. search needs)
+    (returns-3 t) (λ c. search needs) (λ c κs. search needs) (λ c. search needs) (λ c. search needs) (does-count-requires t)
+    (tried-requires t) (λ c. search needs) (returns-4 t) (meet-requires t) (λ c. search needs) (λ c. search needs) (returns-5 t)
+    (tried-requires-2 t) (choose-on-requires t) (requires-on t) (choose-off-requires t) (requires-off t)
+    (λ c. search needs) (λ c. search needs) (returns-6 t)
