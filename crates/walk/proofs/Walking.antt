@@ -3,7 +3,7 @@
 use mathlib.Core.Path.{_≡_, refl, sym, _∙_, ap}
 use mathlib.Core.Logic.{_⊎_, inl, inr, ⊎-elim}
 use mathlib.Core.Bool.{Bool, true, false}
-use mathlib.Core.List.{List, [], _∷_}
+use mathlib.Core.List.{List, [], _∷_, _++_}
 use Prim.Native.Nat.{ℕ, _≤_, _<_}
 use native.Mathlib.Omega.{arith}
 use lib.ListN.{length}
@@ -23,7 +23,7 @@ use Rattle.book.specs.Format.{bookIn, ReadAs}
 use Rattle.book.proofs.Places.{shape-count}
 use Rattle.closing.specs.Left.{left, Shallow}
 use Rattle.walk.specs.Events.{Event, clash, fork, reading, after, eventsIn, events, rest}
-use Rattle.walk.specs.Run.{Wanted, State, counted, clashedAt, halting, readingMet, tried, run}
+use Rattle.walk.specs.Run.{Wanted, State, counted, clashedAt, halting, readingMet, run}
 use Rattle.walk.specs.Room.{Room}
 use Rattle.closing.specs.Picked.{picked}
 use Rattle.closing.specs.declared.clash.Picked.{Picked}
@@ -35,7 +35,8 @@ use Rattle.walk.proofs.tally.Halt.{the-type}
 use Rattle.walk.proofs.Events.{Closes, events-clash, events-reading, rest-clash, rest-reading}
 use Rattle.walk.proofs.Events.{Forks, fork-falls, fork-shallow, events-fork, rest-fork-on, rest-fork-off}
 use Rattle.closing.proofs.Searches.{lowest-in}
-use Rattle.walk.proofs.Run.{run-append, run-ended, run-try, run-stops, run-fine}
+use Rattle.walk.proofs.Run.{run-append, run-ended, run-fine}
+use Rattle.walk.proofs.Steps.{way-stops, way-clash, way-reading, way-fork}
 use Rattle.walk.proofs.Meeting.{wanted, room-fine, fine-room}
 
 -- ---- what is kept to
@@ -107,27 +108,24 @@ module _ (b : Book) (w : Wanted) (s : State) (c : Tables) where
 
   module _ (going : s .tally .halt ≡ Going) where
     pub walk-stops : w .limit ≤ s .tally .tries → halting Limit s ≡ run b w s (events b c)
-    walk-stops h = let (e, es, q) = events-some b c in sym (ap (run b w s) q ∙ run-stops b w s going e es h)
+    walk-stops h = let (e, es, q) = events-some b c in way-stops b w s going _ q h
 
     module _ (h : s .tally .tries < w .limit) {d : Tables} where
       pub walk-clash : {t : Tally} {r : RuleNo} → Closes b c d → clashed b (pair d) ≡ one r → t ≡ clashedAt s r
           → record { tally = t; out = s .out } ≡ run b w s (events b c)
-      unfolding run tried
-      walk-clash k z e = rw e (sym (ap (run b w s) (events-clash k z) ∙ run-try b w s going (clash _) [] h))
+      walk-clash k z e = way-clash b w s going h _ (events-clash k z) e
 
       pub walk-reading : {u : State} → Closes b c d → clashed b (pair d) ≡ none → lowest b (uncoloured (pair d)) ≡ none
           → u ≡ readingMet b w s (heads b (of (d .on))) → u ≡ run b w s (events b c)
-      unfolding run tried
-      walk-reading k z p e = e ∙ sym (ap (run b w s) (events-reading k z p) ∙ run-try b w s going (reading d) [] h)
+      walk-reading k z p e = way-reading b w s going h _ (events-reading k z p) e
 
       -- x and y are the two sides of the fork, u the state after the first and v after the second
       pub walk-fork : {r : RuleNo} {t : Tally} {x y : Tables} {u v : State} → Forks b c d r → t ≡ counted s (s .tally .sets) Going
           → x ≡ chosen onSide r d → u ≡ run b w (record { tally = t; out = s .out }) (events b x)
           → y ≡ chosen offSide r d → v ≡ run b w u (events b y) → v ≡ run b w s (events b c)
-      unfolding tried
-      walk-fork {r} f et ex eu ey ev =
-          ev ∙ rw (ey, eu, ex, et)
-          (sym (ap (run b w s) (events-fork f) ∙ run-try b w s going (fork r) _ h ∙ run-append b w _ _ _))
+      walk-fork {r} {x = x} {y = y} f et ex eu ey ev =
+          let q : events b c ≡ fork r ∷ (events b x ++ events b y) = rw (ex, ey) (events-fork f) in
+          way-fork b w s going h _ (events b x) (events b y) q et eu ev
 
 -- ---- the ways of a call that goes on behind a set x
 

@@ -9,7 +9,7 @@ ghost use Rattle.walk.specs.Events.{events};
 ghost use Rattle.walk.specs.Run.{State, run};
 ghost use Rattle.walk.specs.Room.{Room};
 use crate::colours::lowest_uncoloured;
-use crate::meet::meet;
+use crate::met::meet;
 use crate::tally::Halt;
 use crate::tally::Tally;
 use book::Shape;

@@ -23,7 +23,7 @@ use Rattle.closing.proofs.close.Reads as close-reads
 use Rattle.meaning.proofs.colouring.Colouring.choose_off.Reads as choose-off-reads
 use Rattle.meaning.proofs.colouring.Colouring.choose_on.Reads as choose-on-reads
 use Rattle.walk.proofs.colours.lowest_uncoloured.Reads as lowest-uncoloured-reads
-use Rattle.walk.proofs.meet.meet.Reads as meet-reads
+use Rattle.walk.proofs.met.meet.Reads as meet-reads
 use Rattle.walk.proofs.tally.Tally.clashed.Reads as clashed-reads
 use Rattle.walk.proofs.tally.Tally.tried.Reads as tried-reads
 use Rattle.walk.proofs.walk.+walk.{statement}
