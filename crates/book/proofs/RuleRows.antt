@@ -1,13 +1,14 @@
 -- What is asked by the table of rows (specs/RuleRows): an atom is the head of a rule of a set just if its row meets the set, and all its
 -- rules are in the set just if its row lies within it.
-use mathlib.Core.Path.{_≡_, sym, ap, ap₂, _∙_}
+use mathlib.Core.Path.{_≡_, refl, sym, ap, ap₂, _∙_}
 use mathlib.Core.Bool.{Bool, true, not, _||_, _&&_}
-use mathlib.Core.List.{List}
+use mathlib.Core.List.{List, [], _∷_, List·Memᴰ, List·Memᴰ·head, List·Memᴰ·tail}
 use Prim.Native.Nat.{ℕ, _<_}
+use native.Mathlib.Omega.{arith}
 use lib.Dec.{ltb}
 use borrow.Author.Tests.{ltb-true, lt-ltb}
 use Rattle.meaning.specs.declared.AtomNo.{AtomNo}
-use Rattle.meaning.specs.Sets.{Set, _∈_, everyBelow, someBelow}
+use Rattle.meaning.specs.Sets.{Set, _∈_, every, everyBelow, someBelow}
 use Rattle.meaning.specs.Books.{Rules, Book, ruleNo, sameAtom, rule, count, everyRule, someRule}
 use Rattle.meaning.specs.Colours.{heads, allIn}
 use Rattle.meaning.specs.Bits.{members, listed}
@@ -17,7 +18,7 @@ use Rattle.meaning.proofs.Tests.{both, and-left, and-right, same, implied, impl
 use Rattle.meaning.proofs.Sets.{below-at, below-all, below-some, below-one}
 use Rattle.meaning.proofs.Four.{members-small}
 use Rattle.meaning.proofs.Listed.{of-listed}
-use Rattle.book.specs.RuleRows.{row, sets, RuleRows}
+use Rattle.book.specs.RuleRows.{row, sets, headedBy, lostBy, RuleRows}
 
 module _ (b : Book) (t : List ℕ) (k : RuleRows b t) (a : AtomNo) (low : a .0 < 256) (s : List ℕ) where
   -- a rule of the atom's row, and a rule of the book with that head
@@ -56,8 +57,36 @@ module _ (b : Book) (t : List ℕ) (k : RuleRows b t) (a : AtomNo) (low : a .0 <
       let (h, q) = of-row i n in
       sym (asked i) ∙ implies (sameAtom (rule b (ruleNo i) .head) a) (of (listed s) (ruleNo i)) (below-at (count b) _ e i h) q)))
 
-  -- as the code asks: the row and the set by value
-  pub row-asked : {x : Bool} (w v : List ℕ) → w ≡ row t (a .0) → v ≡ s → x ≡ everyBelow 256 (implied-in (members w) (members v))
-      → x ≡ allIn b (of (listed s)) a
-  unfolding sets
-  row-asked w v f g e = e ∙ ap₂ (λ (p q : List ℕ). everyBelow 256 (implied-in (members p) (members q))) f g ∙ row-lost
+-- a list of atoms that are bytes, asked by the rows
+module _ (b : Book) (t : List ℕ) (k : RuleRows b t) (s : List ℕ) where
+  pub headed-by : (a : AtomNo) → a .0 < 256 → headedBy t s a ≡ heads b (of (listed s)) a
+  unfolding headedBy
+  headed-by a low = row-heads b t k a low s
+
+  pub lost-by : (a : AtomNo) → a .0 < 256 → lostBy t s a ≡ allIn b (of (listed s)) a
+  unfolding lostBy
+  lost-by a low = row-lost b t k a low s
+
+  pub every-headed : (l : List AtomNo) → ((a : AtomNo) → List·Memᴰ a l → a .0 < 255)
+      → every (headedBy t s) l ≡ every (heads b (of (listed s))) l
+  unfolding every
+  every-headed [] f = refl
+  every-headed (a ∷ l) f =
+      ap₂ _&&_ (headed-by a (omega (arith, f a (List·Memᴰ·head refl)))) (every-headed l (λ c m. f c (List·Memᴰ·tail m)))
+
+  pub every-lost : (l : List AtomNo) → ((a : AtomNo) → List·Memᴰ a l → a .0 < 255)
+      → every (lostBy t s) l ≡ every (allIn b (of (listed s))) l
+  unfolding every
+  every-lost [] f = refl
+  every-lost (a ∷ l) f =
+      ap₂ _&&_ (lost-by a (omega (arith, f a (List·Memᴰ·head refl)))) (every-lost l (λ c m. f c (List·Memᴰ·tail m)))
+
+-- as the code asks: the row and the set by value
+module _ {x : Bool} (t s w v : List ℕ) (a : AtomNo) (f : w ≡ row t (a .0)) (g : v ≡ s) where
+  pub headed-asked : x ≡ someBelow 256 (both-in (members w) (members v)) → x ≡ headedBy t s a
+  unfolding sets headedBy
+  headed-asked e = e ∙ ap₂ (λ (p q : List ℕ). someBelow 256 (both-in (members p) (members q))) f g
+
+  pub lost-asked : x ≡ everyBelow 256 (implied-in (members w) (members v)) → x ≡ lostBy t s a
+  unfolding sets lostBy
+  lost-asked e = e ∙ ap₂ (λ (p q : List ℕ). everyBelow 256 (implied-in (members p) (members q))) f g

@@ -6,6 +6,7 @@
 --   inPart first l   the rows `first` + a of the atoms a of a part
 --   inRows p         the rows that a rule stands in: by its head, by its positive atoms from 256 on, by its negative ones from 512 on
 --   entered r ks s   the sets s with rule r entered in the rows ks
+--   headedBy t s, lostBy t s   asked by the rows: the atoms whose row of heads meets the set; those whose row lies within it
 --   RuleRows b t     the table is that of the book: it says every bit
 use mathlib.Core.Path.{_≡_}
 use mathlib.Core.Bool.{_&&_, _||_}
@@ -13,9 +14,9 @@ use mathlib.Core.List.{List, [], _∷_}
 use Prim.Native.Nat.{ℕ, _+_, _*_, _<_}
 use lib.Dec.{eqb, ltb}
 use lib.ListN.{length, getD}
-use Rattle.meaning.specs.Sets.{Set, some}
-use Rattle.meaning.specs.Books.{Rule, Book, atomNo, ruleNo, sameAtom, rule, count}
-use Rattle.meaning.specs.Bits.{members}
+use Rattle.meaning.specs.Sets.{Set, some, everyBelow, someBelow}
+use Rattle.meaning.specs.Books.{Atoms, Rule, Book, atomNo, ruleNo, sameAtom, rule, count}
+use Rattle.meaning.specs.Bits.{both, implied, members}
 use Rattle.book.specs.Writing.{atomBytes}
 
 unfoldable pub row : List ℕ → ℕ → List ℕ
@@ -32,6 +33,12 @@ inRows p k = eqb k (p .head .0) || (inPart 256 (atomBytes (p .pos)) k || inPart 
 
 unfoldable pub entered : ℕ → Set ℕ → (ℕ → Set ℕ) → ℕ → Set ℕ
 entered r ks s k i = s k i || (ks k && eqb i r)
+
+unfoldable pub headedBy : List ℕ → List ℕ → Atoms
+headedBy t s a = someBelow 256 (both (sets t (a .0)) (members s))
+
+unfoldable pub lostBy : List ℕ → List ℕ → Atoms
+lostBy t s a = everyBelow 256 (implied (sets t (a .0)) (members s))
 
 pub record RuleRows (b : Book) (t : List ℕ) : Type 0 where
   pub long : length t ≡ 3072

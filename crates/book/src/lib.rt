@@ -1,6 +1,7 @@
 // The rule book: any bytes are read as a book or refused with a number and a place, and the rules
 // of a good book are handed out in place. Stands on meaning.
 
+mod asking;
 mod conditions;
 mod making;
 mod number;
@@ -12,6 +13,10 @@ mod rules;
 mod standing;
 mod tables;
 
+pub use asking::every_headed;
+pub use asking::is_headed;
+pub use asking::is_lost;
+pub use asking::may_go_on;
 pub use conditions::every_in;
 pub use conditions::goes_on;
 pub use conditions::is_blocked;
@@ -31,7 +36,6 @@ pub use rules::head;
 pub use rules::negatives;
 pub use rules::positives;
 pub use standing::head_row;
-pub use standing::is_starved_by;
 pub use standing::make_rows;
 pub use standing::neg_row;
 pub use standing::pos_row;

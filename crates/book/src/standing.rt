@@ -5,10 +5,7 @@ ghost use mathlib.Core.Path.{_≡_};
 ghost use Prim.Native.Nat.{_+_, _<_, _≤_};
 ghost use lib.ListN.{length};
 ghost use Rattle.meaning.specs.Books.{rule, ruleNo};
-ghost use Rattle.meaning.specs.Sets.{some};
-ghost use Rattle.meaning.specs.Colours.{allIn};
-ghost use Rattle.meaning.specs.Bits.{one, listed};
-ghost use Rattle.meaning.specs.Written.{of};
+ghost use Rattle.meaning.specs.Bits.{one};
 ghost use Rattle.book.specs.Format.{bookIn, ReadAs};
 ghost use Rattle.book.specs.RuleRows.{row, sets, entered, inPart, inRows, RuleRows};
 use crate::number::wide;
@@ -19,7 +16,6 @@ use crate::rules::positives;
 use meaning::AtomNo;
 use meaning::Bits;
 use meaning::RuleNo;
-use meaning::whole;
 
 // 768 rows of four words: row a for the rules with head a, row 256 + a for those with a among their
 // positive atoms, row 512 + a among the negative ones. Writes them over whatever the table held.
@@ -54,33 +50,6 @@ pub fn neg_row(rows: &[u64; 3072], a: AtomNo) -> Bits
     ensures { λ s. ⌜ s .w ≡ row (now (rows .entry)) (512 + a .0) ⌝ }
 {
     row_at(rows, 512 + wide(a.0))
-}
-
-// Some positive atom of the rule has all its rules in the set: one question for each atom.
-pub fn is_starved_by(
-    book: &[u8],
-    shape: Shape,
-    r: RuleNo,
-    rows: &[u64; 3072],
-    off: &[u64; 4],
-) -> bool
-    requires { ⌜ ReadAs (now book) shape × (r .0 < shape .rules)
-        × RuleRows (bookIn (now book)) (now rows) ⌝ }
-    ensures { λ b. ⌜ b ≡
-        some (allIn (bookIn (now (book .entry))) (of (listed (now (off .entry)))))
-        (rule (bookIn (now (book .entry))) r .pos) ⌝ }
-{
-    let body = positives(book, shape, r);
-    let gone = whole(off);
-    let mut i = 0;
-    while i < body.len() {
-        let a = AtomNo(body[i]);
-        if head_row(rows, a).is_within(gone) {
-            return true;
-        }
-        i += 1;
-    }
-    false
 }
 
 fn row_at(rows: &[u64; 3072], k: usize) -> Bits

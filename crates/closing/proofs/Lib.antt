@@ -6,8 +6,14 @@ pub mod Turns
 pub mod Supporting
 pub mod Searches
 pub mod Stamping
-pub mod Picked
+pub mod Spreading
+pub mod Noting
+pub mod Falling
+pub mod Raising
+pub mod Propagating
+pub mod Dropping
 pub mod Closed
+pub mod Picked
 pub mod Left
 pub mod Laws
 pub mod Settling

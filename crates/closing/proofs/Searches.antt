@@ -8,7 +8,7 @@ use native.Mathlib.Omega.{arith}
 use Rattle.meaning.specs.declared.RuleNo.{RuleNo}
 use Rattle.meaning.specs.Sets.{Set, _∉_, someBelow}
 use Rattle.meaning.specs.Books.{Rules, ruleNo, Book, count}
-use Rattle.meaning.specs.Bits.{plus, less, both, members, listed, NextIn}
+use Rattle.meaning.specs.Bits.{below, plus, less, both, members, tableFrom, listed, NextIn}
 use Rattle.meaning.specs.Colours.{uncoloured}
 use Rattle.meaning.specs.Written.{of, lent}
 use Rattle.meaning.specs.Computed.{newly}
@@ -82,3 +82,10 @@ newly-listed w v u on off was-on was-off f g e = of-listed w ∙ fun-ext (λ r.
 
     coloured : (s t : List ℕ) (r : RuleNo) → not (of (listed s) r || of (listed t) r) ≡ not (members s (r .0) || members t (r .0))
     coloured s t r = ap₂ (λ (p q : Rules). not (p r || q r)) (of-listed s) (of-listed t)
+
+-- the rules that are not off
+pub marks-listed : (d all off : List ℕ) (n : ℕ) → members d ≡ less (members all) (members off) → members all ≡ below n
+    → listed d ≡ tableFrom 0 256 (less (below n) (λ i. of (listed off) (ruleNo i)))
+unfolding listed
+marks-listed d all off n e f =
+    ap (tableFrom 0 256) (e ∙ ap₂ (λ (s t : Set ℕ). less s t) f (sym (listed-members off)))

@@ -1,6 +1,8 @@
 -- Closing. Read in this order.
 pub mod Growing
 pub mod Conditions
+pub mod News
+pub mod Dropped
 pub mod Ended
 pub mod Left
 pub mod Picked

@@ -13,19 +13,17 @@ ghost use Rattle.book.specs.RuleRows.{RuleRows};
 ghost use Rattle.closing.specs.Ended.{endedAt};
 ghost use Rattle.closing.specs.Picked.{picked};
 use book::Shape;
-use book::heads_of;
-use book::lost_in;
 use levels::stamp;
 use meaning::Bits;
 use meaning::Colouring;
-use passes::grow_off;
-use passes::pass_on;
+use unsupported::drop_unsupported;
 
 mod clash;
 mod first;
 mod levels;
 mod marking;
-mod passes;
+mod propagation;
+mod unsupported;
 
 pub use clash::Picked;
 pub use clash::lowest_clash;
@@ -33,6 +31,7 @@ pub use clash::lowest_in;
 pub use first::Settled;
 pub use first::settle;
 pub use marking::support;
+pub use propagation::propagate;
 
 // What a closing comes to: the colouring, and of a contradiction the lowest rule in both sets.
 pub struct Closure {
@@ -52,33 +51,18 @@ pub fn close(book: &[u8], shape: Shape, rows: &[u64; 3072], c: Colouring) -> Clo
     let c_off = c.off;
     let mut on = c_on.w;
     let mut off = c_off.w;
-    let mut marks = [0u64; 4];
-    support(book, shape, &off, &mut marks);
-    let mut headed = [false; Colouring::ATOMS];
-    heads_of(book, shape, &on, &mut headed);
-    let mut lost = [false; Colouring::ATOMS];
-    lost_in(book, shape, &off, &mut lost);
     loop {
-        let more_on = pass_on(book, shape, &lost, &mut on, &mut headed);
-        let more_off = grow_off(book, shape, rows, &headed, &mut off, &mut lost, &mut marks);
-        if !more_on {
-            if !more_off {
-                return ended(
-                    shape.rules,
-                    c,
-                    Bits { w: on },
-                    Bits { w: off },
-                    Bits { w: marks },
-                );
-            }
+        propagate(book, shape, rows, &mut on, &mut off);
+        if !drop_unsupported(book, shape, &mut off) {
+            return ended(shape.rules, c, Bits { w: on }, Bits { w: off });
         }
     }
 }
 
 // What a closing of c comes to that ends at these sets: the levels of the rules that had no colour
-// and have one, and the contradiction.
-fn ended(rules: u8, c: Colouring, on: Bits, off: Bits, marks: Bits) -> Closure
-    ensures { λ d. ⌜ (written (d .colours) ≡ endedAt rules (written c) (listed (on .w)) (listed (off .w)) (listed (marks .w)))
+// and have one, and the contradiction. In a closed pair the marks are the rules that are not off.
+fn ended(rules: u8, c: Colouring, on: Bits, off: Bits) -> Closure
+    ensures { λ d. ⌜ (written (d .colours) ≡ endedAt rules (written c) (listed (on .w)) (listed (off .w)))
         × (picked (d .clash) ≡
         lowestFrom 0 rules (inBoth (lent (listed (on .w)) (listed (off .w))))) ⌝ }
 {
@@ -90,7 +74,7 @@ fn ended(rules: u8, c: Colouring, on: Bits, off: Bits, marks: Bits) -> Closure
         colours: Colouring {
             on,
             off,
-            marks,
+            marks: Bits::below(rules).difference(off),
             level: c.level,
             levels,
         },

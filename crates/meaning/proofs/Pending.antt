@@ -1,12 +1,5 @@
--- Propagation by what is new: what has still to be looked at is atoms newly true, atoms newly lost and rules to
--- look at again. All else has been dealt with, so where none of the three is left the pair is propagated. Laws over sets: the start,
--- the two steps and the end. The idea of each step: an atom that became true or lost by it is among the new ones.
---
---   Pending b c nt nl cand   all has been dealt with but for the atoms of nt, newly true, and of nl, newly lost, and the rules of cand
---   hit b nt nl, called b nt nl   the rules that these atoms block or starve; the rules that may go on because of them
---   dropped s c              the pair with the rules of s put in off
---   newlyLost b s off        heads of rules of s that were not off, all of whose rules are off with s
---   newlyTrue b r on nt      the atoms of nt, and the head of r unless it was the head of an on rule before
+-- Propagation by what is new (specs/Pending): where none of the three sets is left the pair is propagated. Laws over sets: the start, the
+-- two steps and the end. The idea of each step: an atom that became true or lost by it is among the new ones.
 --
 -- Step 1 is pending-drop with forced-drop; step 2, for each candidate, is pending-looked-on with forced-on, or pending-looked-past.
 use mathlib.Core.Path.{_≡_, refl, ap}
@@ -21,49 +14,13 @@ use Rattle.meaning.specs.Books.{Atoms, Rules, sameAtom, among, Book, rul
 use Rattle.meaning.specs.Colours.{Pair, onSide, offSide, put, plus, heads, allIn, mayOn, blocked, starved, Under}
 use Rattle.meaning.specs.Engine.{less}
 use Rattle.meaning.specs.Propagation.{Propagated, Propagation}
+use Rattle.meaning.specs.Pending.{Forced, Waits, is-on, is-candidate, by-true, by-lost, Pending, noAtoms, hit, called, joined, dropped}
+use Rattle.meaning.specs.Pending.{newlyLost, newlyTrue}
 use Rattle.meaning.proofs.Tests.{both, and-left, and-right, either, or-left, or-right, decided, true-and-false, absent, proved}
 use Rattle.meaning.proofs.Sets.{every-at, some-by, some-one, some-mono, some-of-not-every}
 use Rattle.meaning.proofs.Rules.{same-atom, atom-same, among-one, one-among, heads-of, heads-by, heads-mono, allIn-at, allIn-all}
 use Rattle.meaning.proofs.Rules.{allIn-mono}
-use Rattle.meaning.proofs.Propagation.{Forced, forced-off, forced-propagation}
-
--- the rule is on, or it will be looked at: as a candidate, or for an atom of its body that is new
-pub data Waits (b : Book) (c : Pair) (nt nl : Atoms) (cand : Rules) (r : RuleNo) : Type 0 where
-  is-on : r ∈ c .on → Waits b c nt nl cand r
-  is-candidate : r ∈ cand → Waits b c nt nl cand r
-  by-true : some nt (rule b r .pos) ≡ true → Waits b c nt nl cand r
-  by-lost : some nl (rule b r .neg) ≡ true → Waits b c nt nl cand r
-
-pub record Pending (b : Book) (c : Pair) (nt nl : Atoms) (cand : Rules) : Type 0 where
-  -- what is new is so
-  pub is-true : nt ⊆ heads b (c .on)
-  pub is-lost : nl ⊆ allIn b (c .off)
-  -- other atoms that are true or lost have put off the rules that they block or starve
-  pub blocks : (r : RuleNo) → InBook b r → (a : AtomNo) → List·Memᴰ a (rule b r .neg) → a ∈ heads b (c .on) → a ∉ nt → r ∈ c .off
-  pub starves : (r : RuleNo) → InBook b r → (a : AtomNo) → List·Memᴰ a (rule b r .pos) → a ∈ allIn b (c .off) → a ∉ nl → r ∈ c .off
-  -- a rule that may go on is on, or will be looked at
-  pub waits : (r : RuleNo) → InBook b r → r ∈ mayOn b c → Waits b c nt nl cand r
-
-abbrev pub noAtoms : Atoms
-noAtoms a = false
-
-unfoldable pub hit : Book → Atoms → Atoms → Rules
-hit b nt nl r = some nt (rule b r .neg) || some nl (rule b r .pos)
-
-unfoldable pub called : Book → Atoms → Atoms → Rules
-called b nt nl r = some nt (rule b r .pos) || some nl (rule b r .neg)
-
-abbrev pub joined : Rules → Rules → Rules
-joined s t r = s r || t r
-
-abbrev pub dropped : Rules → Pair → Pair
-dropped s c = record { on = c .on; off = joined (c .off) s }
-
-unfoldable pub newlyLost : Book → Rules → Rules → Atoms
-newlyLost b s off a = heads b (less s off) a && allIn b (joined off s) a
-
-unfoldable pub newlyTrue : Book → RuleNo → Rules → Atoms → Atoms
-newlyTrue b r on nt a = nt a || (sameAtom (rule b r .head) a && not (heads b on a))
+use Rattle.meaning.proofs.Propagation.{forced-off, forced-propagation}
 
 module _ (b : Book) where
   -- ---- the start and the end

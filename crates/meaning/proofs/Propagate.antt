@@ -1,13 +1,16 @@
 -- Propagation computed: the computed one is the smallest propagated pair above, written out, with the marks and
 -- the places from R on left as they were; and what is a propagation of c, in whatever order it was made, is the computed one.
-use mathlib.Core.Path.{_≡_, refl}
+use mathlib.Core.Path.{_≡_, refl, ap₂}
+use mathlib.Core.Bool.{Bool}
+use mathlib.Core.List.{List}
 use mathlib.Core.Logic.{⊎-elim}
-use Prim.Native.Nat.{_≤_}
+use Prim.Native.Nat.{ℕ, zero, suc, _+_, _≤_}
 use Rattle.meaning.specs.Written.{Tables}
 use Rattle.meaning.specs.Sets.{_⊆_}
 use Rattle.meaning.specs.Books.{Book, count}
 use Rattle.meaning.specs.Colours.{Pair, mayOn, blocked, Within, ClosedAbove}
-use Rattle.meaning.specs.Written.{pair}
+use Rattle.meaning.specs.Written.{added, coloured, lent, pair}
+use Rattle.meaning.specs.Computed.{iterate}
 use Rattle.meaning.specs.Propagation.{Propagated, PropagatedAbove, Propagation, mayOff, propagateMore, propagate}
 use Rattle.meaning.proofs.Tests.{either, or-left, or-right}
 use Rattle.meaning.proofs.Least.{smallest-same}
@@ -87,3 +90,17 @@ module _ (b : Book) where
 
     pub propagate-idempotent : (c : Tables) → Sized c → propagate b c ≡ propagate b (propagate b c)
     propagate-idempotent c s = propagated-propagate (propagate b c) (propagate-sized c s) (propagate-is c s .good .propagated)
+
+  -- on and off come from on and off alone
+  pub propagate-coloured : (c : Tables)
+      → (propagate b c .on ≡ propagate b (coloured (c .on) (c .off)) .on) × (propagate b c .off ≡ propagate b (coloured (c .on) (c .off)) .off)
+  unfolding propagate propagateMore iterate
+  propagate-coloured c = sides (count b + count b)
+    where
+      sides : (n : ℕ) → (iterate (propagateMore b) n c .on ≡ iterate (propagateMore b) n (coloured (c .on) (c .off)) .on)
+          × (iterate (propagateMore b) n c .off ≡ iterate (propagateMore b) n (coloured (c .on) (c .off)) .off)
+      sides zero = (refl, refl)
+      sides (suc n) = let (p, q) = sides n in (
+        ap₂ (λ (on off : List Bool). added b (mayOn b (lent on off)) on) p q,
+        ap₂ (λ (on off : List Bool). added b (mayOff b (lent on off)) off) p q,
+      )

@@ -10,17 +10,13 @@ use Rattle.meaning.specs.Books.{Rules, Book, InBook}
 use Rattle.meaning.specs.Colours.{Pair, Side, onSide, side, put, mayOn, blocked, starved, Under, Support}
 use Rattle.meaning.specs.Colours.{Closed, Within, ClosedAbove, Closing}
 use Rattle.meaning.specs.Propagation.{Propagated, PropagatedAbove, Propagation}
+use Rattle.meaning.specs.Pending.{Forced}
 use Rattle.meaning.proofs.Tests.{absent, same}
 use Rattle.meaning.proofs.Least.{smallest-mono, smallest-unique, smallest-same, reached-smallest}
 use Rattle.meaning.proofs.Rules.{within-on, within-off, within-both, within-refl, within-trans}
 use Rattle.meaning.proofs.Rules.{mayOn-mono, blocked-mono, starved-mono, one-under, put-above, put-within}
 use Rattle.meaning.proofs.Support.{outside, unsupported-any}
 use Rattle.meaning.proofs.Additions.{Reached, reached-more, reached-closing}
-
--- d holds c, and is within every propagated pair that holds c
-pub record Forced (b : Book) (c d : Pair) : Type 0 where
-  pub above : Within b c d
-  pub below : (e : Pair) → PropagatedAbove b c e → Within b d e
 
 module _ (b : Book) where
   -- ---- propagations of pairs

@@ -11,10 +11,10 @@ use Rattle.meaning.specs.Books.{Rules, Book}
 use Rattle.meaning.specs.Colours.{Pair, heads, Under, Within}
 use Rattle.meaning.specs.Lowest.{rulesIn}
 use Rattle.meaning.specs.Engine.{less}
+use Rattle.meaning.specs.Pending.{joined, dropped, newlyLost}
 use Rattle.meaning.proofs.Tests.{and-left, and-right, or-left, or-right, true-and-false, absent, refuted}
 use Rattle.meaning.proofs.Rules.{heads-of, heads-by, within-on, within-off}
 use Rattle.meaning.proofs.RulesIn.{rules-more, rules-fewer}
-use Rattle.meaning.proofs.Pending.{joined, dropped, newlyLost}
 
 abbrev others : Rules → Rules
 others s r = not (s r)

@@ -13,6 +13,7 @@ pub mod Computed
 pub mod Propagation
 pub mod Lowest
 pub mod Engine
+pub mod Pending
 pub mod Told
 pub mod Buffers
 pub mod Joined

@@ -8,6 +8,7 @@
 --   added b s l      the list with the rules of the book that are in s added
 --   stampFrom        the list of levels with that of the rules in s replaced
 --   nothing          the empty tables
+--   coloured on off  the tables of two sets of rules alone, with no marks and no levels
 --   colourOn r c, colourOff r c   the colouring with rule r put in on, in off
 --   chosen x r c     the choice of a walk: rule r put on one side, one level deeper. Document 02, ticket 8: "a chosen rule has the level of
 --                    its choice"
@@ -66,6 +67,9 @@ nothing = record {
   level = 0;
   levels = replicate 255 0;
 }
+
+abbrev pub coloured : List Bool → List Bool → Tables
+coloured on off = record { on = on; off = off; marks = nothing .marks; level = 0; levels = nothing .levels }
 
 abbrev pub colourOn : RuleNo → Tables → Tables
 colourOn r c = record { on = set (c .on) (r .0) true; off = c .off; marks = c .marks; level = c .level; levels = c .levels }
