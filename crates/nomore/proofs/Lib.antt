@@ -4,3 +4,6 @@ pub mod Node
 pub mod Apart
 pub mod Events
 pub mod Sets
+pub mod Choosing
+pub mod Walking
+pub mod Cases
