@@ -1,5 +1,6 @@
 // One line: a command and its words, which are parted by one space.
 ghost use Rattle.io.specs.Counts.{Counts};
+use crate::find::Way;
 use crate::find::answer_find;
 use crate::levelsk::answer_levels;
 use crate::paper_check::answer_check;
@@ -22,7 +23,10 @@ fn answer_command(line: &[u8], book: &mut [u8], room: &mut [u8], out: &mut [u8])
     let command = first_word(line);
     let words = other_words(line);
     if same(command, b"find") {
-        return answer_find(words, book, room, out);
+        return answer_find(words, Way::Fixed, book, room, out);
+    }
+    if same(command, b"nomore") {
+        return answer_find(words, Way::Nomore, book, room, out);
     }
     if same(command, b"name") {
         return answer_name(words, Kind::Naming, book, room, out);

@@ -7,7 +7,7 @@ use Prim.Native.Nat.{ℕ}
 use Rattle.meaning.specs.Sets.{every, some, everyBelow, someBelow}
 use Rattle.meaning.specs.Books.{sameAtom, count, rule, everyRule, someRule}
 use Rattle.meaning.specs.Choice.{ifb, ifLt, ifEq}
-use Rattle.meaning.specs.Told.{Told, fewer, stopped, Answered}
+use Rattle.meaning.specs.Told.{Told, fewer, stopped}
 use Rattle.meaning.specs.Colours.{heads, allIn, mayOn, blocked, starved, uncoloured}
 use Rattle.meaning.specs.Written.{of, addFrom, added}
 use Rattle.meaning.specs.Computed.{iterate}
