@@ -1,20 +1,18 @@
 -- A good book whose numbers are bytes, as every function of this crate is handed one, and what it says of the book's rules.
 use mathlib.Core.Path.{_≡_}
-use mathlib.Core.Bool.{Bool}
 use mathlib.Core.List.{List}
 use Prim.Native.Nat.{ℕ, _≤_, _<_}
 use native.Mathlib.Omega.{arith}
 use Rattle.meaning.specs.declared.AtomNo.{AtomNo}
 use Rattle.meaning.specs.declared.RuleNo.{RuleNo}
-use Rattle.meaning.specs.Sets.{every, some}
+use Rattle.meaning.specs.Sets.{every}
 use Rattle.meaning.specs.Books.{Atoms, Book, count, rule, InBook}
-use Rattle.meaning.specs.Colours.{Pair, heads, blocked}
 use Rattle.book.specs.declared.reader.Shape.{Shape}
 use Rattle.book.specs.Format.{bookIn, ReadAs}
 use Rattle.book.specs.Tables.{atomTable, atomsIn, Below}
 use Rattle.book.specs.Writing.{atomBytes, RuleFits}
 use Rattle.book.proofs.Places.{shape-count, shape-in, in-shape, rule-keeps, head-below, pos-below}
-use Rattle.book.proofs.Asked.{every-table, is-blocked-blocked}
+use Rattle.book.proofs.Asked.{every-table}
 
 pub record Good (s : List ℕ) (h : Shape) : Type 0 where
   pub read : ReadAs s h
@@ -42,16 +40,11 @@ module _ {s : List ℕ} {h : Shape} (g : Good s h) where
 pub record Asks (b : Book) : Type 0 where
   pub few : count b ≤ 255
   pub pos : (r : RuleNo) → InBook b r → (x : Atoms) → every (atomsIn (atomTable x)) (rule b r .pos) ≡ every x (rule b r .pos)
-  pub neg : (r : RuleNo) → InBook b r → (x : Atoms) → every (atomsIn (atomTable x)) (rule b r .neg) ≡ every x (rule b r .neg)
-  pub blocked : (r : RuleNo) → InBook b r → (c : Pair) (headed : List Bool) → headed ≡ atomTable (heads b (c .on))
-      → some (atomsIn headed) (rule b r .neg) ≡ blocked b c r
 
 pub good-asks : {s : List ℕ} {h : Shape} → Good s h → Asks (bookIn s)
 good-asks {s} {h} g = record {
   few = good-few g;
   pos = λ r l x. every-table x _ (λ a m. omega (arith, g .atoms, keeps r l .pos .below a m));
-  neg = λ r l x. every-table x _ (λ a m. omega (arith, g .atoms, keeps r l .neg .below a m));
-  blocked = λ r l c headed e. is-blocked-blocked s h (g .read) (g .atoms) r (in-shape s h (g .read) r l) c headed e;
 }
   where
     keeps : (r : RuleNo) → InBook (bookIn s) r → RuleFits (h .atoms) (rule (bookIn s) r)

@@ -21,7 +21,7 @@ use Rattle.closing.specs.Growing.{Condition, Turn, stays, added, Grown, 
 
 -- the rules that go become more with the set
 abbrev pub Monotone : Book → Condition → Type 0
-Monotone b k = (s t : Rules) → Under b s t → Under b (k .goes s) (k .goes t)
+Monotone b k = (s t : Rules) → Under b s t → Under b (k s) (k t)
 
 -- how many rules of the book are not in the list
 pub room : Book → List Bool → ℕ
@@ -55,7 +55,7 @@ module _ {b : Book} {k : Condition} where
   }
 
   -- one rule is added
-  grown-set : Monotone b k → (r : RuleNo) (m : List Bool) → InBook b r → r .0 < length m → r ∈ k .goes (of m)
+  grown-set : Monotone b k → (r : RuleNo) (m : List Bool) → InBook b r → r .0 < length m → r ∈ k (of m)
       → Grown b k m (set m (r .0) true)
   grown-set mono r m h room g = record {
     long = length-set m (r .0) true;
@@ -82,7 +82,7 @@ module _ {b : Book} {k : Condition} where
         (eq-or-lt-of-le (le-of-suc-le-suc (rw add-one at g)));
   }
     where
-      here : (r : RuleNo) → r ≡ ruleNo n → l ≡ m → r ∈ k .must (of l) → r ∈ of l
+      here : (r : RuleNo) → r ≡ ruleNo n → l ≡ m → r ∈ k (of l) → r ∈ of l
       here r q s a = proved (λ u.
           let v : of m (ruleNo n) ≡ false = cc in let w = f v in true-and-false a (cc))
   pass-turn mono n {l} {m} h room p (added u g) = record {
@@ -96,7 +96,7 @@ module _ {b : Book} {k : Condition} where
   pub pass-end : (n : ℕ) {l m : List Bool} {more : Bool} → n ≤ count b → count b ≤ n → Pass b k n l m more → Pass b k (count b) l m more
   pass-end n h g p = rw (← le-antisymm h g) p
 
-  -- ---- the measure: there is less room after a pass that added a rule, and never more
+  -- ---- the measure: there is less room after a pass that added a rule
 
   grown-room : {l m : List Bool} → Grown b k l m → (l ≡ m) ⊎ (room b m < room b l)
   unfolding room
@@ -105,6 +105,3 @@ module _ {b : Book} {k : Condition} where
 
   pub pass-less : {n : ℕ} {l m : List Bool} → Pass b k n l m true → room b m < room b l
   pass-less p = ⊎-elim (λ e. absurd (p .more-differs refl e)) (λ h. h) (grown-room (p .grown))
-
-  pub pass-no-more : {n : ℕ} {l m : List Bool} {more : Bool} → Pass b k n l m more → room b m ≤ room b l
-  pass-no-more p = ⊎-elim (λ e. rw e (omega arith)) (λ h. omega arith) (grown-room (p .grown))

@@ -17,19 +17,19 @@ use Rattle.closing.specs.Growing.{Grown, Pass}
 use Rattle.closing.specs.Conditions.{marking}
 
 module _ (b : Book) (off : Rules) where
-  upheld-goes : (w : Rules) → Upheld b off w → Under b (marking b off .goes w) w
+  upheld-goes : (w : Rules) → Upheld b off w → Under b (marking b off w) w
   unfolding marking upheld
   upheld-goes w u r h m = u r h (not-true _ (and-left (not (off r)) _ m)) (and-right (not (off r)) _ m)
 
-  must-upheld : (w : Rules) → Under b (marking b off .must w) w → Upheld b off w
+  goes-upheld : (w : Rules) → Under b (marking b off w) w → Upheld b off w
   unfolding marking upheld
-  must-upheld w f r h n p = f r h (both (ap not n) p)
+  goes-upheld w f r h n p = f r h (both (ap not n) p)
 
   pub marks-support : {l m : List Bool} → count b ≤ 255 → Grown b (marking b off) (replicate 256 false) l
       → Pass b (marking b off) (count b) l m false → m ≡ support b off
   marks-support {l} fits g p =
       sym (p .none-same refl) ∙ support-computed b off l fits (g .long ∙ length-replicate 256 false) (λ r h. g .outside r h ∙ of-none 256 r)
       (record {
-        good = must-upheld (of l) (p .none-rests refl);
+        good = goes-upheld (of l) (p .none-rests refl);
         least = λ w u. g .forced w (upheld-goes w u) (λ r h m. true-and-false m (of-none 256 r));
       })

@@ -14,7 +14,7 @@ ghost use Rattle.walk.specs.Page.{setIn};
 ghost use Rattle.walk.specs.Levels.{sideOf, down, levelsIn, levelsOf};
 use crate::colours::lowest_uncoloured;
 use crate::kth::Found;
-use crate::kth::kth;
+use crate::kth::kth_by;
 use crate::kth::tell;
 use crate::resume::generates;
 use crate::tally::Halt;
@@ -86,14 +86,14 @@ fn levels_in(book: &[u8], shape: Shape, k: u32, limit: u32, out: &mut [u8]) -> F
     if out.len() < shape.rules as usize {
         return Found::NoRoom;
     }
+    let mut rows = [0u64; 3072];
+    make_rows(book, shape, &mut rows);
     let mut row = [0u8; Colouring::ATOMS];
-    let t = kth(book, shape, k, limit, &mut row);
+    let t = kth_by(book, shape, &rows, k, limit, &mut row);
     let halt = t.halt;
     let Halt::Full = halt else {
         return tell(t, limit);
     };
-    let mut rows = [0u64; 3072];
-    make_rows(book, shape, &mut rows);
     let d = descend(book, shape, &rows, &row);
     write_levels(shape.rules, &d.levels, out);
     tell(t, limit)

@@ -6,6 +6,7 @@ ghost use lib.ListN.{length};
 ghost use Rattle.meaning.specs.Told.{Answered};
 ghost use Rattle.meaning.specs.Written.{nothing};
 ghost use Rattle.book.specs.Format.{bookIn, ReadAs};
+ghost use Rattle.book.specs.RuleRows.{RuleRows};
 ghost use Rattle.walk.specs.Events.{events};
 ghost use Rattle.walk.specs.Run.{State, run};
 ghost use Rattle.walk.specs.Find.{told, toldBy, startOf, findOf};
@@ -36,9 +37,17 @@ pub enum Found {
     NoNumber,
 }
 
-// Walks to the k-th reading of a good book and writes it.
-pub fn kth(book: &[u8], shape: Shape, k: u32, limit: u32, answer: &mut [u8]) -> Tally
-    requires { ⌜ ReadAs (now book) shape × (0 < k) × (shape .atoms ≤ length (now answer)) ⌝ }
+// Walks to the k-th reading of a good book and writes it, by the rows that are lent.
+pub fn kth_by(
+    book: &[u8],
+    shape: Shape,
+    rows: &[u64; 3072],
+    k: u32,
+    limit: u32,
+    answer: &mut [u8],
+) -> Tally
+    requires { ⌜ ReadAs (now book) shape × (0 < k) × (shape .atoms ≤ length (now answer))
+        × RuleRows (bookIn (now book)) (now rows) ⌝ }
     ensures { λ t. ⌜ _≡_ {A = State} (record { tally = t; out = now (answer .exit) })
         (run (bookIn (now (book .entry))) (record { pass = k - 1; room = 1; limit = limit })
         (startOf (now (answer .entry))) (events (bookIn (now (book .entry))) nothing)) ⌝ }
@@ -49,12 +58,10 @@ pub fn kth(book: &[u8], shape: Shape, k: u32, limit: u32, answer: &mut [u8]) -> 
         clash: RuleNo(255),
         halt: Halt::Going,
     };
-    let mut rows = [0u64; 3072];
-    make_rows(book, shape, &mut rows);
     walk(
         book,
         shape,
-        &rows,
+        rows,
         Colouring::empty(),
         k - 1,
         1,
@@ -62,6 +69,18 @@ pub fn kth(book: &[u8], shape: Shape, k: u32, limit: u32, answer: &mut [u8]) -> 
         start,
         answer,
     )
+}
+
+// The same by rows of its own.
+fn kth(book: &[u8], shape: Shape, k: u32, limit: u32, answer: &mut [u8]) -> Tally
+    requires { ⌜ ReadAs (now book) shape × (0 < k) × (shape .atoms ≤ length (now answer)) ⌝ }
+    ensures { λ t. ⌜ _≡_ {A = State} (record { tally = t; out = now (answer .exit) })
+        (run (bookIn (now (book .entry))) (record { pass = k - 1; room = 1; limit = limit })
+        (startOf (now (answer .entry))) (events (bookIn (now (book .entry))) nothing)) ⌝ }
+{
+    let mut rows = [0u64; 3072];
+    make_rows(book, shape, &mut rows);
+    kth_by(book, shape, &rows, k, limit, answer)
 }
 
 // The first reading of a good book, for whoever has read the book already: naming takes its

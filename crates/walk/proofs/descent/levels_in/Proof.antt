@@ -5,9 +5,9 @@ use Rattle.walk.proofs.descent.levels_in.Statement.{statement}
 use Rattle.walk.proofs.descent.levels_in.Tie as tie
 
 -- behind the walk: there is a number, and room
-module _ (c : tie.After-kth) where
+module _ (c : tie.After-kth-by) where
   abbrev roomy : tie.Else2
-  roomy = c .before .before
+  roomy = c .before .before .before .before .before
 
   abbrev numbered : tie.Else1
   numbered = roomy .before .before
@@ -30,21 +30,20 @@ returns-2 c =
 returns-3 : tie.Need-returns-3
 returns-3 c =
     let w = c .before .before .before in
-    levels-other _ _ (start w .pre) _ _ _ (numbered w .if1 .left) (roomy w .if2 .left) (w .kth .ensures) (c .tell .ensures)
+    levels-other _ _ (start w .pre) _ _ _ (numbered w .if1 .left) (roomy w .if2 .left) (w .kth-by .ensures) (c .tell .ensures)
     (c .before .match .keys2)
 
 returns-4 : tie.Need-returns-4
 returns-4 c =
     let v = c .before .before .before in
     let d = descended v in
-    let f = d .before .before .before .before .before in
+    let f = d .before .before .before in
     let w = f .before .before .before in
-    levels-full _ _ (start w .pre) _ _ _ (numbered w .if1 .left) (roomy w .if2 .left) (w .kth .ensures) (c .tell2 .ensures)
+    levels-full _ _ (start w .pre) _ _ _ (numbered w .if1 .left) (roomy w .if2 .left) (w .kth-by .ensures) (c .tell2 .ensures)
     (f .enum-told .given .1) (d .descend .ensures) (v .write-levels .ensures)
 
 pub levels-in-spec : {M : Type 1} → statement M
 levels-in-spec =
-    tie.close (tie.spec returns (λ c. search needs) returns-2 (λ c. search needs) (λ c κs. search needs) (λ c. search needs)
-    (λ c κs. search needs) returns-3 (λ c κs. search needs) (λ c. search needs) (λ c κs. search needs) (λ c κs. search needs)
-    (λ c κs. search needs)
-    (λ c. search needs) returns-4)
+    tie.close (tie.spec returns (λ c. search needs) returns-2 (λ c κs. search needs) (λ c. search needs) (λ c κs. search needs)
+    (λ c. search needs) (λ c κs. search needs) returns-3 (λ c. search needs) (λ c κs. search needs) (λ c κs. search needs)
+    (λ c κs. search needs) (λ c. search needs) returns-4)

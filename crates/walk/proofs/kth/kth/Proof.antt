@@ -1,31 +1,10 @@
--- The walk to the k-th reading, from its start: there is room for one row, and the colouring is empty.
-use Prim.Native.Nat.{_-_, _<_}
-use native.Mathlib.Omega.{arith}
+-- The rows made are those of the book.
 use borrow.Author.Needs.{needs}
-use Rattle.walk.proofs.Answering.{room-start, one-row, shallow-start, walk-from}
 use Rattle.walk.proofs.kth.kth.Statement.{statement}
 use Rattle.walk.proofs.kth.kth.Tie as tie
 
--- the book's rules are counted by a byte
-few-rules : (s : tie.Start) → s .args .shape .rules < 256
-few-rules s = search needs
-
-walk-requires : tie.Need-walk-requires
-walk-requires c κs =
-    let m = c .before .before .before in
-    let s = m .before .before .before .before in
-    let a = s .args in (
-      s .pre .0,
-      room-start _ (a .k - 1) 1 0 _ (omega arith) (one-row _ _ (s .pre .0) (a .answer .now) (s .pre .2)),
-      shallow-start _ _ (s .pre .0) (few-rules s) (c .before .empty .ensures),
-      m .make-rows .ensures,
-    )
-
 returns : tie.Need-returns
-returns c =
-    let w = c .before .before in
-    walk-from _ _ _ (w .before .before .empty .ensures) (w .walk .ensures)
+returns c = c .before .before .kth-by .ensures
 
 pub kth-spec : {M : Type 1} → statement M
-kth-spec =
-    tie.close (tie.spec (λ c κs. search needs) (λ c κs. search needs) (λ c. search needs) walk-requires (λ c. search needs) returns)
+kth-spec = tie.close (tie.spec (λ c κs. search needs) (λ c κs. search needs) (λ c. search needs) returns)
