@@ -45,9 +45,13 @@ const LATER: [Later; 8] = [
     Later { commands: &["aspif", "unaspif"], numbers: &[33, 34, 35], add: cases_aspif::add },
 ];
 
-/// What these commands bring, in its order.
-fn brought<'a>(commands: &'a [&'a str]) -> impl Iterator<Item = &'static Later> + 'a {
-    LATER.iter().filter(move |later| later.commands.iter().any(|c| commands.contains(c)))
+/// What these commands bring, in the order in which they are named, so that a later one's cases
+/// stand behind those of before.
+fn brought(commands: &[&str]) -> Vec<&'static Later> {
+    let first = |later: &Later| commands.iter().position(|c| later.commands.contains(c));
+    let mut list: Vec<_> = LATER.iter().filter(|later| first(later).is_some()).collect();
+    list.sort_by_key(|later| first(later));
+    list
 }
 
 struct Case {
@@ -205,7 +209,7 @@ fn all_cases(commands: &[&str]) -> Cases {
 fn assert_covered(cases: &Cases, commands: &[&str]) {
     assert!(cases.list.len() >= FEWEST_CASES, "{} cases", cases.list.len());
     assert!(cases.tries < MOST_TRIES, "{} tries", cases.tries);
-    let later = brought(commands).flat_map(|later| later.numbers.iter().copied());
+    let later = brought(commands).into_iter().flat_map(|later| later.numbers.iter().copied());
     for number in (1..=9).chain(11..=15).chain([18]).chain(20..=27).chain(later) {
         assert!(cases.numbers.contains_key(&number), "number {} does not occur", number);
     }

@@ -15,10 +15,10 @@ use Rattle.book.specs.Rows.{Bytes}
 use Rattle.book.specs.Writing.{Fits}
 use Rattle.book.proofs.Shape.{good-fits}
 use Rattle.meaning.specs.Written.{nothing}
-use Rattle.walk.specs.Events.{events}
+use Rattle.walk.specs.Events.{Event, events}
 use Rattle.walk.specs.Readings.{readings, AllReadings}
 use Rattle.walk.specs.Tries.{Needs}
-use Rattle.walk.specs.Find.{findIn, findOf}
+use Rattle.walk.specs.Find.{findAlong, findBy}
 use Rattle.walk.proofs.Readings.{readings-all}
 use Rattle.walk.proofs.Order.{readings-only}
 use Rattle.walk.proofs.Needs.{needs-some, needs-one}
@@ -37,8 +37,9 @@ pub along : {A : Type 0} {x y : A} {P : Type 0} (z : A) → x ≡ y → (y ≡ z
 along z e (f, g) = (λ p. f (sym e ∙ p), λ p. e ∙ g p)
 
 module _ {book : List ℕ} {b : Book} (g : GoodBook book b) where
-  pub found-as : (k limit : ℕ) (answer : List ℕ) → findOf book k limit answer ≡ findIn b k limit answer
-  found-as k limit answer = rw (good-is book g) at (find-good-book book k limit answer _ _ _ _ (good-read book g))
+  pub found-as : (walk : Book → List Event) (k limit : ℕ) (answer : List ℕ)
+      → findBy walk book k limit answer ≡ findAlong b (walk b) k limit answer
+  found-as walk k limit answer = rw (good-is book g) at (find-good-book walk book k limit answer _ _ _ _ (good-read book g))
 
   pub written-as : (k : Claim) (limit : ℕ) (buffer : List ℕ) → writeOf book k limit buffer ≡ writeIn b k limit buffer
   written-as k limit buffer = write-good-book book k limit buffer _ _ _ _ (good-read book g)

@@ -20,7 +20,8 @@ use Rattle.closing.specs.Settle.{settleOf}
 use Rattle.closing.specs.Settle.{told as settleTold}
 use Rattle.closing.specs.declared.first.Settled.{Settled}
 use Rattle.closing.proofs.Settled.{settled-one}
-use Rattle.walk.specs.Find.{findOf}
+use Rattle.walk.specs.Events.{Event}
+use Rattle.walk.specs.Find.{findBy}
 use Rattle.walk.specs.Find.{told as findTold}
 use Rattle.walk.specs.Levels.{levelsOf}
 use Rattle.walk.specs.Page.{PageEnd, pageOf}
@@ -44,9 +45,10 @@ equal-determined p s = p ∙ sym s
 pub read-determined : (book : List ℕ) (r q : Read) → readTold r ≡ toldOf (readOf book) → readTold q ≡ toldOf (readOf book) → r ≡ q
 read-determined book r q p s = read-one r q (equal-determined p s)
 
-module _ (book : List ℕ) (k limit : ℕ) (answer : List ℕ) where
+-- along the fixed walk it is find's promise, along ownEvents that of nomore's find
+module _ (walk : Book → List Event) (book : List ℕ) (k limit : ℕ) (answer : List ℕ) where
   abbrev FindPromise : FoundAnswer → List ℕ → Type 0
-  FindPromise r after = _≡_ {A = Answered ℕ} (record { told = findTold r; buffer = after }) (findOf book k limit answer)
+  FindPromise r after = _≡_ {A = Answered ℕ} (record { told = findTold r; buffer = after }) (findBy walk book k limit answer)
 
   pub find-determined : (r q : FoundAnswer) (after other : List ℕ) → FindPromise r after → FindPromise q other → (r ≡ q) × (after ≡ other)
   find-determined r q after other p s = answered-one findTold found-one r q after other (equal-determined p s)

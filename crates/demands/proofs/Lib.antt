@@ -2,11 +2,13 @@
 pub mod Damaged
 pub mod Calls
 pub mod Books
+pub mod Found
 pub mod Ours1
 pub mod Ours2
 pub mod Once
 pub mod Ours3
 pub mod Only
+pub mod Own
 pub mod Worked
 pub mod WorkedLevels
 pub mod Sentences

@@ -2,11 +2,10 @@
 -- each call one answer is found that every engine gives which meets the demands; ours is one of them. Document 01, "What the promises say".
 use mathlib.Core.Path.{_≡_, sym, _∙_}
 use mathlib.Core.Logic.{_⊎_, inl, inr, ⊎-elim}
-use mathlib.Core.Bool.{false}
 use mathlib.Core.List.{List, _++_}
 use Prim.Native.Nat.{ℕ, _-_, _≤_, _<_}
 use native.Mathlib.Omega.{arith}
-use lib.ListN.{length, getD, drop}
+use lib.ListN.{length, drop}
 use Rattle.meaning.specs.declared.AtomNo.{AtomNo}
 use Rattle.meaning.specs.Books.{Atoms, Book}
 use Rattle.meaning.specs.AnswerSet.{AnswerSet}
@@ -18,10 +17,8 @@ use Rattle.meaning.specs.Paper.{paperBytes}
 use Rattle.book.specs.Rows.{Bytes}
 use Rattle.meaning.specs.Written.{nothing}
 use Rattle.walk.specs.Events.{events}
-use Rattle.walk.specs.Readings.{AllReadings}
 use Rattle.walk.specs.Tries.{Needs, to-reading, to-end, lastClash}
-use Rattle.walk.specs.Run.{rowOf}
-use Rattle.walk.specs.Find.{set, findOf}
+use Rattle.walk.specs.Find.{fixedWalk, findOf}
 use Rattle.walk.proofs.Needs.{needs-some}
 use Rattle.writer.specs.PaperNeeds.{paperFor}
 use Rattle.writer.specs.Write.{Handed, paper, lacking, writeOf}
@@ -31,68 +28,35 @@ use Rattle.checker.specs.Check.{checkOf}
 use Rattle.demands.specs.Engine.{Engine, ours}
 use Rattle.demands.specs.Damaged.{GoodBook, DamagedBook, DamagedPaper}
 use Rattle.demands.specs.Demand1.{Demand1}
-use Rattle.demands.specs.Demand2.{Call, Asking, Demand2}
+use Rattle.demands.specs.Demand2.{Asking, Demand2}
 use Rattle.demands.specs.Demand3.{InLimit, Papers}
+use Rattle.demands.specs.FindsBy.{FindsBy}
 use Rattle.demands.proofs.Damaged.{every-book, every-paper}
-use Rattle.demands.proofs.Calls.{call-counts, nameable}
+use Rattle.demands.proofs.Calls.{readings-there, nameable}
+use Rattle.demands.proofs.Found.{finds-only}
 use Rattle.demands.proofs.Ours1.{ours-1}
 use Rattle.demands.proofs.Ours2.{ours-2}
 use Rattle.demands.proofs.Ours3.{holds-or-not, our-papers}
 
 -- ---- finding
 
-module _ (book : List ℕ) (bytes : Bytes book) (k limit : ℕ) (answer : List ℕ) where
-  -- every engine that meets demands 1 and 2 answers this call so
-  Finds : Answered ℕ → Type 0
-  Finds a = (e : Engine) → Demand1 e → Demand2 e → e .find book k limit answer ≡ a
+-- whoever meets demands 1 and 2 finds along the fixed walk
+finds-fixed : (e : Engine) → Demand1 e → Demand2 e → FindsBy fixedWalk (e .find)
+finds-fixed e p q = record {
+  tells-book = p .find-book;
+  tells-number = p .find-number;
+  tells-room = p .find-room;
+  keeps = p .find-keeps;
+  gives = λ book b k limit answer c.
+      q .gives-readings book b k limit answer c _ (readings-there (c .good-book) (c .bytes));
+  stops = q .stops;
+  tells-fewer = λ book b k limit answer c.
+      q .tells-fewer book b k limit answer c _ (readings-there (c .good-book) (c .bytes));
+}
 
-  -- the same told, and the buffer as it was
-  refuses : (t : Told ℕ) → ((u : ℕ) → t ≡ set u → ⊥) → ((e : Engine) → Demand1 e → Demand2 e → e .find book k limit answer .told ≡ t)
-      → Finds (record { told = t; buffer = answer })
-  unfolding Finds
-  refuses t n f e p q =
-      let told = f e p q in
-      let kept = p .find-keeps book k limit answer (λ u z. n u (sym told ∙ z)) in
-      λ i. record { told = told i; buffer = kept i }
-
-  module _ {b : Book} (c : Call book b k answer) where
-    gives : {l : List Atoms} → AllReadings b l → {n : ℕ} → Needs b (events b nothing) k n → n ≤ limit → k ≤ length l
-        → Finds (record { told = set n; buffer = rowOf b (getD l (k - 1) (λ a. false)) ++ drop (b .atoms) answer })
-    unfolding Finds
-    gives all needs h m e p q =
-        let (told, row) = q .gives-readings book b k limit answer c _ all _ needs h m in
-        let there = row (λ a. false) in
-        λ i. record { told = told i; buffer = there i }
-
-    call-found : (a : Answered ℕ) × Finds a
-    call-found =
-        let (l, all, n, needs) = call-counts c in
-        ⊎-elim (λ h. (_, refuses (stopped limit) (λ u z. apart (cc)) (λ e p q. q .stops book b k limit answer c .1 (n, needs, h))))
-        (λ h. ⊎-elim
-        (λ m. (
-          _,
-          refuses (fewer n (length l) (lastClash (events b nothing))) (λ u z. apart (cc))
-              (λ e p q. q .tells-fewer book b k limit answer c l all n needs h .1 m),
-        ))
-        (λ m. (_, gives all needs h m)) (lt-or-le (length l) k)) (lt-or-le limit n)
-
-  module _ {b : Book} (g : GoodBook book b) where
-    good-found : (a : Answered ℕ) × Finds a
-    good-found = ⊎-elim
-        (λ h. ⊎-elim
-        (λ l. (_, refuses (refused 8) (λ u z. apart (cc)) (λ e p q. p .find-room book k limit answer .1 (b, g, h, l))))
-        (λ l. call-found (record { bytes = bytes; good-book = g; good-number = h; good-room = l })) (lt-or-le (length answer) (b .atoms)))
-        (λ h. (_, refuses (refused 15) (λ u z. apart (cc)) (λ e p q. p .find-number book k limit answer .1 (b, g, omega arith))))
-        (lt-or-le 0 k)
-
-  found-one : (a : Answered ℕ) × Finds a
-  found-one = ⊎-elim (λ (b, g). good-found g)
-      (λ (i, at, d). (_, refuses (refusedAt i at) (λ u z. apart (cc)) (λ e p q. p .find-book book k limit answer i at .1 d)))
-      (every-book book)
-
-  pub find-only : (e : Engine) → Demand1 e → Demand2 e → e .find book k limit answer ≡ findOf book k limit answer
-  unfolding Finds
-  find-only e p q = let (a, f) = found-one in f e p q ∙ sym (f ours ours-1 ours-2)
+pub find-only : (book : List ℕ) → Bytes book → (k limit : ℕ) (answer : List ℕ) (e : Engine) → Demand1 e → Demand2 e
+    → e .find book k limit answer ≡ findOf book k limit answer
+find-only book bytes k limit answer e p q = finds-only fixedWalk book bytes k limit answer (e .find) (finds-fixed e p q)
 
 -- ---- naming and clearing
 

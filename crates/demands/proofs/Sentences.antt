@@ -25,7 +25,7 @@ use Rattle.book.specs.Rows.{Bytes}
 use Rattle.walk.specs.Events.{events}
 use Rattle.walk.specs.Readings.{readings}
 use Rattle.walk.specs.Tries.{to-reading, to-end}
-use Rattle.walk.specs.Find.{set, findOf}
+use Rattle.walk.specs.Find.{set, fixedWalk, findOf}
 use Rattle.walk.proofs.Needs.{kth-count}
 use Rattle.walk.proofs.Demand.{find-set}
 use Rattle.writer.specs.PaperNeeds.{to-last, paperFor}
@@ -91,7 +91,7 @@ module _ (book : List ℕ) (bytes : Bytes book) (k limit : ℕ) (answer : List �
   given-as-ours e gives {t} told =
       let (b, c) = call-of good-set told in
       let g = c .good-book in
-      let ours-told = ap (λ (a : Answered ℕ). a .told) (sym (found-as g k limit answer)) ∙ told in
+      let ours-told = ap (λ (a : Answered ℕ). a .told) (sym (found-as g fixedWalk k limit answer)) ∙ told in
       let (x, kth, h) = find-set b (events b nothing) k limit answer (c .good-number) (c .good-room) t .0 ours-told in
       let all = readings-there g bytes in
       let n = to-reading kth in

@@ -18,7 +18,7 @@ use Rattle.book.specs.Rows.{Bytes}
 use Rattle.book.specs.Format.{u16At, partOf, andThen, bytesOf, recordOf, lengthOf, ruleOf, recordsOf, rulesOf, ifFine, bodyOf, readOf}
 use Rattle.walk.specs.Events.{after, eventsIn, events}
 use Rattle.walk.specs.Run.{rowFrom, rowOf, readingMet, tried, met, run}
-use Rattle.walk.specs.Find.{set, toldBy, findAlong, findRead, findOf}
+use Rattle.walk.specs.Find.{set, toldBy, findAlong, findRead, findBy}
 use Rattle.walk.specs.Shown.{alike, shownAfter, shownEvents}
 use Rattle.walk.specs.FindShown.{goodList, findShownIn, findShownRead, findShownOf}
 use Rattle.demands.specs.DemandShown.{Finder, DemandShown}
@@ -47,7 +47,7 @@ computed :
 unfolding every some everyBelow someBelow ascending sameAtom count rule everyRule someRule heads allIn mayOn blocked starved clashing uncoloured of
     addFrom added iterate upheld supportMore support goesOff closeMore marked stamped close oneOr lowestFrom lowest clashed ifb ifLt ifEq agree
     u16At partOf andThen bytesOf recordOf lengthOf ruleOf recordsOf rulesOf ifFine bodyOf readOf after eventsIn events rowFrom rowOf writeAt readingMet
-    tried met run toldBy findAlong findRead findOf alike shownAfter shownEvents goodList findShownIn findShownRead findShownOf alongRead lastAfter
+    tried met run toldBy findAlong findRead findBy alike shownAfter shownEvents goodList findShownIn findShownRead findShownOf alongRead lastAfter
     withoutQuiet
 computed = (refl, refl, refl, refl, refl)
 

@@ -19,7 +19,7 @@ use Rattle.book.specs.Format.{u16At, partOf, andThen, bytesOf, recordOf, length
 use Rattle.walk.specs.Events.{after, eventsIn, events}
 use Rattle.meaning.specs.Buffers.{writeAt}
 use Rattle.walk.specs.Run.{rowFrom, rowOf, readingMet, tried, met, run}
-use Rattle.walk.specs.Find.{toldBy, findAlong, findRead, findOf, firstWalk}
+use Rattle.walk.specs.Find.{toldBy, findAlong, findRead, findBy, firstWalk}
 use Rattle.walk.specs.Page.{setIn}
 use Rattle.writer.specs.Branches.{behind, branchBy, branchIn, branch, below, branchesIn, branches}
 use Rattle.writer.specs.Scan.{courseAt, scan}
@@ -41,7 +41,7 @@ unfolding Holds every some everyBelow someBelow ascending sameAtom sameRule coun
     supportMore support goesOff closeMore marked stamped close onPick oneOr lowestFrom lowest clashed listedIf
     rulesFrom rulesIn firstOf unsupported next listable listing ownWitness ifb ifLt ifEq u16At partOf andThen bytesOf recordOf lengthOf
     ruleOf recordsOf rulesOf ifFine bodyOf readOf after eventsIn events rowFrom rowOf writeAt readingMet tried met run toldBy findAlong
-    findRead findOf setIn behind branchBy branchIn branch below branchesIn branches courseAt branchMet scan firstWalk paperWalk
+    findRead findBy setIn behind branchBy branchIn branch below branchesIn branches courseAt branchMet scan firstWalk paperWalk
     wholePaper handOver afterPaperWalk afterFirstWalk lacking writeIn writeRead writeOf withRule properList withList stepBy stepOf branchThen
     afterStep branchOf witnessThen follows orderOf blockedOf restFails listOf witnessVerdict witnessTold branchTold stepsTold trailerTold
     markedTold paperOf checkRead checkOf

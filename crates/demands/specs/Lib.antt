@@ -3,6 +3,7 @@ pub mod Engine
 pub mod Damaged
 pub mod Demand1
 pub mod Demand2
+pub mod FindsBy
 pub mod Demand3
 pub mod DemandShown
 pub mod Printed

@@ -1,5 +1,6 @@
 // `find K L ROOM BOOK`: the K-th reading, within L tries, in a buffer of ROOM bytes. Answers
 // `set TRIES a b c`, `fewer TRIES SETS RULE`, `limit L` or `refused NUMBER [PLACE]`.
+// `nomore K L ROOM BOOK`: the same by the noMoRe way of choosing, over a walk of its own.
 ghost use Rattle.io.specs.Counts.{Counts};
 use crate::call::read_call;
 use crate::fewer::put_fewer;
@@ -13,7 +14,12 @@ use talk::put_refused;
 use talk::put_text;
 use talk::refused_book;
 use walk::Found;
-use walk::find;
+
+// Which walk is asked: the fixed one, or the noMoRe way's own.
+pub enum Way {
+    Fixed,
+    Nomore,
+}
 
 // The atoms of the set that stands in the answer of a good book.
 fn put_answer(book: &[u8], answer: &[u8], out: &mut [u8], held: usize) -> usize
@@ -44,6 +50,14 @@ pub fn put_unfound(answer: Found, out: &mut [u8]) -> usize
     }
 }
 
+// Asks the engine that goes that way.
+fn ask(way: Way, book: &[u8], k: u32, limit: u32, answer: &mut [u8]) -> Found {
+    match way {
+        Way::Fixed => walk::find(book, k, limit, answer),
+        Way::Nomore => nomore::find(book, k, limit, answer),
+    }
+}
+
 // Puts what the engine answered at the start of out; the answer is the buffer that it was lent.
 pub fn put_found(book: &[u8], told: Found, answer: &[u8], out: &mut [u8]) -> usize
     ensures { λ r. ⌜ Counts r (now (out .exit)) ⌝ }
@@ -59,16 +73,22 @@ pub fn put_found(book: &[u8], told: Found, answer: &[u8], out: &mut [u8]) -> usi
 }
 
 // Asks the engine, and puts what it answers at the start of out.
-fn tell_found(book: &[u8], k: u32, limit: u32, answer: &mut [u8], out: &mut [u8]) -> usize
+fn tell_found(way: Way, book: &[u8], k: u32, limit: u32, answer: &mut [u8], out: &mut [u8]) -> usize
     ensures { λ r. ⌜ Counts r (now (out .exit)) ⌝ }
 {
-    let told = find(book, k, limit, answer);
+    let told = ask(way, book, k, limit, answer);
     put_found(book, told, answer, out)
 }
 
 // Puts the answer to the command at the start of out, and gives its length: 0 where the command's
 // words are not right.
-pub fn answer_find(words: &[u8], book: &mut [u8], room: &mut [u8], out: &mut [u8]) -> usize
+pub fn answer_find(
+    words: &[u8],
+    way: Way,
+    book: &mut [u8],
+    room: &mut [u8],
+    out: &mut [u8],
+) -> usize
     ensures { λ r. ⌜ Counts r (now (out .exit)) ⌝ }
 {
     let call = read_call(words, book, room);
@@ -77,5 +97,12 @@ pub fn answer_find(words: &[u8], book: &mut [u8], room: &mut [u8], out: &mut [u8
     }
     let n = call.count;
     let size = call.size;
-    tell_found(&book[..n], call.first, call.limit, &mut room[..size], out)
+    tell_found(
+        way,
+        &book[..n],
+        call.first,
+        call.limit,
+        &mut room[..size],
+        out,
+    )
 }

@@ -1,5 +1,6 @@
 // One line: a command and its words, which are parted by one space.
 ghost use Rattle.io.specs.Counts.{Counts};
+use crate::find::Way;
 use crate::find::answer_find;
 use crate::levelsk::answer_levels;
 use crate::paper_check::answer_check;
@@ -32,7 +33,10 @@ fn answer_of_book(
     ensures { λ r. ⌜ Counts r (now (out .exit)) ⌝ }
 {
     if same(command, b"find") {
-        return answer_find(words, book, room, out);
+        return answer_find(words, Way::Fixed, book, room, out);
+    }
+    if same(command, b"nomore") {
+        return answer_find(words, Way::Nomore, book, room, out);
     }
     if same(command, b"name") {
         return answer_name(words, Kind::Naming, book, room, out);

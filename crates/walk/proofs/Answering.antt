@@ -21,10 +21,10 @@ use Rattle.book.specs.Format.{readOf, toldOf, bookOf, bookIn, ReadAs}
 use Rattle.book.proofs.Shape.{told-good}
 use Rattle.book.proofs.Verdict.{read-as, read-bad}
 use Rattle.book.proofs.Places.{shape-atoms}
-use Rattle.walk.specs.Events.{events, rest}
+use Rattle.walk.specs.Events.{Event, events, rest}
 use Rattle.walk.specs.Run.{Wanted, State, run}
 use Rattle.walk.specs.Room.{Room}
-use Rattle.walk.specs.Find.{toldBy, startAt, startOf, answeredBy, findAlong, findIn, findOf}
+use Rattle.walk.specs.Find.{toldBy, startAt, startOf, answeredBy, findAlong, findBy}
 use Rattle.walk.specs.Page.{PageEnd, endedBy, setIn, eventsFrom, roomIn, pagedBy, pageIn, pageRead, pageOf}
 use Rattle.walk.specs.declared.tally.Halt.{Halt}
 use Rattle.walk.specs.declared.tally.Halt.the-variants.{Going, Full, Limit}
@@ -39,9 +39,9 @@ use Rattle.walk.proofs.Walking.{few}
 -- ---- the book
 
 module _ (s : List ℕ) {x : Read} (e : bookTold x ≡ toldOf (readOf s)) where
-  pub find-refused : (k limit : ℕ) (answer : List ℕ) {f : Refusal} → x ≡ Refused f
-      → record { told = refusedAt (numberOf f) (placeOf f); buffer = answer } ≡ findOf s k limit answer
-  find-refused k limit answer f = sym (find-bad-book s k limit answer _ _ (read-bad s e f))
+  pub find-refused : (walk : Book → List Event) (k limit : ℕ) (answer : List ℕ) {f : Refusal} → x ≡ Refused f
+      → record { told = refusedAt (numberOf f) (placeOf f); buffer = answer } ≡ findBy walk s k limit answer
+  find-refused walk k limit answer f = sym (find-bad-book walk s k limit answer _ _ (read-bad s e f))
 
   pub page-refused : (limit tries : ℕ) (row out : List ℕ) {f : Refusal} → x ≡ Refused f
       → record { told = refusedAt (numberOf f) (placeOf f); buffer = out } ≡ pageOf s limit tries row out
@@ -79,23 +79,24 @@ module _ (s : List ℕ) (h : Shape) (e : ReadAs s h) where
   pub one-row : (out : List ℕ) → h .atoms ≤ length out → 1 * bookIn s .atoms ≤ length out
   one-row out l = rw (one-mul, shape-atoms s h e) l
 
-  module _ (k limit : ℕ) (answer : List ℕ) where
-    find-read : findOf s k limit answer ≡ findIn (bookIn s) k limit answer
-    find-read = find-good-book s k limit answer _ _ _ _ (told-good (readOf s) _ _ _ e)
+  -- along the events of any walk
+  module _ (walk : Book → List Event) (k limit : ℕ) (answer : List ℕ) where
+    find-read : findBy walk s k limit answer ≡ findAlong (bookIn s) (walk (bookIn s)) k limit answer
+    find-read = find-good-book walk s k limit answer _ _ _ _ (told-good (readOf s) _ _ _ e)
 
-    pub find-no-number : k ≡ 0 → record { told = refused 15; buffer = answer } ≡ findOf s k limit answer
+    pub find-no-number : k ≡ 0 → record { told = refused 15; buffer = answer } ≡ findBy walk s k limit answer
     unfolding findAlong
     find-no-number z = sym (find-read ∙ eq-yes _ _ _ _ z)
 
     module _ (n : k ≡ 0 → ⊥) where
-      pub find-no-room : length answer < h .atoms → record { told = refused 8; buffer = answer } ≡ findOf s k limit answer
+      pub find-no-room : length answer < h .atoms → record { told = refused 8; buffer = answer } ≡ findBy walk s k limit answer
       unfolding findAlong
       find-no-room l = sym (find-read ∙ eq-no _ _ _ _ n ∙ lt-yes _ _ _ _ (rw (shape-atoms s h e) l))
 
       pub find-walked : h .atoms ≤ length answer → {t : Tally} {out : List ℕ} {r : Told ℕ}
           → record { tally = t; out = out }
-          ≡ run (bookIn s) (record { pass = k - 1; room = 1; limit = limit }) (startOf answer) (events (bookIn s) nothing)
-          → r ≡ toldBy (t .halt) (record { tally = t; out = [] }) limit → record { told = r; buffer = out } ≡ findOf s k limit answer
+          ≡ run (bookIn s) (record { pass = k - 1; room = 1; limit = limit }) (startOf answer) (walk (bookIn s))
+          → r ≡ toldBy (t .halt) (record { tally = t; out = [] }) limit → record { told = r; buffer = out } ≡ findBy walk s k limit answer
       unfolding findAlong
       find-walked l {t} {out} f g =
           rw (g ∙ any-buffer (t .halt) t limit [] out)

@@ -16,7 +16,7 @@ use Rattle.book.specs.Format.{u16At, partOf, andThen, bytesOf, recordOf, length
 use Rattle.walk.specs.Events.{after, eventsIn, events, beside, afterPast, restIn, rest}
 use Rattle.meaning.specs.Buffers.{writeAt}
 use Rattle.walk.specs.Run.{rowFrom, rowOf, readingMet, tried, met, run}
-use Rattle.walk.specs.Find.{set, toldBy, findAlong, findRead, findOf}
+use Rattle.walk.specs.Find.{set, toldBy, findAlong, findRead, findBy, findOf}
 use Rattle.walk.specs.Page.{whole, last, cut, setIn, eventsFrom, roomIn, endedBy, pageIn, pageRead, pageOf}
 
 pub record Case : Type 0 where
@@ -97,7 +97,7 @@ pub cases-found : map (λ c. findOf (c .book) (c .k) (c .limit) before) cases �
 unfolding every some everyBelow someBelow sameAtom count rule everyRule someRule ifb ifLt ifEq heads allIn mayOn blocked starved
     uncoloured of addFrom added iterate upheld supportMore support goesOff closeMore marked stamped close
     oneOr lowestFrom lowest clashed u16At partOf andThen bytesOf recordOf lengthOf ruleOf recordsOf rulesOf ifFine bodyOf readOf
-    after eventsIn events rowFrom rowOf writeAt readingMet tried met run toldBy findAlong findRead findOf
+    after eventsIn events rowFrom rowOf writeAt readingMet tried met run toldBy findAlong findRead findBy
 cases-found = refl
 
 pub pages-found :

@@ -18,7 +18,7 @@ use Rattle.walk.specs.Events.{Event}
 use Rattle.walk.specs.Readings.{readingsIn}
 use Rattle.walk.specs.Tries.{Kth, Needs, to-reading, to-end, lastClash}
 use Rattle.walk.specs.Run.{rowOf}
-use Rattle.walk.specs.Find.{set, findAlong, findIn, findRead, findOf}
+use Rattle.walk.specs.Find.{set, findAlong, findRead, findBy}
 use Rattle.walk.proofs.Needs.{kth-count, kth-one, needs-one}
 use Rattle.walk.proofs.Finding.{Outcome, found, too-few, too-long, no-number, no-room, find-outcome}
 
@@ -112,15 +112,15 @@ unfolding bookIn
 read-fits s n r index l bytes e =
     let f = good-fits s n r index l bytes e in (f .rules, λ q h. f .each _ (rule-member (bookOf (readOf s)) q h) .head)
 
-module _ (s : List ℕ) (k limit : ℕ) (answer : List ℕ) where
+module _ (walk : Book → List Event) (s : List ℕ) (k limit : ℕ) (answer : List ℕ) where
   -- a book's refusal comes first, and nothing is written
   pub find-bad-book : (number at : ℕ) → readOf s ≡ bad number at
-      → findOf s k limit answer ≡ record { told = refusedAt number at; buffer = answer }
-  unfolding findOf findRead
+      → findBy walk s k limit answer ≡ record { told = refusedAt number at; buffer = answer }
+  unfolding findBy findRead
   find-bad-book number at e = rw e
 
   -- all that is said above of a book holds of the book that good bytes hold
   pub find-good-book : (n r index : ℕ) (l : List Rule) → readOf s ≡ good n r index l
-      → findOf s k limit answer ≡ findIn (bookIn s) k limit answer
-  unfolding findOf findRead bookIn bookOf
+      → findBy walk s k limit answer ≡ findAlong (bookIn s) (walk (bookIn s)) k limit answer
+  unfolding findBy findRead bookIn bookOf
   find-good-book n r index l e = rw e

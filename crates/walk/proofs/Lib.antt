@@ -2,6 +2,7 @@
 pub mod Events
 pub mod Rows
 pub mod Run
+pub mod Steps
 pub mod Order
 pub mod Forks
 pub mod Readings

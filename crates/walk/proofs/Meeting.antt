@@ -1,4 +1,4 @@
--- What a try does that meets a reading (specs/Run, src/meet.rt), by its cases; that the row's place lies in the buffer; and what a call
+-- What a try does that meets a reading (specs/Run, src/met.rt), by its cases; that the row's place lies in the buffer; and what a call
 -- keeps to along its walk (specs/Room), from one state of its way to the next.
 use mathlib.Core.Path.{_≡_, refl, sym, _∙_, ap}
 use mathlib.Core.Bool.{Bool}

@@ -3,7 +3,7 @@
 use mathlib.Core.Path.{_≡_, refl, sym, _∙_, ap}
 use mathlib.Core.Logic.{_⊎_, inl, inr, ⊎-elim}
 use mathlib.Core.Bool.{Bool, true, false}
-use mathlib.Core.List.{List, [], _∷_}
+use mathlib.Core.List.{List, [], _∷_, _++_}
 use Prim.Native.Nat.{ℕ, _+_, _≤_, _<_}
 use native.Mathlib.Omega.{arith}
 use lib.ListN.{length}
@@ -26,7 +26,7 @@ use Rattle.book.specs.Format.{bookIn, ReadAs}
 use Rattle.book.proofs.Places.{shape-count}
 use Rattle.closing.specs.Left.{left, Shallow}
 use Rattle.walk.specs.Events.{Event, clash, fork, reading, quiet, after, eventsIn, events, rest}
-use Rattle.walk.specs.Run.{Wanted, State, counted, clashedAt, halting, readingMet, tried, run}
+use Rattle.walk.specs.Run.{Wanted, State, counted, clashedAt, halting, readingMet, run}
 use Rattle.walk.specs.Room.{Room}
 use Rattle.walk.specs.Readings.{readingOf}
 use Rattle.walk.specs.FirstAlike.{countedBy}
@@ -40,8 +40,9 @@ use Rattle.walk.proofs.tally.Halt.{the-type}
 use Rattle.walk.proofs.Events.{Closes, events-clash, events-reading, rest-clash, rest-reading}
 use Rattle.walk.proofs.Events.{Forks, fork-falls, fork-shallow, events-fork, rest-fork-on, rest-fork-off}
 use Rattle.closing.proofs.Searches.{lowest-in}
-use Rattle.walk.proofs.Run.{run-append, run-ended, run-try, run-stops, run-fine}
+use Rattle.walk.proofs.Run.{run-append, run-ended, run-fine}
 use Rattle.walk.proofs.Fresh.{counted-append}
+use Rattle.walk.proofs.Steps.{way-stops, way-clash, way-reading, way-fork, way-quiet}
 use Rattle.walk.proofs.Meeting.{wanted, room-fine, fine-room}
 
 -- ---- what is kept to
@@ -128,13 +129,13 @@ module _ (b : Book) (p : Set Atoms) (w : Wanted) (s : State) (c : Tables) where
     walk-stops h =
         let (e, es, q) = events-some b c in
         let (f, fs, r) = counted-some b p e es in
-        sym (ap (run b w s) (ap (countedBy b p) q ∙ r) ∙ run-stops b w s going f fs h)
+        way-stops b w s going way (ap (countedBy b p) q ∙ r) h
 
     module _ (h : s .tally .tries < w .limit) {d : Tables} where
       pub walk-clash : {t : Tally} {r : RuleNo} → Closes b c d → clashed b (pair d) ≡ one r → t ≡ clashedAt s r
           → record { tally = t; out = s .out } ≡ run b w s (countedBy b p (events b c))
-      unfolding run tried countedBy
-      walk-clash k z e = rw e (sym (ap (λ (es : List Event). run b w s (countedBy b p es)) (events-clash k z) ∙ run-try b w s going (clash _) [] h))
+      unfolding countedBy
+      walk-clash k z e = way-clash b w s going h way (ap (countedBy b p) (events-clash k z)) e
 
       module _ (k : Closes b c d) (z : clashed b (pair d) ≡ none) (q : lowest b (uncoloured (pair d)) ≡ none)
           {x : Bool} (asked : x ≡ p (heads b (of (d .on)))) where
@@ -143,25 +144,23 @@ module _ (b : Book) (p : Set Atoms) (w : Wanted) (s : State) (c : Tables) where
         one-event e f = ap (countedBy b p) (events-reading k z q) ∙ ap (λ (g : Event). g ∷ []) f
 
         pub walk-reading : {u : State} → x ≡ true → u ≡ readingMet b w s (heads b (of (d .on))) → u ≡ run b w s (countedBy b p (events b c))
-        unfolding run tried
-        walk-reading t e = e ∙ sym (ap (run b w s) (one-event (reading d) (b-yes _ _ _ (sym asked ∙ t))) ∙ run-try b w s going (reading d) [] h)
+        walk-reading t e = way-reading b w s going h way (one-event (reading d) (b-yes _ _ _ (sym asked ∙ t))) e
 
         pub walk-quiet : {t : Tally} → x ≡ false → t ≡ counted s (s .tally .sets) Going
             → record { tally = t; out = s .out } ≡ run b w s (countedBy b p (events b c))
-        unfolding run tried
-        walk-quiet f e = rw e (sym (ap (run b w s) (one-event quiet (b-no _ _ _ (sym asked ∙ f))) ∙ run-try b w s going quiet [] h))
+        unfolding run
+        walk-quiet f e = way-quiet b w s going h way [] (one-event quiet (b-no _ _ _ (sym asked ∙ f))) e refl
 
       -- x and y are the two sides of the fork, u the state after the first and v after the second
       pub walk-fork : {r : RuleNo} {t : Tally} {x y : Tables} {u v : State} → Forks b c d r → t ≡ counted s (s .tally .sets) Going
           → x ≡ chosen onSide r d → u ≡ run b w (record { tally = t; out = s .out }) (countedBy b p (events b x))
           → y ≡ chosen offSide r d → v ≡ run b w u (countedBy b p (events b y)) → v ≡ run b w s (countedBy b p (events b c))
-      unfolding tried countedBy
-      walk-fork {r} f et ex eu ey ev =
-          ev ∙ rw (ey, eu, ex, et)
-          (sym (ap (λ (es : List Event). run b w s (countedBy b p es)) (events-fork f)
-          ∙ run-try b w s going (fork r) _ h
-          ∙ ap (run b w _) (counted-append b p (events b (chosen onSide r d)) (events b (chosen offSide r d)))
-          ∙ run-append b w _ _ _))
+      unfolding countedBy
+      walk-fork {r} {x = x} {y = y} f et ex eu ey ev =
+          let q : way ≡ fork r ∷ (countedBy b p (events b x) ++ countedBy b p (events b y)) = rw (ex, ey)
+          (ap (countedBy b p) (events-fork f)
+          ∙ ap (λ (es : List Event). fork r ∷ es) (counted-append b p (events b (chosen onSide r d)) (events b (chosen offSide r d)))) in
+          way-fork b w s going h way (countedBy b p (events b x)) (countedBy b p (events b y)) q et eu ev
 
 -- one reading more
 pub met-sets : (b : Book) (w : Wanted) (s : State) (x : Atoms) {t : State} → t ≡ readingMet b w s x → t .tally .sets ≡ s .tally .sets + 1

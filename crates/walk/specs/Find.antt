@@ -3,7 +3,9 @@
 --
 --   told             an answer's number and values, case by case
 --   findAlong b es k limit answer   the answer and the buffer, along the events es of a walk
---   findOf book k limit answer   the answer and the buffer, of the bytes of the book and of the buffer before
+--   findBy walk book k limit answer   the answer and the buffer, of the bytes of the book and of the buffer before; the walk says which
+--                    events a book has
+--   findOf book k limit answer   the same along the fixed walk
 --   firstWalk b limit            the walk to answer set 1, for whoever needs no more than that there is one
 use mathlib.Core.List.{List}
 use Prim.Native.Nat.{ℕ, _-_}
@@ -59,12 +61,19 @@ findAlong b es k limit answer =
 abbrev pub findIn : Book → ℕ → ℕ → List ℕ → Answered ℕ
 findIn b k limit answer = findAlong b (events b nothing) k limit answer
 
-unfoldable pub findRead : BookRead → ℕ → ℕ → List ℕ → Answered ℕ
-findRead (good n r index l) k limit answer = findIn (record { atoms = n; rules = l }) k limit answer
-findRead (bad i at) k limit answer = record { told = refusedAt i at; buffer = answer }
+unfoldable pub findRead : (Book → List Event) → BookRead → ℕ → ℕ → List ℕ → Answered ℕ
+findRead walk (good n r index l) k limit answer =
+    findAlong (record { atoms = n; rules = l }) (walk (record { atoms = n; rules = l })) k limit answer
+findRead walk (bad i at) k limit answer = record { told = refusedAt i at; buffer = answer }
 
-unfoldable pub findOf : List ℕ → ℕ → ℕ → List ℕ → Answered ℕ
-findOf book k limit answer = findRead (readOf book) k limit answer
+unfoldable pub findBy : (Book → List Event) → List ℕ → ℕ → ℕ → List ℕ → Answered ℕ
+findBy walk book k limit answer = findRead walk (readOf book) k limit answer
+
+abbrev pub fixedWalk : Book → List Event
+fixedWalk b = events b nothing
+
+abbrev pub findOf : List ℕ → ℕ → ℕ → List ℕ → Answered ℕ
+findOf = findBy fixedWalk
 
 unfoldable pub firstWalk : Book → ℕ → State
 firstWalk b limit = run b (record { pass = 0; room = 1; limit = limit }) (startOf (replicate 255 0)) (events b nothing)

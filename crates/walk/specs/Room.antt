@@ -1,5 +1,5 @@
 -- What the functions of the walk hand one another, so that a call's numbers fit and its rows have room: room for a row at least, no more
--- readings than tries, a row still wanted as long as it goes on, and bytes for every row. No promise of another crate speaks of it.
+-- readings than tries, a row still wanted as long as it goes on, and bytes for every row. A second walk keeps to it too; no entry point speaks of it.
 use mathlib.Core.Path.{_≡_}
 use Prim.Native.Nat.{ℕ, _+_, _*_, _≤_, _<_}
 use lib.ListN.{length}

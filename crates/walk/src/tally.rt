@@ -1,7 +1,7 @@
 // How far a call has come along its walk.
 ghost use mathlib.Core.Path.{_≡_};
 ghost use Prim.Native.Nat.{_+_, _<_};
-ghost use Rattle.walk.specs.declared.tally.Halt.the-variants.{Going};
+ghost use Rattle.walk.specs.declared.tally.Halt.the-variants.{Going, Limit};
 use meaning::RuleNo;
 
 // Why it goes no further.
@@ -34,6 +34,20 @@ impl Tally {
             sets,
             clash,
             halt,
+        }
+    }
+
+    // One try more would pass the limit.
+    pub fn stopped(self) -> Tally
+        ensures { λ t. ⌜ t ≡
+            record { tries = self .tries; sets = self .sets; clash = self .clash; halt = Limit } ⌝ }
+    {
+        let clash = self.clash;
+        Tally {
+            tries: self.tries,
+            sets: self.sets,
+            clash,
+            halt: Halt::Limit,
         }
     }
 

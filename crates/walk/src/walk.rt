@@ -12,7 +12,7 @@ ghost use Rattle.walk.specs.FirstAlike.{counts, countedBy};
 ghost use Rattle.walk.specs.Search.{shownIn, Remembers};
 use crate::colours::lowest_uncoloured;
 use crate::counts::does_count;
-use crate::meet::meet;
+use crate::met::meet;
 use crate::tally::Halt;
 use crate::tally::Tally;
 use book::Shape;

@@ -24,10 +24,10 @@ module _ (c : tie.Else2) where
   read = numbered .before .before
 
 returns : tie.Need-returns
-returns c = find-no-number _ _ (good (c .before .before)) _ _ _ (c .if1 .taken)
+returns c = find-no-number _ _ (good (c .before .before)) _ _ _ _ (c .if1 .taken)
 
 returns-2 : tie.Need-returns-2
-returns-2 c = let n = c .before .before in find-no-room _ _ (good (n .before .before)) _ _ _ (n .if1 .left) (c .if2 .taken)
+returns-2 c = let n = c .before .before in find-no-room _ _ (good (n .before .before)) _ _ _ _ (n .if1 .left) (c .if2 .taken)
 
 kth-requires : tie.Need-kth-requires
 kth-requires c κs =
@@ -36,13 +36,13 @@ kth-requires c κs =
     (good (read e), omega arith, e .if2 .left)
 
 returns-3 : tie.Need-returns-3
-returns-3 c = find-refused _ (c .before .before .before .read-book .ensures) _ _ _ (c .before .why .given .1)
+returns-3 c = find-refused _ (c .before .before .before .read-book .ensures) _ _ _ _ (c .before .why .given .1)
 
 returns-4 : tie.Need-returns-4
 returns-4 c =
     let w = c .before .before .before in
     let e = w .before .before in
-    find-walked _ _ (good (read e)) _ _ _ (numbered e .if1 .left) (e .if2 .left) (w .kth .ensures) (c .tell .ensures)
+    find-walked _ _ (good (read e)) _ _ _ _ (numbered e .if1 .left) (e .if2 .left) (w .kth .ensures) (c .tell .ensures)
 
 pub find-spec : {M : Type 1} → statement M
 find-spec =

@@ -30,7 +30,7 @@ use Rattle.meaning.proofs.colouring.Colouring.choose_off.Reads as choose-off-re
 use Rattle.meaning.proofs.colouring.Colouring.choose_on.Reads as choose-on-reads
 use Rattle.walk.proofs.colours.lowest_uncoloured.Reads as lowest-uncoloured-reads
 use Rattle.walk.proofs.counts.does_count.Reads as does-count-reads
-use Rattle.walk.proofs.meet.meet.Reads as meet-reads
+use Rattle.walk.proofs.met.meet.Reads as meet-reads
 use Rattle.walk.proofs.tally.Tally.clashed.Reads as clashed-reads
 use Rattle.walk.proofs.tally.Tally.tried.Reads as tried-reads
 use Rattle.walk.proofs.walk.+walk_shown.{statement}

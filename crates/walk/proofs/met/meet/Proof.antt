@@ -4,8 +4,8 @@ use native.Mathlib.Omega.{arith}
 use lib.ListN.{length}
 use borrow.Author.Needs.{needs}
 use Rattle.walk.proofs.Meeting.{met-passed, met-full, met-going, row-place}
-use Rattle.walk.proofs.meet.meet.Statement.{statement}
-use Rattle.walk.proofs.meet.meet.Tie as tie
+use Rattle.walk.proofs.met.meet.Statement.{statement}
+use Rattle.walk.proofs.met.meet.Tie as tie
 
 -- where the reading is not passed over: its row lies within the buffer
 module _ (c : tie.Else1) where

@@ -1,0 +1,2 @@
+-- The noMoRe way of choosing. Read in this order.
+pub mod Own
