@@ -1,4 +1,4 @@
--- What the first closing settles, as bytes. Document 02, ticket 8: "Shift leads want to see which rules are settled before any choice", and
+-- What the first closing settles, as bytes. Document 02, request 8: "Shift leads want to see which rules are settled before any choice", and
 -- "its on heads, with the atoms whose rules are all off, are the true and false atoms of the well-founded model". Settled is not certain:
 -- a book without a reading has settled rules too.
 --

@@ -1,4 +1,4 @@
--- Demands 1 and 2 of a call that lends a list of shown atoms. Document 02, ticket 3: "two readings differ only if they differ in one of
+-- Demands 1 and 2 of a call that lends a list of shown atoms. Document 02, request 3: "two readings differ only if they differ in one of
 -- those. The k-th reading is then the k-th answer set in walk order that no earlier one matches on the shown atoms, and demand 2's "each
 -- given once" and "fewer", with refusal 11's count, speak of readings so." Demand 3 keeps speaking of answer sets.
 --

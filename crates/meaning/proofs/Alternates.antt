@@ -1,5 +1,5 @@
 -- Two sets of atoms that alternate (specs/WellFounded): the pair of rule sets that stands for them is closed, and they are read from it
--- again. F1 to F3 of the ticket; each tries minimality on one set, as in Answers, of which these are the form for two sets.
+-- again. F1 to F3 of request 8; each tries minimality on one set, as in Answers, of which these are the form for two sets.
 use mathlib.Core.Path.{_≡_, refl, ap, subst, fun-ext}
 use mathlib.Core.Logic.{⊎-elim}
 use mathlib.Core.Bool.{true, false, not, _&&_}

@@ -1,6 +1,6 @@
 -- The first closing is the well-founded model (documents 003, Theorem 7, and 000, section 6), and has no contradiction. The idea: the pair
 -- that stands for two sets that alternate is closed, so the first closing is within it; and what the first closing's own two sets account
--- for is closed too, so it is all of it, and they alternate. F4 to F9 of the ticket. Only the last section asks for a book of at most 255
+-- for is closed too, so it is all of it, and they alternate. F4 to F9 of request 8. Only the last section asks for a book of at most 255
 -- rules.
 use mathlib.Core.Path.{_≡_, sym, _∙_, ap, subst}
 use mathlib.Core.Logic.{⊎-elim}

@@ -3,7 +3,7 @@
 --
 --   iterate f n a    f, n times over
 --   support b off    the set V of Support, written out
---   stamped b c d    d with the levels that a closing from c to d gives. Document 02, ticket 8: "for each coloured rule, the level at which it
+--   stamped b c d    d with the levels that a closing from c to d gives. Document 02, request 8: "for each coloured rule, the level at which it
 --                    got its colour: 0 for the first closing, then one more for each choice above it"
 --   close b c        the closing of a colouring; its marks are the V of its off rules
 use mathlib.Core.Bool.{Bool, false, not, _&&_, _||_}

@@ -10,7 +10,7 @@
 --   nothing          the empty tables
 --   coloured on off  the tables of two sets of rules alone, with no marks and no levels
 --   colourOn r c, colourOff r c   the colouring with rule r put in on, in off
---   chosen x r c     the choice of a walk: rule r put on one side, one level deeper. Document 02, ticket 8: "a chosen rule has the level of
+--   chosen x r c     the choice of a walk: rule r put on one side, one level deeper. Document 02, request 8: "a chosen rule has the level of
 --                    its choice"
 --   levelOf c r      the level at which rule r got its colour, 0 before it has one
 --   lent on off      the pair of sets that two lists stand for, each lent by itself

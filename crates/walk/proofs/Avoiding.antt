@@ -1,4 +1,4 @@
--- The colouring that keeps away from what x does not show (ticket 3, H1): the answer sets above it are those whose shown atoms all lie in
+-- The colouring that keeps away from what x does not show (request 3, H1): the answer sets above it are those whose shown atoms all lie in
 -- x, since a rule with such a head is generating for none of them, and every atom of an answer set has a generating rule. So all that are
 -- alike x are above it.
 use mathlib.Core.Path.{_≡_, sym, _∙_, ap}

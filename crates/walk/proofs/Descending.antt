@@ -1,4 +1,4 @@
--- The way down to a reading (specs/Levels; ticket 8, V7), level by level as in Events: it ends at the colouring that the walk met, so the
+-- The way down to a reading (specs/Levels; request 8, V7), level by level as in Events: it ends at the colouring that the walk met, so the
 -- levels told of the k-th reading are those of its colouring. And what the code of src/levels.rt keeps to on its way.
 use mathlib.Core.Path.{_≡_, refl, sym, _∙_, ap}
 use mathlib.Core.Logic.{⊎-elim}

@@ -1,4 +1,4 @@
--- What the walk from a larger colouring costs (ticket 3, H4): no more tries than the walk from a smaller one, in all, and up to any answer
+-- What the walk from a larger colouring costs (request 3, H4): no more tries than the walk from a smaller one, in all, and up to any answer
 -- set that stands above both. By induction over the smaller one's walk: where it forks on r, the larger one ends, or forks on r too, or
 -- has a colour for r and is within one side. So the search for the first reading alike x makes no more closings than the fixed walk has
 -- tries up to x.

@@ -1,4 +1,4 @@
--- How the first reading alike x is found (ticket 3, H2 and H3). The readings alike x of the walk from the colouring that avoids what x
+-- How the first reading alike x is found (request 3, H2 and H3). The readings alike x of the walk from the colouring that avoids what x
 -- does not show, and those of the whole walk, are the same sets in the same order, so the same list, and the first of both is the same.
 -- On the way down a pair may be left when a shown atom of x has all its rules off; one that is not left and has a colour for every rule
 -- is alike x.

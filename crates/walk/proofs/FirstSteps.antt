@@ -1,4 +1,4 @@
--- The search for the first reading alike x, closing by closing (ticket 3, H3): what it may answer after one closing. A pair may be left
+-- The search for the first reading alike x, closing by closing (request 3, H3): what it may answer after one closing. A pair may be left
 -- when it has a contradiction, or when a shown atom of x has all its rules off: no answer set above it holds that atom. A pair that was
 -- not left and has a colour for every rule stands for a set alike x: a shown atom outside x has only off rules, and a shown atom of x has
 -- a rule that is not off, so on. Else the search goes both ways, first with the rule on.

@@ -1,4 +1,4 @@
--- Levels along the walk (specs/Levels; ticket 8, V1 to V6): a closed colouring of the walk has as many levels as choices above it, and no
+-- Levels along the walk (specs/Levels; request 8, V1 to V6): a closed colouring of the walk has as many levels as choices above it, and no
 -- rule's level is above that; without the rules above a level it is the closed colouring at that level again, which stands above it on the
 -- walk; and what has level 0 is so in every answer set's colouring. The idea: a closing stamps just the rules that it colours, so what
 -- was coloured above keeps its level, and what was not gets one that is higher.

@@ -1,4 +1,4 @@
--- The readings that count where only some atoms are shown (demand 2, ticket 3): they are the answer sets with no alike one before them, so
+-- The readings that count where only some atoms are shown (demand 2, request 3): they are the answer sets with no alike one before them, so
 -- the one list that AllShown describes. The idea: of a list in the order of readings, a member is dropped exactly if an earlier one is
 -- alike it, and earlier means before.
 use mathlib.Core.Path.{_≡_, refl, sym, _∙_, ap, subst, fun-ext}

@@ -1,4 +1,4 @@
--- What a call of find_shown answers, and what its buffer holds afterwards. Document 02, ticket 3: "A call may lend a strictly ascending list
+-- What a call of find_shown answers, and what its buffer holds afterwards. Document 02, request 3: "A call may lend a strictly ascending list
 -- of shown atoms"; "Refusals: 16, no place, list out of range or out of order, after 15 and before 8."
 --
 --   goodList n l     the bytes of the list ascend strictly, and each is below n

@@ -1,4 +1,4 @@
--- Levels along the walk, and what a call of levels answers. Document 02, ticket 8: "for each coloured rule, the level at which it got its
+-- Levels along the walk, and what a call of levels answers. Document 02, request 8: "for each coloured rule, the level at which it got its
 -- colour: 0 for the first closing, then one more for each choice above it; a chosen rule has the level of its choice."
 --
 --   Node b n d       d is a closed colouring of the walk, with n choices above it

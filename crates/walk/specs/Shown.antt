@@ -1,5 +1,5 @@
 -- Readings that only differ in atoms that are not shown. A caller names the shown atoms; of readings that match on them only the first
--- counts. Ticket 3: "that no earlier one matches on the shown atoms".
+-- counts. Request 3: "that no earlier one matches on the shown atoms".
 --
 --   alike s x y          x and y match on the atoms of the list s
 --   shownAfter b s before es   the events es with each reading that is alike one of the sets `before`, or an earlier reading of es, turned
