@@ -1,5 +1,6 @@
 // examples(files): the files of examples/, as { name: text }, books and papers in hexadecimal. The examples in the page are those files; each
-// paper has the steps that its .steps say, and is accepted; each rule reads as in its .words, with names and without.
+// paper has the steps that its .steps say, and is accepted; each rule reads as in its .words, with names and without, but for a book that was
+// made of a grounder's .text and has no words.
 const [files] = arguments;
 const wrong = [];
 const same = (what, due, came) => { if (due !== came) wrong.push(`${what}: "${String(due).slice(0, 200)}" is due, "${String(came).slice(0, 200)}" came`); };
@@ -36,7 +37,8 @@ for (const name of Object.keys(files).filter(name => name.endsWith(".paper"))) {
   same(name, due.join("\n"), found.witness ? stepLines(found).join("\n") : page.tell(found.told));
   same(`${name}, told`, due[due.length - 1].replace("claim", "certain"), page.answer(found.told));
 }
-for (const name of Object.keys(files).filter(name => name.endsWith(".book"))) {
+const isImported = name => files[name.replace(".book", ".text")] !== undefined;
+for (const name of Object.keys(files).filter(name => name.endsWith(".book") && !isImported(name))) {
   const book = page.readBook(bytesOf(name));
   const { names } = page.readNames(new TextEncoder().encode(files[name.replace(".book", ".names")]), book.A);
   const words = lines(files[name.replace(".book", ".words")]);
