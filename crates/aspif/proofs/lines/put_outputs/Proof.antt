@@ -20,13 +20,14 @@ loop-holds c = (omega arith, rw sub-zero (onward-start _ _ _ (c .before .pre)))
 
 put-output-requires : tie.Need-put-output-requires Inv-loop μ-loop
 put-output-requires c κs =
-    let k = c .before .before .before in
-    (outputs-room _ _ _ _ (k .loop .n) (k .loop .inv .1) (omega arith) (c .before .wide .ensures .0), omega (arith, c .before .wide .ensures .1))
+    let turn = c .before .before .before in
+    (outputs-room _ _ _ _ (turn .loop .n) (turn .loop .inv .1) (omega arith) (c .before .wide .ensures .0), omega (arith, c .before .wide .ensures .1))
 
 loop-again : tie.Need-loop-again Inv-loop μ-loop
 loop-again c =
-    let k = c .before .before .before .before .before .before in
-    (search needs, outputs-more _ _ _ _ (k .loop .n) (k .loop .inv .1) (omega arith) (c .before .before .before .before .wide .ensures .0) (c .before .before .put-output .ensures))
+    let after-wide = c .before .before .before .before in
+    let turn = c .before .before .before .before .before .before in
+    (search needs, outputs-more _ _ _ _ (turn .loop .n) (turn .loop .inv .1) (omega arith) (after-wide .wide .ensures .0) (c .before .before .put-output .ensures))
 
 same-length : tie.Need-same-length Inv-loop μ-loop
 same-length c = c .before .loop .inv .1 .long

@@ -23,12 +23,14 @@ loop-holds c = (omega arith, onward-start _ _ _ (search needs))
 
 put-item-requires : tie.Need-put-item-requires Inv-loop μ-loop
 put-item-requires c κs =
-    let k = c .before .before .before .before in part-room _ _ _ _ _ (k .loop .i) (k .loop .inv .1) (omega arith) (c .before .wide .ensures .0)
+    let turn = c .before .before .before .before in
+    part-room _ _ _ _ _ (turn .loop .i) (turn .loop .inv .1) (omega arith) (c .before .wide .ensures .0)
 
 loop-again : tie.Need-loop-again Inv-loop μ-loop
 loop-again c =
-    let k = c .before .before .before .before .before .before .before in
-    (search needs, part-more _ _ _ _ _ (k .loop .i) (k .loop .inv .1) (omega arith) (c .before .before .before .before .wide .ensures .0) (c .before .before .put-item .ensures))
+    let after-wide = c .before .before .before .before in
+    let turn = c .before .before .before .before .before .before .before in
+    (search needs, part-more _ _ _ _ _ (turn .loop .i) (turn .loop .inv .1) (omega arith) (after-wide .wide .ensures .0) (c .before .before .put-item .ensures))
 
 same-length : tie.Need-same-length Inv-loop μ-loop
 same-length c = c .before .loop .inv .1 .long

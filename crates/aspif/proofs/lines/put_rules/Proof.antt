@@ -22,23 +22,26 @@ loop-holds c = (omega arith, onward-start _ _ _ (c .before .before .pre .1))
 
 put-rule-requires : tie.Need-put-rule-requires Inv-loop μ-loop
 put-rule-requires c κs =
-    let k = c .before .before .before in (
-      c .before .before .before .before .before .before .pre .0,
+    let turn = c .before .before .before in
+    let start = c .before .before .before .before .before .before in (
+      start .pre .0,
       omega arith,
-      lines-room _ _ _ _ (k .loop .r) (k .loop .inv .1) (in-book _ _ (c .before .before .before .before .before .before .pre .0) (omega arith)),
+      lines-room _ _ _ _ (turn .loop .r) (turn .loop .inv .1) (in-book _ _ (start .pre .0) (omega arith)),
     )
 
 loop-again : tie.Need-loop-again Inv-loop μ-loop
 loop-again c =
-    let k = c .before .before .before .before .before .before in
-    (search needs, lines-more _ _ _ _ (k .loop .r) (k .loop .inv .1) (in-book _ _ (c .before .before .before .before .before .before .before .before .before .pre .0) (omega arith)) (c .before .before .put-rule .ensures))
+    let turn = c .before .before .before .before .before .before in
+    let start = c .before .before .before .before .before .before .before .before .before in
+    (search needs, lines-more _ _ _ _ (turn .loop .r) (turn .loop .inv .1) (in-book _ _ (start .pre .0) (omega arith)) (c .before .before .put-rule .ensures))
 
 same-length : tie.Need-same-length Inv-loop μ-loop
 same-length c = c .before .before .loop .inv .1 .long
 
 returns : tie.Need-returns Inv-loop μ-loop
 returns c =
-    let k = c .before .before in lines-done (bookIn (c .before .before .before .before .before .args .book .now)) _ _ _ (k .loop .r) (k .loop .inv .1) (past-book _ _ (c .before .before .before .before .before .pre .0) (omega arith))
+    let start = c .before .before .before .before .before in
+    lines-done (bookIn (start .args .book .now)) _ _ _ (c .before .before .loop .r) (c .before .before .loop .inv .1) (past-book _ _ (start .pre .0) (omega arith))
 
 pub put-rules-spec : {M : Type 1} → statement M
 put-rules-spec = tie.close (tie.spec Inv-loop μ-loop loop-holds put-rule-requires (λ c. search needs) (λ c. search needs) loop-again same-length returns)

@@ -24,24 +24,35 @@ read-item-requires : tie.Need-read-item-requires Inv-loop μ-loop
 read-item-requires c κs = c .loop .inv .inside
 
 returns : tie.Need-returns Inv-loop μ-loop
-returns c = gathers-end _ _ _ (c .before .before .before .loop .inv) _ (c .before .before .read-item .ensures .0) (c .enum-told .given .1)
+returns c =
+    let turn = c .before .before .before in
+    gathers-end _ _ _ (turn .loop .inv) _ (c .before .before .read-item .ensures .0) (c .enum-told .given .1)
 
 keep-atom-requires : tie.Need-keep-atom-requires Inv-loop μ-loop
 keep-atom-requires c κs =
-    let r = c .before .before .before .before in
-    omega (arith, item-above _ _ _ (c .before .before .before .before .before .loop .inv) _ (r .read-item .ensures .0) (c .before .before .value .given .1) (r .read-item .ensures .1))
+    let after-read-item = c .before .before .before .before in
+    let turn = c .before .before .before .before .before in
+    omega (arith, item-above _ _ _ (turn .loop .inv) _ (after-read-item .read-item .ensures .0) (c .before .before .value .given .1) (after-read-item .read-item .ensures .1))
 
 add-count : tie.Need-add-count Inv-loop μ-loop
-add-count c = omega (arith, c .before .before .before .before .before .before .loop .inv .ahead, c .before .before .before .before .before .before .loop .inv .inside, behind (c .before .before .before .before .before .read-item .ensures .1) (c .before .before .before .value .given .1))
+add-count c =
+    let matched = c .before .before .before in
+    let after-read-item = c .before .before .before .before .before in
+    let turn = c .before .before .before .before .before .before in
+    omega (arith, turn .loop .inv .ahead, turn .loop .inv .inside, behind (after-read-item .read-item .ensures .1) (matched .value .given .1))
 
 loop-less : tie.Need-loop-less Inv-loop μ-loop
 loop-less c =
-    let (p, q, r) = behind (c .before .before .before .before .before .read-item .ensures .1) (c .before .before .before .value .given .1) in omega arith
+    let matched = c .before .before .before in
+    let after-read-item = c .before .before .before .before .before in
+    let (p, q, r) = behind (after-read-item .read-item .ensures .1) (matched .value .given .1) in omega arith
 
 loop-again : tie.Need-loop-again Inv-loop μ-loop
 loop-again c =
-    let r = c .before .before .before .before .before in
-    gathers-more _ _ _ (c .before .before .before .before .before .before .loop .inv) _ (r .read-item .ensures .0) (c .before .before .before .value .given .1) (r .read-item .ensures .1) (c .keep-atom .ensures)
+    let matched = c .before .before .before in
+    let after-read-item = c .before .before .before .before .before in
+    let turn = c .before .before .before .before .before .before in
+    gathers-more _ _ _ (turn .loop .inv) _ (after-read-item .read-item .ensures .0) (matched .value .given .1) (after-read-item .read-item .ensures .1) (c .keep-atom .ensures)
 
 pub read-part-spec : {M : Type 1} → statement M
 read-part-spec = tie.close (tie.spec Inv-loop μ-loop loop-holds add-read-item read-item-requires (λ c. search needs) (λ c. search needs) returns keep-atom-requires add-count loop-less loop-again)

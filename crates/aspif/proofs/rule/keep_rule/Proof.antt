@@ -17,8 +17,11 @@ returns-3 : tie.Need-returns-3
 returns-3 c = λ p q a h d k. rw (c .passed3 .ensures) (adds-passed _ _ _ (over-head _ p q (omega arith)))
 
 returns-4 : tie.Need-returns-4
-returns-4 c = λ p q a h d k.
-    rw (rule-kept _ p q (not-false _ (c .before .before .before .before .if1 .left)) (not-false _ (c .before .before .before .if2 .left)) a h d k) at (c .add-rule .ensures)
+returns-4 c =
+    let tested-2 = c .before .before .before in
+    let tested = c .before .before .before .before in
+    λ p q a h d k.
+    rw (rule-kept _ p q (not-false _ (tested .if1 .left)) (not-false _ (tested-2 .if2 .left)) a h d k) at (c .add-rule .ensures)
 
 pub keep-rule-spec : {M : Type 1} → statement M
 keep-rule-spec = tie.close (tie.spec (λ c κs. search needs) returns (λ c κs. search needs) returns-2 (λ c κs. search needs) returns-3 (λ c. search needs) (λ c. search needs) (λ c κs. search needs) returns-4)

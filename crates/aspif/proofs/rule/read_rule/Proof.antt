@@ -10,22 +10,34 @@ returns : tie.Need-returns
 returns c = rule-no-head _ _ _ _ _ (c .before .before .read-item .ensures .0) (c .enum-told .given .1)
 
 read-item-requires-2 : tie.Need-read-item-requires-2
-read-item-requires-2 c κs = let (p, q, r) = behind (c .before .before .before .before .read-item .ensures .1) (c .before .before .head .given .1) in r
+read-item-requires-2 c κs =
+    let after-read-item = c .before .before .before .before in
+    let (p, q, r) = behind (after-read-item .read-item .ensures .1) (c .before .before .head .given .1) in r
 
 returns-2 : tie.Need-returns-2
 returns-2 c =
-    rule-no-count _ _ _ _ _ (c .before .before .before .before .before .before .before .read-item .ensures .0) (c .before .before .before .before .before .head .given .1) _ (c .before .before .read-item2 .ensures .0) (c .enum-told2 .given .1)
+    let matched = c .before .before .before .before .before in
+    let after-read-item = c .before .before .before .before .before .before .before in
+    rule-no-count _ _ _ _ _ (after-read-item .read-item .ensures .0) (matched .head .given .1) _ (c .before .before .read-item2 .ensures .0) (c .enum-told2 .given .1)
 
 read-body-requires : tie.Need-read-body-requires
 read-body-requires c κs =
-    let (p, q, r) = behind (c .before .before .before .before .read-item2 .ensures .1) (c .before .before .count .given .1) in
-    (r, head-above (c .before .before .before .before .before .before .before .before .before .before .before .before .args .text .now) (c .before .before .before .before .before .before .before .before .before .before .before .before .args .at) (c .before .before .before .before .before .before .before .before .before .before .before .before .args .m) (c .before .before .before .before .before .before .before .before .before .before .before .before .args .draft .now) _ (c .before .before .before .before .before .before .before .before .before .read-item .ensures .0) (c .before .before .before .before .before .before .before .head .given .1))
+    let after-read-item2 = c .before .before .before .before in
+    let matched = c .before .before .before .before .before .before .before in
+    let after-read-item = c .before .before .before .before .before .before .before .before .before in
+    let start = c .before .before .before .before .before .before .before .before .before .before .before .before in
+    let (p, q, r) = behind (after-read-item2 .read-item2 .ensures .1) (c .before .before .count .given .1) in
+    (r, head-above (start .args .text .now) (start .args .at) (start .args .m) (start .args .draft .now) _ (after-read-item .read-item .ensures .0) (matched .head .given .1))
 
 returns-3 : tie.Need-returns-3
 returns-3 c =
-    let (p, q, r) = behind (c .before .before .before .before .before .read-item2 .ensures .1) (c .before .before .before .count .given .1) in
-    let (i, j, k) = behind (c .before .before .before .before .before .before .before .before .before .before .read-item .ensures .1) (c .before .before .before .before .before .before .before .before .head .given .1) in
-    rule-lined _ _ _ _ _ (c .before .before .before .before .before .before .before .before .before .before .read-item .ensures .0) (c .before .before .before .before .before .before .before .before .head .given .1) _ (c .before .before .before .before .before .read-item2 .ensures .0) (c .before .before .before .count .given .1)
+    let matched = c .before .before .before in
+    let after-read-item2 = c .before .before .before .before .before in
+    let matched-2 = c .before .before .before .before .before .before .before .before in
+    let after-read-item = c .before .before .before .before .before .before .before .before .before .before in
+    let (p, q, r) = behind (after-read-item2 .read-item2 .ensures .1) (matched .count .given .1) in
+    let (i, j, k) = behind (after-read-item .read-item .ensures .1) (matched-2 .head .given .1) in
+    rule-lined _ _ _ _ _ (after-read-item .read-item .ensures .0) (matched-2 .head .given .1) _ (after-read-item2 .read-item2 .ensures .0) (matched .count .given .1)
     (omega arith) (c .read-body .ensures)
 
 pub read-rule-spec : {M : Type 1} → statement M

@@ -20,13 +20,21 @@ read-rule-requires : tie.Need-read-rule-requires Inv-loop μ-loop
 read-rule-requires c κs = c .before .loop .inv .inside
 
 returns : tie.Need-returns Inv-loop μ-loop
-returns c = lines-end _ _ (c .before .before .before .before .loop .inv) (c .before .before .read-rule .ensures) (c .enum-told .given .1)
+returns c =
+    let turn = c .before .before .before .before in
+    lines-end _ _ (turn .loop .inv) (c .before .before .read-rule .ensures) (c .enum-told .given .1)
 
 loop-less : tie.Need-loop-less Inv-loop μ-loop
-loop-less c = let (h, k) = lines-behind _ _ (c .before .before .before .before .before .before .loop .inv) (c .before .before .before .before .read-rule .ensures) (c .before .before .made .given .1) in omega arith
+loop-less c =
+    let after-read-rule = c .before .before .before .before in
+    let turn = c .before .before .before .before .before .before in
+    let (h, k) = lines-behind _ _ (turn .loop .inv) (after-read-rule .read-rule .ensures) (c .before .before .made .given .1) in omega arith
 
 loop-again : tie.Need-loop-again Inv-loop μ-loop
-loop-again c = lines-more _ _ (c .before .before .before .before .before .before .loop .inv) (c .before .before .before .before .read-rule .ensures) (c .before .before .made .given .1) (c .larger .ensures)
+loop-again c =
+    let after-read-rule = c .before .before .before .before in
+    let turn = c .before .before .before .before .before .before in
+    lines-more _ _ (turn .loop .inv) (after-read-rule .read-rule .ensures) (c .before .before .made .given .1) (c .larger .ensures)
 
 pub read-rules-spec : {M : Type 1} → statement M
 read-rules-spec = tie.close (tie.spec Inv-loop μ-loop (λ c κs. search needs) loop-holds read-rule-requires (λ c. search needs) (λ c. search needs) returns (λ c κs. search needs) loop-less loop-again)

@@ -18,36 +18,39 @@ abbrev μ-loop : tie.MeasureT-loop
 
 returns : tie.Need-returns Inv-loop μ-loop
 returns c =
-    let k = c .before .before .before in
-    (omega (arith, k .loop .inv .1, digits-turn (k .before .args .text .now) (k .loop .end) (omega arith) ∙ lt-yes _ _ _ _ (omega arith)), k .loop .inv .0)
+    let turn = c .before .before .before in
+    let start = c .before .before .before .before in
+    (omega (arith, turn .loop .inv .1, digits-turn (start .args .text .now) (turn .loop .end) (omega arith) ∙ lt-yes _ _ _ _ (omega arith)), turn .loop .inv .0)
 
 returns-2 : tie.Need-returns-2 Inv-loop μ-loop
 returns-2 c =
-    let k = c .before .before .before .before .before in (
+    let turn = c .before .before .before .before .before in
+    let start = c .before .before .before .before .before .before in (
       omega (
         arith,
-        k .loop .inv .1,
-        digits-turn (k .before .args .text .now) (k .loop .end) (omega arith) ∙ lt-no _ _ _ _ (omega arith)
+        turn .loop .inv .1,
+        digits-turn (start .args .text .now) (turn .loop .end) (omega arith) ∙ lt-no _ _ _ _ (omega arith)
             ∙ lt-yes _ _ _ _ (omega arith),
       ),
-      k .loop .inv .0,
+      turn .loop .inv .0,
     )
 
 loop-again : tie.Need-loop-again Inv-loop μ-loop
 loop-again c =
-    let k = c .before .before .before .before .before in (
+    let turn = c .before .before .before .before .before in
+    let start = c .before .before .before .before .before .before in (
       search needs,
       omega (
         arith,
-        k .loop .inv .1,
-        digits-turn (k .before .args .text .now) (k .loop .end) (omega arith)
+        turn .loop .inv .1,
+        digits-turn (start .args .text .now) (turn .loop .end) (omega arith)
             ∙ lt-no _ _ _ _ (omega arith) ∙ lt-no _ _ _ _ (omega arith),
       ),
     )
 
 returns-3 : tie.Need-returns-3 Inv-loop μ-loop
 returns-3 c =
-    let k = c .before in (omega (arith, k .loop .inv .1, digits-none (k .before .args .text .now) (k .loop .end) (omega arith)), k .loop .inv .0)
+    (omega (arith, c .before .loop .inv .1, digits-none (c .before .before .args .text .now) (c .before .loop .end) (omega arith)), c .before .loop .inv .0)
 
 pub digits-end-spec : {M : Type 1} → statement M
 digits-end-spec =

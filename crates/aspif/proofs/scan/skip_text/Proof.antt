@@ -25,25 +25,27 @@ loop-holds c = (omega arith, omega arith, rw add-zero)
 returns : tie.Need-returns Inv-loop μ-loop
 unfolding went
 returns c =
-    let k = c .before .before in
-    (sym (k .loop .inv .2 ∙ skip-short _ _ (k .loop .i) (k .before .args .at + k .loop .i) (omega arith) (omega arith)), nowhere)
+    let start = c .before .before .before in
+    (sym (c .before .before .loop .inv .2 ∙ skip-short _ _ (c .before .before .loop .i) (start .args .at + c .before .before .loop .i) (omega arith) (omega arith)), nowhere)
 
 returns-2 : tie.Need-returns-2 Inv-loop μ-loop
 unfolding went
 returns-2 c =
-    let k = c .before .before .before .before .before in
-    (sym (k .loop .inv .2 ∙ skip-turn _ _ (k .loop .i) (k .before .args .at + k .loop .i) (omega arith) (omega arith) ∙ eq-no _ _ _ _ (c .if2 .taken)), nowhere)
+    let turn = c .before .before .before .before .before in
+    let start = c .before .before .before .before .before .before in
+    (sym (turn .loop .inv .2 ∙ skip-turn _ _ (turn .loop .i) (start .args .at + turn .loop .i) (omega arith) (omega arith) ∙ eq-no _ _ _ _ (c .if2 .taken)), nowhere)
 
 loop-again : tie.Need-loop-again Inv-loop μ-loop
 loop-again c =
-    let k = c .before .before .before .before .before in
-    let e : k .before .args .at + (k .loop .i + 1) ≡ k .before .args .at + k .loop .i + 1 = omega arith in
-    (search needs, omega arith, rw e (k .loop .inv .2 ∙ skip-turn _ _ (k .loop .i) (k .before .args .at + k .loop .i) (omega arith) (omega arith) ∙ eq-yes _ _ _ _ (c .if2 .left)))
+    let turn = c .before .before .before .before .before in
+    let start = c .before .before .before .before .before .before in
+    let e : start .args .at + (turn .loop .i + 1) ≡ start .args .at + turn .loop .i + 1 = omega arith in
+    (search needs, omega arith, rw e (turn .loop .inv .2 ∙ skip-turn _ _ (turn .loop .i) (start .args .at + turn .loop .i) (omega arith) (omega arith) ∙ eq-yes _ _ _ _ (c .if2 .left)))
 
 returns-3 : tie.Need-returns-3 Inv-loop μ-loop
 unfolding went
 returns-3 c =
-    let k = c .before in (sym (k .loop .inv .2 ∙ skip-end _ _ (k .loop .i) (k .before .args .at + k .loop .i) (omega arith)), reached {n = k .before .args .at + k .loop .i} (omega arith) (k .loop .inv .1))
+    (sym (c .before .loop .inv .2 ∙ skip-end _ _ (c .before .loop .i) (c .before .before .args .at + c .before .loop .i) (omega arith)), reached {n = c .before .before .args .at + c .before .loop .i} (omega arith) (c .before .loop .inv .1))
 
 pub skip-text-spec : {M : Type 1} → statement M
 skip-text-spec =
