@@ -18,12 +18,12 @@ use Rattle.imported.specs.Text.{sameText}
 use Rattle.imported.specs.Making.{ruleAtoms, rulesAtoms, mentioned, addNew, distinctFrom}
 use Rattle.imported.specs.declared.TextAtom.{TextAtom}
 use Rattle.lparse.specs.declared.due.Role.{Role}
-use Rattle.lparse.specs.declared.due.Role.the-variants.{Kind, Head, Literals, Negatives, Negative, Positive, Table, Plus, Minus, Models}
+use Rattle.lparse.specs.declared.due.Role.the-variants.{Kind, Head, HeadCount, Heads, Literals, Negatives, Negative, Positive, Table, Plus, Minus, Models}
 use Rattle.lparse.specs.declared.due.Due.{Due}
 use Rattle.lparse.specs.declared.due.Due.the-variants.{Number, Name, PlusWord, MinusWord, End}
-use Rattle.lparse.specs.declared.due.Standing.the-variants.{Head as InHead, Negative as InNegative, Positive as InPositive, Table as InTable, Plus as InPlus, Minus as InMinus}
+use Rattle.lparse.specs.declared.due.Standing.the-variants.{Head as InHead, Free as InFree, Negative as InNegative, Positive as InPositive, Table as InTable, Plus as InPlus, Minus as InMinus}
 use Rattle.lparse.specs.declared.due.Said.{Said}
-use Rattle.lparse.specs.declared.due.Said.the-variants.{Nothing as Silent, Atom}
+use Rattle.lparse.specs.declared.due.Said.the-variants.{Nothing as Silent, Choice as Chooses, Atom}
 use Rattle.lparse.specs.declared.due.Move.{Move}
 use Rattle.lparse.specs.declared.due.Move.the-variants.{Goes, Format, Kind as OtherKind}
 use Rattle.lparse.specs.Words.{Word, wordAt, wordsAt}
@@ -31,11 +31,11 @@ use Rattle.decimal.specs.declared.Digits.{Digits}
 use Rattle.decimal.specs.declared.Digits.the-variants.{Value, Nothing}
 use Rattle.lparse.specs.declared.step.Step.{Step}
 use Rattle.lparse.specs.declared.step.Step.the-variants.{Goes as Takes, Format as WrongFormat, Kind as WrongKind, Done}
-use Rattle.lparse.specs.Reading.{textAtom, onKind, onAtom, onListed, onNegatives, onNumber, numberIn, onValue, signed, onSign, moveOf, stepAt, Part, with, withAtom, Heard, says, wrong, adding, heardAt}
+use Rattle.lparse.specs.Reading.{textAtom, onKind, onAtom, onListed, onHeadCount, onNegatives, onNumber, numberIn, onValue, signed, onSign, moveOf, stepAt, Part, with, withAtom, withChoice, Heard, says, wrong, adding, heardAt}
 use Rattle.lparse.specs.Collect.{textIn, textOf, numbersOf, collected, collectHeard, collectOf, Stands, whole, passed, Notes, atomsSaid}
 use Rattle.lparse.proofs.Reading.{byStep, heard-step, took-move}
 use Rattle.lparse.proofs.Spelled.{nothing}
-use Rattle.lparse.proofs.Phases.{NoRule, NoTable, NoPlus, Fits, FitsRole, body-open, heard-fits}
+use Rattle.lparse.proofs.Phases.{Open, NoRule, NoTable, NoPlus, Fits, FitsRole, body-open, heard-fits}
 
 -- ---- one atom in the array
 
@@ -154,7 +154,7 @@ module _ (seen : List ℕ) {l : List TextAtom} {n : ℕ} {found : List ℕ} wher
 
 -- the atoms that the rest of a text says, in its order
 unfoldable pub atomsOf : Part → List TextAtom
-atomsOf p = p .neg ++ (p .pos ++ mentioned (textOf p))
+atomsOf p = p .heads ++ (p .neg ++ (p .pos ++ mentioned (textOf p)))
 
 unfoldable pub gathered : List TextAtom → Heard → List ℕ → Answered ℕ
 gathered l (says p) seen = collected (distinctFrom l (atomsOf p)) seen
@@ -162,34 +162,47 @@ gathered l (wrong i at) seen = record { told = refusedAt i at; buffer = seen }
 
 -- one word more in front says its atom before all others, where what fits behind it lets it
 module _ (w : Word) (a : TextAtom) (p : Part) where
-  head-first : atomsOf (withAtom w a InHead p) ≡ a ∷ atomsOf p
+  head-joined : atomsOf (withAtom w a InHead p) ≡ a ∷ (p .neg ++ (p .pos ++ mentioned (textOf p)))
   unfolding atomsOf withAtom mentioned rulesAtoms ruleAtoms
-  head-first = ap (λ l. a ∷ l) (simp append-assoc)
+  head-joined = ap (λ l. a ∷ l) (simp append-assoc)
 
-  negative-first : atomsOf (withAtom w a InNegative p) ≡ a ∷ atomsOf p
+  head-first : p .heads ≡ [] → atomsOf (withAtom w a InHead p) ≡ a ∷ atomsOf p
+  unfolding atomsOf
+  head-first e = head-joined ∙ ap (λ l. a ∷ (l ++ (p .neg ++ (p .pos ++ mentioned (textOf p))))) (sym e)
+
+  free-first : atomsOf (withAtom w a InFree p) ≡ a ∷ atomsOf p
   unfolding atomsOf withAtom
-  negative-first = refl
+  free-first = refl
 
-  positive-first : length (p .neg) ≡ 0 → atomsOf (withAtom w a InPositive p) ≡ a ∷ atomsOf p
+  negative-first : p .heads ≡ [] → atomsOf (withAtom w a InNegative p) ≡ a ∷ atomsOf p
   unfolding atomsOf withAtom
-  positive-first e = rw (nothing (p .neg) e)
+  negative-first e = rw e
 
-  table-first : NoRule (p .neg) (p .pos) (p .rules) → atomsOf (withAtom w a InTable p) ≡ a ∷ atomsOf p
+  positive-first : {n : ℕ} → Open 0 n (p .heads) (p .neg) (p .pos) → atomsOf (withAtom w a InPositive p) ≡ a ∷ atomsOf p
+  unfolding atomsOf withAtom
+  positive-first o = rw (o .no-head, nothing (p .neg) (o .negatives))
+
+  table-first : NoRule (p .heads) (p .neg) (p .pos) (p .rules) → atomsOf (withAtom w a InTable p) ≡ a ∷ atomsOf p
   unfolding atomsOf withAtom mentioned rulesAtoms
-  table-first f = rw (nothing (p .neg) (f .shut .negatives), nothing (p .pos) (f .shut .positives), f .no-rule)
+  table-first f = rw (f .shut .no-head, nothing (p .neg) (f .shut .negatives), nothing (p .pos) (f .shut .positives), f .no-rule)
 
-  plus-first : NoTable (p .neg) (p .pos) (p .rules) (p .table) → atomsOf (withAtom w a InPlus p) ≡ a ∷ atomsOf p
+  plus-first : NoTable (p .heads) (p .neg) (p .pos) (p .rules) (p .table) → atomsOf (withAtom w a InPlus p) ≡ a ∷ atomsOf p
   unfolding atomsOf withAtom mentioned rulesAtoms
   plus-first f =
       let g = f .behind-rules in
-      rw (nothing (p .neg) (g .shut .negatives), nothing (p .pos) (g .shut .positives), g .no-rule, f .no-entry)
+      rw (g .shut .no-head, nothing (p .neg) (g .shut .negatives), nothing (p .pos) (g .shut .positives), g .no-rule, f .no-entry)
 
-  minus-first : NoPlus (p .neg) (p .pos) (p .rules) (p .table) (p .plus) → atomsOf (withAtom w a InMinus p) ≡ a ∷ atomsOf p
+  minus-first : NoPlus (p .heads) (p .neg) (p .pos) (p .rules) (p .table) (p .plus) → atomsOf (withAtom w a InMinus p) ≡ a ∷ atomsOf p
   unfolding atomsOf withAtom mentioned rulesAtoms
   minus-first f =
       let h = f .behind-table in
       let g = h .behind-rules in
-      rw (nothing (p .neg) (g .shut .negatives), nothing (p .pos) (g .shut .positives), g .no-rule, h .no-entry, f .no-plus)
+      rw (g .shut .no-head, nothing (p .neg) (g .shut .negatives), nothing (p .pos) (g .shut .positives), g .no-rule, h .no-entry, f .no-plus)
+
+-- a choice says no atom: its heads are said behind it
+choice-first : (p : Part) → atomsOf (withChoice p) ≡ atomsOf p
+unfolding atomsOf withChoice mentioned rulesAtoms ruleAtoms
+choice-first p = simp append-assoc
 
 -- so for every move
 unfoldable pub First : Word → Move → Type 0
@@ -199,15 +212,18 @@ First w OtherKind = Unit {0}
 
 module _ (w : Word) where
   first-number : (role : Role) (n : ℕ) → First w (onNumber role n)
-  unfolding First Fits FitsRole onNumber onKind onAtom onListed onNegatives with atomsSaid
+  unfolding First Fits FitsRole onNumber onKind onAtom onListed onHeadCount onNegatives with atomsSaid
   first-number Kind n =
-      eq-either (First w) n 0 _ _ (λ e p f. refl) (λ e. eq-either (First w) n 1 _ _ (λ g p f. refl) (λ g. tt))
-  first-number Head n = eq-either (First w) n 0 _ _ (λ e. tt) (λ e p f. head-first w (textAtom n) p)
+      eq-either (First w) n 0 _ _ (λ e p f. refl) (λ e. eq-either (First w) n 1 _ _ (λ g p f. refl)
+      (λ g. eq-either (First w) n 3 _ _ (λ i p f. choice-first p) (λ i. tt)))
+  first-number Head n = eq-either (First w) n 0 _ _ (λ e. tt) (λ e p f. head-first w (textAtom n) p f)
+  first-number HeadCount n = eq-either (First w) n 0 _ _ (λ e. tt) (λ e p f. refl)
+  first-number (Heads m) n = eq-either (First w) n 0 _ _ (λ e. tt) (λ e p f. free-first w (textAtom n) p)
   first-number Literals n = λ p f. refl
   first-number (Negatives l) n = lt-either (First w) l n _ _ (λ h. tt) (λ h p f. refl)
-  first-number (Negative m q) n = eq-either (First w) n 0 _ _ (λ e. tt) (λ e p f. negative-first w (textAtom n) p)
+  first-number (Negative m q) n = eq-either (First w) n 0 _ _ (λ e. tt) (λ e p f. negative-first w (textAtom n) p (body-open m q p f .no-head))
   first-number (Positive q) n =
-      eq-either (First w) n 0 _ _ (λ e. tt) (λ e p f. positive-first w (textAtom n) p (body-open 0 q p f .negatives))
+      eq-either (First w) n 0 _ _ (λ e. tt) (λ e p f. positive-first w (textAtom n) p (body-open 0 q p f))
   first-number Table n = eq-either (First w) n 0 _ _ (λ e p f. refl) (λ e p f. refl)
   first-number Plus n = eq-either (First w) n 0 _ _ (λ e p f. refl) (λ e p f. plus-first w (textAtom n) p f)
   first-number Minus n = eq-either (First w) n 0 _ _ (λ e p f. refl) (λ e p f. minus-first w (textAtom n) p f)
@@ -235,7 +251,7 @@ heard-at-fits s at due p e = heard-fits (length s) due (wordsAt s at) p e
 -- at a rule's start nothing is open
 pub rest-atoms : (p : Part) → Fits (Number Kind) p → atomsOf p ≡ mentioned (textOf p)
 unfolding atomsOf Fits FitsRole
-rest-atoms p f = rw (nothing (p .neg) (f .negatives), nothing (p .pos) (f .positives))
+rest-atoms p f = rw (f .no-head, nothing (p .neg) (f .negatives), nothing (p .pos) (f .positives))
 
 pub gather-start : (s seen : List ℕ) → collectOf s seen ≡ gathered [] (textIn s) seen
 unfolding collectOf collectHeard gathered
@@ -251,8 +267,10 @@ turn-said : (seen : List ℕ) (l : List TextAtom) (w : Word) (next : Due) (said 
     → gathered l (adding w said h) seen ≡ gathered (distinctFrom l (atomsSaid said)) h seen
 unfolding First gathered adding atomsSaid distinctFrom
 turn-said seen l w next Silent (says p) f fits = ap (λ k. collected (distinctFrom l k) seen) (f p (fits p refl))
+turn-said seen l w next Chooses (says p) f fits = ap (λ k. collected (distinctFrom l k) seen) (f p (fits p refl))
 turn-said seen l w next (Atom a standing) (says p) f fits = ap (λ k. collected (distinctFrom l k) seen) (f p (fits p refl))
 turn-said seen l w next Silent (wrong i at) f fits = refl
+turn-said seen l w next Chooses (wrong i at) f fits = refl
 turn-said seen l w next (Atom a standing) (wrong i at) f fits = refl
 
 module _ (s seen : List ℕ) (at : ℕ) (due : Due) (l : List TextAtom) {r : Step} (e : r ≡ stepAt s at due) where

@@ -11,7 +11,9 @@ pub mod Heard
 pub mod Said
 pub mod Collecting
 pub mod Counted
+pub mod Capped
 pub mod Entries
+pub mod HeadRules
 pub mod Formed
 pub mod Remaining
 pub mod Tabled
@@ -21,3 +23,4 @@ pub mod Walked
 pub mod RulesWalked
 pub mod Rows
 pub mod Names
+pub mod FreeHeads
