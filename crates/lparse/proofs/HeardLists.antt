@@ -8,9 +8,9 @@ use Rattle.imported.specs.declared.TextAtom.{TextAtom}
 use Rattle.lparse.specs.declared.due.Role.the-variants.{Table, Plus, Minus, Models}
 use Rattle.lparse.specs.declared.due.Due.the-variants.{Number, Name, PlusWord, MinusWord, End}
 use Rattle.lparse.specs.declared.due.Standing.the-variants.{Table as InTable, Plus as InPlus, Minus as InMinus}
-use Rattle.lparse.specs.declared.due.Said.the-variants.{Nothing as Silent, Choice as Chooses, Atom}
+use Rattle.lparse.specs.declared.due.Said.the-variants.{Nothing as Silent, Atom}
 use Rattle.lparse.specs.Words.{Word}
-use Rattle.lparse.specs.Reading.{textAtom, onListed, onNumber, onSign, moveOf, Entry, Part, with, withAtom, withChoice, says, heard}
+use Rattle.lparse.specs.Reading.{textAtom, onListed, onNumber, onSign, moveOf, Entry, Part, with, withAtom, says, heard}
 use Rattle.lparse.specs.Says.{Token, number, name, exactly, atomTokens, tableTokens, minusTokens, plusTokens, behindRules, Spelled, Spelling, fromOne}
 use Rattle.lparse.proofs.Phases.{NoRule, NoTable, NoPlus, NoMinus, Fits, FitsRole}
 use Rattle.lparse.proofs.Spelled.{RestRole, Rest}

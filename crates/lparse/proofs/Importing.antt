@@ -35,7 +35,7 @@ use Rattle.lparse.specs.Collect.{textIn, textOf, numbersOf, told, collec
 use Rattle.lparse.specs.Opened.{capped}
 use Rattle.lparse.specs.Make.{counted, Readable, Complete}
 use Rattle.lparse.specs.Import.{only, laidOf, handLaid, handOver, importHeard, importOf}
-use Rattle.lparse.proofs.Collecting.{numbers-length}
+use Rattle.lparse.proofs.Noting.{numbers-length}
 use Rattle.lparse.proofs.Capped.{capped-least, capped-on}
 
 -- ---- the limits

@@ -9,6 +9,7 @@ pub mod HeardRules
 pub mod HeardLists
 pub mod Heard
 pub mod Said
+pub mod Noting
 pub mod Collecting
 pub mod Counted
 pub mod Capped

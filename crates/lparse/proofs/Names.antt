@@ -33,7 +33,7 @@ use Rattle.lparse.specs.Forming.{placeOf}
 use Rattle.lparse.specs.Names.{whoseIn, whoseOf, nthIn, nameHeard, nameOf, inTable, isNamed, foundBy, leftBy}
 use Rattle.lparse.specs.Says.{Written, Says}
 use Rattle.lparse.proofs.Said.{says-read}
-use Rattle.lparse.proofs.Collecting.{numbers-atoms}
+use Rattle.lparse.proofs.Noting.{numbers-atoms}
 use Rattle.lparse.proofs.Reading.{byStep, heard-step, step-ahead, took-ahead, took-end}
 
 -- ---- the atom with a number

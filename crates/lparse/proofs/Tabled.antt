@@ -30,7 +30,7 @@ use Rattle.lparse.specs.Collect.{numbersOf, atomsSaid}
 use Rattle.lparse.specs.Opened.{capped, noAtoms, opening, headMore, openedBy, headRules, openRules, Heads, Ready}
 use Rattle.lparse.specs.Forming.{placeOf, entryRules, formedSaid, saidRules}
 use Rattle.lparse.proofs.Entries.{none-in}
-use Rattle.lparse.proofs.Collecting.{numbers-atoms, numbers-length}
+use Rattle.lparse.proofs.Noting.{numbers-atoms, numbers-length}
 use Rattle.lparse.proofs.HeadRules.{heads-none, heads-more}
 use Rattle.lparse.proofs.Remaining.{Begun, begunAfter, openTexts, begunTexts, entryOf}
 

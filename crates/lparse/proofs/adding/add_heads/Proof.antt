@@ -1,6 +1,5 @@
 -- The loop over the heads: the rules for the first j of them are added, and the next helper is counted on by j.
 use Prim.Native.Nat.{_-_, _≤_}
-use native.Mathlib.Omega.{arith}
 use borrow.Author.Needs.{needs}
 use Rattle.lparse.proofs.HeadRules.{HeadsAdded, heads-begun, heads-turn, heads-all}
 use Rattle.lparse.proofs.adding.add_heads.Statement.{statement}

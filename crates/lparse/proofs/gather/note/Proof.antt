@@ -1,7 +1,7 @@
 -- A word that says no atom changes nothing; one that says an atom has it noted.
 use borrow.Author.Needs.{needs}
 use Rattle.lparse.specs.Collect.{atomsSaid}
-use Rattle.lparse.proofs.Collecting.{note-silent}
+use Rattle.lparse.proofs.Noting.{note-silent}
 use Rattle.lparse.proofs.gather.note.Statement.{statement}
 use Rattle.lparse.proofs.gather.note.Tie as tie
 

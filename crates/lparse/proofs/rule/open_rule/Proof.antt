@@ -1,6 +1,5 @@
 -- `open_rule` is its definition.
 use mathlib.Core.Path.{refl}
-use borrow.Author.Needs.{needs}
 use Rattle.lparse.specs.Opened.{opening}
 use Rattle.lparse.proofs.rule.open_rule.Statement.{statement}
 use Rattle.lparse.proofs.rule.open_rule.Tie as tie
