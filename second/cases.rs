@@ -3,7 +3,6 @@
 
 use crate::claim::{certain, Claim};
 use crate::desk::{answer, hex, BAD_LINE};
-use crate::lparse::READS_CHOICES;
 use crate::random::Random;
 use crate::worked::{worked_lines, Worked};
 use crate::{
@@ -31,17 +30,13 @@ struct Later {
     add: fn(&mut Cases),
 }
 
-/// Choices have no command of their own.
-const CHOICES: &[&str] = if READS_CHOICES { &["lparse"] } else { &[] };
-
-const LATER: [Later; 8] = [
+const LATER: [Later; 7] = [
     Later { commands: &["levels", "levelsk"], numbers: &[], add: cases_levels::add },
     Later { commands: &["shown"], numbers: &[16], add: cases_shown::add },
     Later { commands: &["nomore"], numbers: &[], add: cases_nomore::add },
     Later { commands: &["join", "log"], numbers: &[17, 19], add: cases_crews::add },
     Later { commands: &["table"], numbers: &[36], add: cases_table::add },
     Later { commands: &["lparse"], numbers: &[30, 31, 32], add: cases_lparse::add },
-    Later { commands: CHOICES, numbers: &[], add: cases_choices::add },
     Later { commands: &["aspif", "unaspif"], numbers: &[33, 34, 35], add: cases_aspif::add },
 ];
 
@@ -201,6 +196,10 @@ fn all_cases(commands: &[&str]) -> Cases {
     cases_books::add_two_pages(&mut cases);
     for later in brought(commands) {
         (later.add)(&mut cases);
+    }
+    // Choices have no command of their own, and came after the requests that have one.
+    if commands.contains(&"lparse") {
+        cases_choices::add(&mut cases);
     }
     cases_lines::add_last(&mut cases);
     cases

@@ -5,10 +5,6 @@ use crate::book::{Book, Refusal, Rule};
 use crate::numbers::{Atom, AtomSet};
 use std::collections::BTreeSet;
 
-/// Request 10 is not in the proved engine yet: until it is, callers are told that a choice is another
-/// rule type.
-pub const READS_CHOICES: bool = false;
-
 const MOST_NUMBER: u64 = 4_294_967_295;
 const MOST_ATOMS: usize = 255;
 const MOST_RULES: usize = 255;
@@ -163,16 +159,15 @@ fn number_of(word: &[u8]) -> Option<u32> {
     Some(value as u32)
 }
 
-/// Reads a text with or without choices, or gives 30 or 31 with the place of the first word that is
-/// wrong.
-pub fn read_text(bytes: &[u8], choices: bool) -> Result<Text, Refusal> {
+/// Reads a text, or gives 30 or 31 with the place of the first word that is wrong.
+pub fn read_text(bytes: &[u8]) -> Result<Text, Refusal> {
     let mut words = Words { text: bytes, at: 0 };
     let mut text = Text::default();
     loop {
         match words.number()? {
             (0, _) => break,
             (1, _) => text.rules.push(read_basic(&mut words)?),
-            (3, _) if choices => text.rules.push(read_choice(&mut words)?),
+            (3, _) => text.rules.push(read_choice(&mut words)?),
             (_, place) => return Err(Refusal::at(31, place)),
         }
     }
@@ -324,7 +319,7 @@ fn list_rules(numbering: &Numbering, text: &Text, helper: Atom) -> Vec<Rule> {
 
 /// Importing as a caller sees it: 30 and 31 anywhere in the text come before 32.
 pub fn import(text: &[u8], room: usize) -> Result<Vec<u8>, Refusal> {
-    let text = read_text(text, READS_CHOICES)?;
+    let text = read_text(text)?;
     let bytes = make_book(&text).map(|book| book.write());
     bytes.filter(|bytes| bytes.len() <= room).ok_or(Refusal::placeless(32))
 }

@@ -5,7 +5,6 @@ use crate::book::Book;
 use crate::claim::{certain, clear};
 use crate::clash::last_clash;
 use crate::closing::{close, Colouring, Support};
-use crate::lparse::READS_CHOICES;
 use crate::meaning::{answer_sets, comes_before};
 use crate::numbers::AtomSet;
 use crate::random::Random;
@@ -53,9 +52,7 @@ pub fn run() -> Result<(), String> {
     println!("worked crews: {} lines", assert_worked(&crew_lines()));
     println!("worked tables: {} lines", assert_worked(&table_lines()));
     println!("worked texts: {} lines", assert_worked(&lparse_lines()));
-    if READS_CHOICES {
-        println!("worked choices: {} lines", assert_worked(&choice_lines()));
-    }
+    println!("worked choices: {} lines", assert_worked(&choice_lines()));
     println!("worked aspif: {} lines", assert_worked(&aspif_lines()));
     let mut random = Random::new(SEED);
     let mut counts = BookCounts::default();

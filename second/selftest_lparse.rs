@@ -22,7 +22,7 @@ pub fn texts(random: &mut Random) -> usize {
         if number % 4 < 2 {
             text.rules.extend(pair());
         }
-        assert_eq!(read_text(&write_text(&text, random), true), Ok(text.clone()));
+        assert_eq!(read_text(&write_text(&text, random)), Ok(text.clone()));
         let sets = compare(&text);
         several += (sets > 1) as usize;
         let lists = !text.plus.is_empty() || !text.minus.is_empty();

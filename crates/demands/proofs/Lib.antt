@@ -21,6 +21,7 @@ pub mod OnlyCrews
 pub mod WorkedCrews
 pub mod UselessCrews
 pub mod Imports
+pub mod Choices
 pub mod UselessImports
 pub mod WorkedImports
 pub mod Shown

@@ -1,5 +1,6 @@
 -- The demands over imported books, of any importer and any engine. Document 02, request 1: "The book made must have exactly the answer sets that
--- obey B+ and B-, up to renumbering"; "Demands 2 and 3 then read over the imported meaning."
+-- obey B+ and B-, up to renumbering"; "Demands 2 and 3 then read over the imported meaning." Request 10: "Demand 2 reads so for imported books,
+-- and demand 3 and its twin read so for the text's atoms": Obeying has the choice rule's own definition in it, and back drops the helpers.
 --
 --   Importer             of a text and a lent buffer: what is told, and the buffer afterwards
 --   ourImporter          the function that the promise of import is an equation with

@@ -14,5 +14,6 @@ pub mod TwoCrews
 pub mod WorkedCrews
 pub mod UselessCrews
 pub mod Imports
+pub mod Choices
 pub mod UselessImports
 pub mod UselessShown

@@ -5,13 +5,14 @@
 --   emptyBook            always the empty book
 --   withoutMinus         B- is left out
 --   asTheyAppear         atoms are numbered in the order in which they first appear
-use mathlib.Core.List.{List, [], _∷_, map}
+--   everyHeadIn          a choice is taken for a rule for each of its heads, so that all of them are in
+use mathlib.Core.List.{List, [], _∷_, _++_, map}
 use Prim.Native.Nat.{ℕ, suc}
 use Rattle.meaning.specs.Choice.{ifb}
 use Rattle.meaning.specs.Books.{Book}
 use Rattle.meaning.specs.Told.{refusedAt, refused, Answered}
 use Rattle.imported.specs.declared.TextAtom.{TextAtom}
-use Rattle.imported.specs.Text.{sameText, TextRule, basic, Text}
+use Rattle.imported.specs.Text.{sameText, TextRule, basic, choice, Text}
 use Rattle.imported.specs.Making.{mentioned, distinct, madeBook}
 use Rattle.lparse.specs.Reading.{Heard, says, wrong}
 use Rattle.lparse.specs.Collect.{textIn, textOf}
@@ -44,6 +45,7 @@ moved l a = record { 0 = standing l a }
 
 unfoldable pub movedRule : List TextAtom → TextRule → TextRule
 movedRule l (basic h pos neg) = basic (moved l h) (map (moved l) pos) (map (moved l) neg)
+movedRule l (choice hs pos neg) = choice (map (moved l) hs) (map (moved l) pos) (map (moved l) neg)
 
 unfoldable pub asTheyAppear : Text → Book
 asTheyAppear t =
@@ -54,3 +56,14 @@ asTheyAppear t =
       plus = map (moved l) (t .plus);
       minus = map (moved l) (t .minus);
     })
+
+unfoldable pub ruleForEach : TextRule → List TextRule
+ruleForEach (basic h pos neg) = basic h pos neg ∷ []
+ruleForEach (choice hs pos neg) = map (λ h. basic h pos neg) hs
+
+unfoldable pub rulesForEach : List TextRule → List TextRule
+rulesForEach [] = []
+rulesForEach (r ∷ l) = ruleForEach r ++ rulesForEach l
+
+abbrev pub everyHeadIn : Text → Book
+everyHeadIn t = madeBook (record { rules = rulesForEach (t .rules); table = t .table; plus = t .plus; minus = t .minus })

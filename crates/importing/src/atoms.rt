@@ -8,6 +8,7 @@ use lparse::Name;
 use lparse::Whose;
 use lparse::atom_at;
 use lparse::collect;
+use lparse::free_head;
 use lparse::nth_name;
 use talk::print;
 use talk::put_name;
@@ -71,15 +72,38 @@ fn put_atom(text: &[u8], a: TextAtom, line: &mut [u8], held: usize) -> usize
     put_number(a.0 as u64, line, held)
 }
 
-// What the book's atom n is in the text. What is no atom of the text is the helper, which no reading
-// has.
+// `#not` and what the head's line says.
+fn put_opposite(text: &[u8], head: TextAtom, line: &mut [u8], held: usize) -> usize
+    requires { ⌜ Counts held (now line) ⌝ }
+    ensures { λ r. ⌜ Counts r (now (line .exit)) ⌝ }
+{
+    let held = put_text(b" #not", line, held);
+    put_atom(text, head, line, held)
+}
+
+// The j-th helper, counted from 0: that of the j-th head of a choice, which is in a reading exactly
+// where the head is out; behind these that of the lists, which no reading has.
+fn put_helper(text: &[u8], j: usize, line: &mut [u8], held: usize) -> usize
+    requires { ⌜ Counts held (now line) ⌝ }
+    ensures { λ r. ⌜ Counts r (now (line .exit)) ⌝ }
+{
+    match free_head(text, j) {
+        Whose::Atom(head) => put_opposite(text, head, line, held),
+        Whose::Nothing => put_text(b" #never", line, held),
+    }
+}
+
+// What the book's atom n is in the text: one of its atoms, which have the first numbers, or a helper.
 fn put_whose(text: &[u8], seen: &[u32], n: usize, line: &mut [u8], held: usize) -> usize
     requires { ⌜ Counts held (now line) ⌝ }
     ensures { λ r. ⌜ Counts r (now (line .exit)) ⌝ }
 {
+    if n >= seen.len() {
+        return put_helper(text, n - seen.len(), line, held);
+    }
     match atom_at(seen, n) {
         Whose::Atom(a) => put_atom(text, a, line, held),
-        Whose::Nothing => put_text(b" #never", line, held),
+        Whose::Nothing => held,
     }
 }
 

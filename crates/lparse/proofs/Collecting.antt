@@ -1,29 +1,21 @@
--- Collecting the atoms of a text: what one word more says is noted behind what stands in the array, and the atoms of the whole text are
--- those noted so far and those of the rest.
+-- Collecting the atoms of a text: the atoms of the whole text are those noted so far and those of the rest, which says what a word says
+-- first.
 use mathlib.Core.Path.{_≡_, refl, ap, sym, _∙_}
-use mathlib.Core.Bool.{true, false}
-use mathlib.Core.List.{List, [], _∷_, _++_, map, map-append, append-assoc}
-use Prim.Native.Nat.{ℕ, suc, _+_, _≤_, _<_}
-use native.Mathlib.Numerals.{add-one}
+use mathlib.Core.List.{List, [], _∷_, _++_, append-assoc}
+use Prim.Native.Nat.{ℕ, _+_}
 use native.Mathlib.Omega.{arith}
-use lib.ListN.{length, take, drop, getD, set, length-append, length-set, length-map, List·getD-map}
-use lib.Seq.{take-suc, take-suc-set, getD-take, length-take-le, paste-suc}
-use native.Mathlib.Nat.{zero-add}
-use borrow.Author.Tests.{eq-eqb, ne-eqb}
-use Rattle.meaning.specs.Sets.{some}
-use Rattle.meaning.specs.Told.{refused, refusedAt, success, Answered}
-use Rattle.meaning.proofs.Sets.{some-here, some-append}
-use Rattle.meaning.proofs.Choice.{b-yes, b-no, b-either, lt-yes, lt-no, lt-either, eq-either}
-use Rattle.imported.specs.Text.{sameText}
-use Rattle.imported.specs.Making.{ruleAtoms, rulesAtoms, mentioned, addNew, distinctFrom}
+use lib.ListN.{length}
+use Rattle.meaning.specs.Told.{refusedAt, Answered}
+use Rattle.meaning.proofs.Choice.{b-either, lt-either, eq-either}
+use Rattle.imported.specs.Making.{ruleAtoms, rulesAtoms, mentioned, distinctFrom}
 use Rattle.imported.specs.declared.TextAtom.{TextAtom}
 use Rattle.lparse.specs.declared.due.Role.{Role}
-use Rattle.lparse.specs.declared.due.Role.the-variants.{Kind, Head, Literals, Negatives, Negative, Positive, Table, Plus, Minus, Models}
+use Rattle.lparse.specs.declared.due.Role.the-variants.{Kind, Head, HeadCount, Heads, Literals, Negatives, Negative, Positive, Table, Plus, Minus, Models}
 use Rattle.lparse.specs.declared.due.Due.{Due}
 use Rattle.lparse.specs.declared.due.Due.the-variants.{Number, Name, PlusWord, MinusWord, End}
-use Rattle.lparse.specs.declared.due.Standing.the-variants.{Head as InHead, Negative as InNegative, Positive as InPositive, Table as InTable, Plus as InPlus, Minus as InMinus}
+use Rattle.lparse.specs.declared.due.Standing.the-variants.{Head as InHead, Free as InFree, Negative as InNegative, Positive as InPositive, Table as InTable, Plus as InPlus, Minus as InMinus}
 use Rattle.lparse.specs.declared.due.Said.{Said}
-use Rattle.lparse.specs.declared.due.Said.the-variants.{Nothing as Silent, Atom}
+use Rattle.lparse.specs.declared.due.Said.the-variants.{Nothing as Silent, Choice as Chooses, Atom}
 use Rattle.lparse.specs.declared.due.Move.{Move}
 use Rattle.lparse.specs.declared.due.Move.the-variants.{Goes, Format, Kind as OtherKind}
 use Rattle.lparse.specs.Words.{Word, wordAt, wordsAt}
@@ -31,130 +23,17 @@ use Rattle.decimal.specs.declared.Digits.{Digits}
 use Rattle.decimal.specs.declared.Digits.the-variants.{Value, Nothing}
 use Rattle.lparse.specs.declared.step.Step.{Step}
 use Rattle.lparse.specs.declared.step.Step.the-variants.{Goes as Takes, Format as WrongFormat, Kind as WrongKind, Done}
-use Rattle.lparse.specs.Reading.{textAtom, onKind, onAtom, onListed, onNegatives, onNumber, numberIn, onValue, signed, onSign, moveOf, stepAt, Part, with, withAtom, Heard, says, wrong, adding, heardAt}
-use Rattle.lparse.specs.Collect.{textIn, textOf, numbersOf, collected, collectHeard, collectOf, Stands, whole, passed, Notes, atomsSaid}
+use Rattle.lparse.specs.Reading.{textAtom, onKind, onAtom, onListed, onHeadCount, onNegatives, onNumber, numberIn, onValue, signed, onSign, moveOf, stepAt, Part, with, withAtom, withChoice, Heard, says, wrong, adding, heardAt}
+use Rattle.lparse.specs.Collect.{textIn, textOf, numbersOf, collected, collectHeard, collectOf, Stands, whole, Notes, atomsSaid}
 use Rattle.lparse.proofs.Reading.{byStep, heard-step, took-move}
 use Rattle.lparse.proofs.Spelled.{nothing}
-use Rattle.lparse.proofs.Phases.{NoRule, NoTable, NoPlus, Fits, FitsRole, body-open, heard-fits}
-
--- ---- one atom in the array
-
-pub numbers-atoms : (l : List TextAtom) → map textAtom (numbersOf l) ≡ l
-unfolding numbersOf
-numbers-atoms [] = refl
-numbers-atoms (a ∷ l) = ap (λ m. a ∷ m) (numbers-atoms l)
-
-pub numbers-length : (l : List TextAtom) → length (numbersOf l) ≡ length l
-unfolding numbersOf
-numbers-length [] = refl
-numbers-length (a ∷ l) = ap suc (numbers-length l)
-
-numbers-append : (l m : List TextAtom) → numbersOf (l ++ m) ≡ numbersOf l ++ numbersOf m
-unfolding numbersOf
-numbers-append [] m = refl
-numbers-append (a ∷ l) m = ap (λ k. a .0 ∷ k) (numbers-append l m)
-
-module _ (l : List TextAtom) (a : TextAtom) where
-  add-old : some (sameText a) l ≡ true → addNew l a ≡ l
-  unfolding addNew
-  add-old e = b-yes _ _ _ e
-
-  add-new : some (sameText a) l ≡ false → addNew l a ≡ l ++ (a ∷ [])
-  unfolding addNew
-  add-new e = b-no _ _ _ e
-
-  add-longer : length l ≤ length (addNew l a)
-  unfolding addNew
-  add-longer =
-      b-either (λ m. length l ≤ length m) (some (sameText a) l) l (l ++ (a ∷ [])) (λ e. omega arith)
-      (λ e. omega (arith, length-append l (a ∷ [])))
-
--- the first n of the array are l, if n says so
-pub stands-long : {l : List TextAtom} {n : ℕ} {found : List ℕ} → Stands l n found → length found ≡ 255
-stands-long (whole g e h f) = g
-stands-long (passed g e h) = g
-
--- the search for an atom among the first
-module _ (a : TextAtom) (found : List ℕ) where
-  pub none-next : (i : ℕ) → i < length found → (a .0 ≡ getD found i 0 → ⊥) → some (sameText a) (map textAtom (take i found)) ≡ false
-      → some (sameText a) (map textAtom (take (i + 1) found)) ≡ false
-  unfolding sameText some
-  none-next i h e g =
-      rw (add-one i, take-suc found i 0 h, map-append, some-append, g) (rw (ne-eqb (a .0) (getD found i 0) e))
-
-  pub one-here : (i n : ℕ) → i < n → n ≤ length found → a .0 ≡ getD found i 0
-      → some (sameText a) (map textAtom (take n found)) ≡ true
-  unfolding sameText
-  one-here i n h g e =
-      some-here (sameText a) (map textAtom (take n found)) i (textAtom 0)
-      (rw (length-map (take n found) textAtom, length-take-le n found g) h)
-      (rw (List·getD-map textAtom (take n found) i 0, getD-take n found i 0 h) (eq-eqb (a .0) (getD found i 0) e))
-
-module _ (a : TextAtom) (n : ℕ) (found : List ℕ) where
-  pub note-passed : 255 < n → Notes (a ∷ []) n found n found
-  unfolding distinctFrom
-  note-passed h = record { behind = still }
-    where
-      still : (l : List TextAtom) → Stands l n found → Stands (distinctFrom l (a ∷ [])) n found
-      still l (whole g e k f) = absurd (omega arith)
-      still l (passed g e k) = passed g e (omega (arith, add-longer l a))
-
-  pub note-old : n ≤ 255 → some (sameText a) (map textAtom (take n found)) ≡ true → Notes (a ∷ []) n found n found
-  unfolding distinctFrom
-  note-old h o = record { behind = still }
-    where
-      still : (l : List TextAtom) → Stands l n found → Stands (distinctFrom l (a ∷ [])) n found
-      still l (whole g e k f) = rw (add-old l a (rw (f, numbers-atoms l) at o)) (whole g e k f)
-      still l (passed g e k) = absurd (omega arith)
-
-  pub note-full : n ≡ 255 → some (sameText a) (map textAtom (take n found)) ≡ false → Notes (a ∷ []) n found 256 found
-  unfolding distinctFrom
-  note-full h o = record { behind = over }
-    where
-      over : (l : List TextAtom) → Stands l n found → Stands (distinctFrom l (a ∷ [])) 256 found
-      over l (whole g e k f) =
-          rw (add-new l a (rw (f, numbers-atoms l) at o)) (passed g refl (omega (arith, length-append l (a ∷ []))))
-      over l (passed g e k) = absurd (omega arith)
-
-  pub note-new : n < 255 → some (sameText a) (map textAtom (take n found)) ≡ false
-      → Notes (a ∷ []) n found (n + 1) (set found n (a .0))
-  unfolding distinctFrom numbersOf
-  note-new h o = record { behind = more }
-    where
-      more : (l : List TextAtom) → Stands l n found → Stands (distinctFrom l (a ∷ [])) (n + 1) (set found n (a .0))
-      more l (whole g e k f) =
-          rw (add-new l a (rw (f, numbers-atoms l) at o))
-          (whole (length-set found n (a .0) ∙ g) (omega (arith, length-append l (a ∷ []))) (omega arith)
-          (rw (add-one n, take-suc-set found n (a .0) (omega arith), f) (sym (numbers-append l (a ∷ [])))))
-      more l (passed g e k) = absurd (omega arith)
-
-pub note-silent : (n : ℕ) (found : List ℕ) → Notes [] n found n found
-unfolding distinctFrom
-note-silent n found = record { behind = λ l s. s }
-
--- ---- the copy
-
-pub copy-more : (found seen : List ℕ) (i : ℕ) → i < length found → i < length seen → {b : List ℕ} → b ≡ take i found ++ drop i seen
-    → set b i (getD found i 0) ≡ take (i + 1) found ++ drop (i + 1) seen
-copy-more found seen i h g e = rw (e, add-one) (simp zero-add at (paste-suc seen 0 found i 0 (omega arith) h))
-
-module _ (seen : List ℕ) {l : List TextAtom} {n : ℕ} {found : List ℕ} where
-  pub handed-many : Stands l n found → 255 < n → _≡_ {A = Answered ℕ} (record { told = refused 32; buffer = seen }) (collected l seen)
-  unfolding collected
-  handed-many (whole g e h f) k = absurd (omega arith)
-  handed-many (passed g e h) k = sym (lt-yes _ _ _ _ h)
-
-  pub handed : Stands l n found → n ≤ 255 → {b : List ℕ} → b ≡ take n found ++ drop n seen
-      → _≡_ {A = Answered ℕ} (record { told = success n; buffer = b }) (collected l seen)
-  unfolding collected
-  handed (whole g e h f) k c = rw (c, f, e) (sym (lt-no _ _ _ _ (omega arith)))
-  handed (passed g e h) k c = absurd (omega arith)
+use Rattle.lparse.proofs.Phases.{Open, NoRule, NoTable, NoPlus, Fits, FitsRole, body-open, heard-fits}
 
 -- ---- the atoms of the whole text are those noted so far and those of the rest
 
 -- the atoms that the rest of a text says, in its order
 unfoldable pub atomsOf : Part → List TextAtom
-atomsOf p = p .neg ++ (p .pos ++ mentioned (textOf p))
+atomsOf p = p .heads ++ (p .neg ++ (p .pos ++ mentioned (textOf p)))
 
 unfoldable pub gathered : List TextAtom → Heard → List ℕ → Answered ℕ
 gathered l (says p) seen = collected (distinctFrom l (atomsOf p)) seen
@@ -162,34 +41,47 @@ gathered l (wrong i at) seen = record { told = refusedAt i at; buffer = seen }
 
 -- one word more in front says its atom before all others, where what fits behind it lets it
 module _ (w : Word) (a : TextAtom) (p : Part) where
-  head-first : atomsOf (withAtom w a InHead p) ≡ a ∷ atomsOf p
+  head-joined : atomsOf (withAtom w a InHead p) ≡ a ∷ (p .neg ++ (p .pos ++ mentioned (textOf p)))
   unfolding atomsOf withAtom mentioned rulesAtoms ruleAtoms
-  head-first = ap (λ l. a ∷ l) (simp append-assoc)
+  head-joined = ap (λ l. a ∷ l) (simp append-assoc)
 
-  negative-first : atomsOf (withAtom w a InNegative p) ≡ a ∷ atomsOf p
+  head-first : p .heads ≡ [] → atomsOf (withAtom w a InHead p) ≡ a ∷ atomsOf p
+  unfolding atomsOf
+  head-first e = head-joined ∙ ap (λ l. a ∷ (l ++ (p .neg ++ (p .pos ++ mentioned (textOf p))))) (sym e)
+
+  free-first : atomsOf (withAtom w a InFree p) ≡ a ∷ atomsOf p
   unfolding atomsOf withAtom
-  negative-first = refl
+  free-first = refl
 
-  positive-first : length (p .neg) ≡ 0 → atomsOf (withAtom w a InPositive p) ≡ a ∷ atomsOf p
+  negative-first : p .heads ≡ [] → atomsOf (withAtom w a InNegative p) ≡ a ∷ atomsOf p
   unfolding atomsOf withAtom
-  positive-first e = rw (nothing (p .neg) e)
+  negative-first e = rw e
 
-  table-first : NoRule (p .neg) (p .pos) (p .rules) → atomsOf (withAtom w a InTable p) ≡ a ∷ atomsOf p
+  positive-first : {n : ℕ} → Open 0 n (p .heads) (p .neg) (p .pos) → atomsOf (withAtom w a InPositive p) ≡ a ∷ atomsOf p
+  unfolding atomsOf withAtom
+  positive-first o = rw (o .no-head, nothing (p .neg) (o .negatives))
+
+  table-first : NoRule (p .heads) (p .neg) (p .pos) (p .rules) → atomsOf (withAtom w a InTable p) ≡ a ∷ atomsOf p
   unfolding atomsOf withAtom mentioned rulesAtoms
-  table-first f = rw (nothing (p .neg) (f .shut .negatives), nothing (p .pos) (f .shut .positives), f .no-rule)
+  table-first f = rw (f .shut .no-head, nothing (p .neg) (f .shut .negatives), nothing (p .pos) (f .shut .positives), f .no-rule)
 
-  plus-first : NoTable (p .neg) (p .pos) (p .rules) (p .table) → atomsOf (withAtom w a InPlus p) ≡ a ∷ atomsOf p
+  plus-first : NoTable (p .heads) (p .neg) (p .pos) (p .rules) (p .table) → atomsOf (withAtom w a InPlus p) ≡ a ∷ atomsOf p
   unfolding atomsOf withAtom mentioned rulesAtoms
   plus-first f =
       let g = f .behind-rules in
-      rw (nothing (p .neg) (g .shut .negatives), nothing (p .pos) (g .shut .positives), g .no-rule, f .no-entry)
+      rw (g .shut .no-head, nothing (p .neg) (g .shut .negatives), nothing (p .pos) (g .shut .positives), g .no-rule, f .no-entry)
 
-  minus-first : NoPlus (p .neg) (p .pos) (p .rules) (p .table) (p .plus) → atomsOf (withAtom w a InMinus p) ≡ a ∷ atomsOf p
+  minus-first : NoPlus (p .heads) (p .neg) (p .pos) (p .rules) (p .table) (p .plus) → atomsOf (withAtom w a InMinus p) ≡ a ∷ atomsOf p
   unfolding atomsOf withAtom mentioned rulesAtoms
   minus-first f =
       let h = f .behind-table in
       let g = h .behind-rules in
-      rw (nothing (p .neg) (g .shut .negatives), nothing (p .pos) (g .shut .positives), g .no-rule, h .no-entry, f .no-plus)
+      rw (g .shut .no-head, nothing (p .neg) (g .shut .negatives), nothing (p .pos) (g .shut .positives), g .no-rule, h .no-entry, f .no-plus)
+
+-- a choice says no atom: its heads are said behind it
+choice-first : (p : Part) → atomsOf (withChoice p) ≡ atomsOf p
+unfolding atomsOf withChoice mentioned rulesAtoms ruleAtoms
+choice-first p = simp append-assoc
 
 -- so for every move
 unfoldable pub First : Word → Move → Type 0
@@ -199,15 +91,18 @@ First w OtherKind = Unit {0}
 
 module _ (w : Word) where
   first-number : (role : Role) (n : ℕ) → First w (onNumber role n)
-  unfolding First Fits FitsRole onNumber onKind onAtom onListed onNegatives with atomsSaid
+  unfolding First Fits FitsRole onNumber onKind onAtom onListed onHeadCount onNegatives with atomsSaid
   first-number Kind n =
-      eq-either (First w) n 0 _ _ (λ e p f. refl) (λ e. eq-either (First w) n 1 _ _ (λ g p f. refl) (λ g. tt))
-  first-number Head n = eq-either (First w) n 0 _ _ (λ e. tt) (λ e p f. head-first w (textAtom n) p)
+      eq-either (First w) n 0 _ _ (λ e p f. refl) (λ e. eq-either (First w) n 1 _ _ (λ g p f. refl)
+      (λ g. eq-either (First w) n 3 _ _ (λ i p f. choice-first p) (λ i. tt)))
+  first-number Head n = eq-either (First w) n 0 _ _ (λ e. tt) (λ e p f. head-first w (textAtom n) p f)
+  first-number HeadCount n = eq-either (First w) n 0 _ _ (λ e. tt) (λ e p f. refl)
+  first-number (Heads m) n = eq-either (First w) n 0 _ _ (λ e. tt) (λ e p f. free-first w (textAtom n) p)
   first-number Literals n = λ p f. refl
   first-number (Negatives l) n = lt-either (First w) l n _ _ (λ h. tt) (λ h p f. refl)
-  first-number (Negative m q) n = eq-either (First w) n 0 _ _ (λ e. tt) (λ e p f. negative-first w (textAtom n) p)
+  first-number (Negative m q) n = eq-either (First w) n 0 _ _ (λ e. tt) (λ e p f. negative-first w (textAtom n) p (body-open m q p f .no-head))
   first-number (Positive q) n =
-      eq-either (First w) n 0 _ _ (λ e. tt) (λ e p f. positive-first w (textAtom n) p (body-open 0 q p f .negatives))
+      eq-either (First w) n 0 _ _ (λ e. tt) (λ e p f. positive-first w (textAtom n) p (body-open 0 q p f))
   first-number Table n = eq-either (First w) n 0 _ _ (λ e p f. refl) (λ e p f. refl)
   first-number Plus n = eq-either (First w) n 0 _ _ (λ e p f. refl) (λ e p f. plus-first w (textAtom n) p f)
   first-number Minus n = eq-either (First w) n 0 _ _ (λ e p f. refl) (λ e p f. minus-first w (textAtom n) p f)
@@ -235,7 +130,7 @@ heard-at-fits s at due p e = heard-fits (length s) due (wordsAt s at) p e
 -- at a rule's start nothing is open
 pub rest-atoms : (p : Part) → Fits (Number Kind) p → atomsOf p ≡ mentioned (textOf p)
 unfolding atomsOf Fits FitsRole
-rest-atoms p f = rw (nothing (p .neg) (f .negatives), nothing (p .pos) (f .positives))
+rest-atoms p f = rw (f .no-head, nothing (p .neg) (f .negatives), nothing (p .pos) (f .positives))
 
 pub gather-start : (s seen : List ℕ) → collectOf s seen ≡ gathered [] (textIn s) seen
 unfolding collectOf collectHeard gathered
@@ -251,8 +146,10 @@ turn-said : (seen : List ℕ) (l : List TextAtom) (w : Word) (next : Due) (said 
     → gathered l (adding w said h) seen ≡ gathered (distinctFrom l (atomsSaid said)) h seen
 unfolding First gathered adding atomsSaid distinctFrom
 turn-said seen l w next Silent (says p) f fits = ap (λ k. collected (distinctFrom l k) seen) (f p (fits p refl))
+turn-said seen l w next Chooses (says p) f fits = ap (λ k. collected (distinctFrom l k) seen) (f p (fits p refl))
 turn-said seen l w next (Atom a standing) (says p) f fits = ap (λ k. collected (distinctFrom l k) seen) (f p (fits p refl))
 turn-said seen l w next Silent (wrong i at) f fits = refl
+turn-said seen l w next Chooses (wrong i at) f fits = refl
 turn-said seen l w next (Atom a standing) (wrong i at) f fits = refl
 
 module _ (s seen : List ℕ) (at : ℕ) (due : Due) (l : List TextAtom) {r : Step} (e : r ≡ stepAt s at due) where

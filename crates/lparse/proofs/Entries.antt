@@ -6,7 +6,7 @@ use mathlib.Core.Logic.{_⊎_, ⊎-elim, inl, inr}
 use Prim.Native.Nat.{ℕ, zero, suc, _<_, _≤_}
 use native.Mathlib.Omega.{arith}
 use lib.Dec.{eqb}
-use lib.ListN.{length, getD, set, replicate, length-set, length-replicate}
+use lib.ListN.{getD, set, replicate, length-set, length-replicate}
 use lib.Seq.{getD-set-same, getD-set-other}
 use borrow.Author.Tests.{lt-ltb, eqb-true, eqb-false}
 use Rattle.meaning.specs.declared.AtomNo.{AtomNo}
@@ -15,9 +15,11 @@ use Rattle.meaning.specs.Books.{atomNo}
 use Rattle.book.specs.declared.making.Making.{Making}
 use Rattle.book.specs.Making.{listed, ruleBy, Adds}
 use Rattle.book.proofs.AtomsFrom.{atoms-of, atoms-none}
-use Rattle.book.proofs.Made.{adds-passed}
+use Rattle.book.proofs.Made.{over, adds-passed}
 use Rattle.lparse.specs.declared.due.Standing.the-variants.{Plus, Minus}
-use Rattle.lparse.specs.Forming.{noAtoms, entryRules}
+use Rattle.lparse.specs.Opened.{capped, noAtoms}
+use Rattle.lparse.specs.Forming.{entryRules}
+use Rattle.lparse.proofs.Capped.{capped-real, capped-least}
 
 -- ---- what is in a table
 
@@ -39,10 +41,10 @@ same-atom a n e = ap atomNo e
 nowhere : (i : ℕ) → getD noAtoms i false ≡ true → ⊥
 nowhere i e = let f = none-in 255 i in let z : _≡_ {A = ℕ} 0 1 = cc in omega arith
 
-none-listed : listed noAtoms ≡ []
+pub none-listed : listed noAtoms ≡ []
 none-listed = atoms-none 0 255 _ (λ m h. none-in 255 m)
 
-one-listed : (n : ℕ) → n < 255 → listed (set noAtoms n true) ≡ atomNo n ∷ []
+pub one-listed : (n : ℕ) → n < 255 → listed (set noAtoms n true) ≡ atomNo n ∷ []
 unfolding ascending
 one-listed n h =
     atoms-of 0 255 _ (atomNo n ∷ []) refl
@@ -71,22 +73,28 @@ two-listed n h f k =
 
 -- ---- the rules
 
-module _ (m : Making) (d : List ℕ) (h n : ℕ) (over : 255 ≤ h) where
-  pub plus-passed : Adds (entryRules Plus h n) m d (record { length = m .length; rules = m .rules; fits = false }) d
-  unfolding entryRules
-  plus-passed = adds-passed _ m d (λ s. omega (arith, s .head))
+-- the helper is k, told as h
+module _ (m : Making) (d : List ℕ) (n k : ℕ) {h : ℕ} (e : h ≡ capped k) (full : 255 ≤ h) where
+  beyond : 255 ≤ k
+  beyond = capped-least k (rw e at full)
 
-  pub minus-passed : Adds (entryRules Minus h n) m d (record { length = m .length; rules = m .rules; fits = false }) d
+  pub plus-passed : Adds (entryRules Plus k n) m d (over m) d
   unfolding entryRules
-  minus-passed = adds-passed _ m d (λ s. omega (arith, s .head))
+  plus-passed = adds-passed _ m d (λ s. omega (arith, s .head, beyond))
 
-module _ (h n : ℕ) (f : n < h) (k : h < 255) {m r : Making} {a b : List ℕ} where
+  pub minus-passed : Adds (entryRules Minus k n) m d (over m) d
+  unfolding entryRules
+  minus-passed = adds-passed _ m d (λ s. omega (arith, s .head, beyond))
+
+module _ (n k : ℕ) {h : ℕ} (e : h ≡ capped k) (l : h < 255) (f : n < k) {m r : Making} {a b : List ℕ} where
   pub plus-added : {one both : List Bool} → one ≡ set noAtoms n true → both ≡ set one h true
-      → Adds (ruleBy (atomNo h) noAtoms both ∷ []) m a r b → Adds (entryRules Plus h n) m a r b
+      → Adds (ruleBy (atomNo h) noAtoms both ∷ []) m a r b → Adds (entryRules Plus k n) m a r b
   unfolding entryRules
-  plus-added e g adds = rw (g, e, none-listed, two-listed n h f k) at adds
+  plus-added i j adds = let z : h ≡ k = capped-real k e (omega arith) in
+      rw (← z) (rw (j, i, none-listed, two-listed n h (omega arith) l) at adds)
 
   pub minus-added : {one helper : List Bool} → one ≡ set noAtoms n true → helper ≡ set noAtoms h true
-      → Adds (ruleBy (atomNo h) one helper ∷ []) m a r b → Adds (entryRules Minus h n) m a r b
+      → Adds (ruleBy (atomNo h) one helper ∷ []) m a r b → Adds (entryRules Minus k n) m a r b
   unfolding entryRules
-  minus-added e g adds = rw (g, e, one-listed n (omega arith), one-listed h k) at adds
+  minus-added i j adds = let z : h ≡ k = capped-real k e (omega arith) in
+      rw (← z) (rw (j, i, one-listed n (omega arith), one-listed h l) at adds)

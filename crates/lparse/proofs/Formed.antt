@@ -1,22 +1,24 @@
--- What one word adds to the rules made: the rule of an entry, and the rule that was open where it is whole.
+-- What one word adds to the rules made: the rule of an entry, and the rules of the rule that was open where it is whole.
 use mathlib.Core.Path.{_≡_, refl, ap, _∙_}
-use mathlib.Core.Bool.{true, false}
-use mathlib.Core.List.{List, [], _∷_, _++_, append-nil}
+use mathlib.Core.Bool.{Bool, true, false}
+use mathlib.Core.List.{List, [], _++_, append-nil}
 use Prim.Native.Nat.{ℕ, _<_, _≤_}
+use native.Mathlib.Omega.{arith}
 use lib.ListN.{length}
 use Rattle.meaning.specs.Books.{Rule}
 use Rattle.meaning.proofs.Choice.{b-yes, b-no}
 use Rattle.book.specs.declared.making.Making.{Making}
-use Rattle.book.specs.Making.{ruleBy, Adds}
+use Rattle.book.specs.Making.{Adds}
 use Rattle.book.proofs.Made.{adds-nil, adds-then}
 use Rattle.imported.specs.declared.TextAtom.{TextAtom}
 use Rattle.lparse.specs.declared.due.Due.{Due}
 use Rattle.lparse.specs.declared.due.Standing.{Standing}
-use Rattle.lparse.specs.declared.due.Standing.the-variants.{Head as InHead, Negative as InNegative, Positive as InPositive, Table as InTable, Plus as InPlus, Minus as InMinus}
 use Rattle.lparse.specs.declared.due.Said.{Said}
-use Rattle.lparse.specs.declared.due.Said.the-variants.{Nothing as Silent, Atom}
+use Rattle.lparse.specs.declared.due.Said.the-variants.{Nothing as Silent, Choice as Chooses, Atom}
+use Rattle.lparse.specs.declared.rule.Opened.{Opened}
 use Rattle.lparse.specs.declared.form.Forming.{Forming}
-use Rattle.lparse.specs.Forming.{placeOf, formedBy, entryRules, closes, formedSaid, saidRules, ruleClosed, Forms, Placed}
+use Rattle.lparse.specs.Opened.{capped, opening, openedBy, Ready}
+use Rattle.lparse.specs.Forming.{placeOf, entryBy, entryRules, closes, helperBehind, formedSaid, saidRules, shut, shutRules, closedBy, ruleClosed, Forms, Placed}
 
 module _ (atoms : List ℕ) {said : Said} where
   pub placed-atom : (a : TextAtom) (standing : Standing) → said ≡ Atom a standing → Placed atoms said
@@ -24,50 +26,75 @@ module _ (atoms : List ℕ) {said : Said} where
   unfolding Placed
   placed-atom a standing e p = rw e at p
 
-  pub forms-silent : (f : Forming) (d : List ℕ) → said ≡ Silent → Forms (saidRules atoms said) (formedSaid f atoms said) (f .making) d f d
-  unfolding saidRules formedSaid
-  forms-silent f d e = rw e (record { adds = adds-nil (f .making) d; head = refl; pos = refl; neg = refl; entry = refl })
+  module _ (f : Forming) where
+    pub forms-silent : (d : List ℕ) → said ≡ Silent
+        → Forms atoms (λ c l. saidRules c atoms said) (f .helper) (formedSaid f atoms said) (f .making) d f d
+    unfolding saidRules formedSaid
+    forms-silent d e = rw e (record { adds = λ c l i r. adds-nil (f .making) d; rule = refl; helper = refl; entry = refl })
 
-formed-making : (f : Forming) (n : ℕ) (standing : Standing) → formedBy f n standing .making ≡ f .making
-unfolding formedBy
-formed-making f n InHead = refl
-formed-making f n InNegative = refl
-formed-making f n InPositive = refl
-formed-making f n InTable = refl
-formed-making f n InPlus = refl
-formed-making f n InMinus = refl
+    pub forms-choice : (d : List ℕ) {o : Opened} → said ≡ Chooses → o ≡ opening true
+        → Forms atoms (λ c l. saidRules c atoms said) (f .helper) (formedSaid f atoms said) (f .making) d
+        (record { making = f .making; rule = o; helper = f .helper; entry = f .entry }) d
+    unfolding saidRules formedSaid
+    forms-choice d e g = rw e (record { adds = λ c l i r. adds-nil (f .making) d; rule = g; helper = refl; entry = refl })
 
-module _ (atoms : List ℕ) {said : Said} (f : Forming) (a : TextAtom) (standing : Standing) (e : said ≡ Atom a standing) where
-  pub forms-atom : {n : ℕ} {g : Forming} {m : Making} {before after : List ℕ} → n ≡ placeOf atoms a → g ≡ formedBy f n standing
-      → Adds (entryRules standing (length atoms) n) (g .making) before m after
-      → Forms (saidRules atoms said) (formedSaid f atoms said) (f .making) before
-      (record { making = m; head = g .head; pos = g .pos; neg = g .neg; entry = g .entry }) after
-  unfolding saidRules formedSaid
-  forms-atom {n} {g} i j adds =
-      let k = j ∙ ap (λ n. formedBy f n standing) i in
-      rw e (record {
-        adds = rw (← i, ← (ap (λ x. x .making) j ∙ formed-making f n standing)) adds;
-        head = ap (λ x. x .head) k;
-        pos = ap (λ x. x .pos) k;
-        neg = ap (λ x. x .neg) k;
-        entry = ap (λ x. x .entry) k;
+    pub forms-atom : (a : TextAtom) (standing : Standing) → said ≡ Atom a standing → Placed atoms said
+        → {n : ℕ} {o : Opened} {b : Bool} {m : Making} {before after : List ℕ} → n ≡ placeOf atoms a → o ≡ openedBy (f .rule) n standing
+        → b ≡ entryBy (f .entry) standing
+        → ((k : ℕ) → f .helper ≡ capped k → n < k → Adds (entryRules standing k n) (f .making) before m after)
+        → Forms atoms (λ c l. saidRules c atoms said) (f .helper) (formedSaid f atoms said) (f .making) before
+        (record { making = m; rule = o; helper = f .helper; entry = b }) after
+    unfolding saidRules formedSaid
+    forms-atom a standing e p {n} i j g adds =
+        let (inside, few) = placed-atom a standing e p in
+        rw e (record {
+          adds = λ c l h r. rw (← i) (adds c (r .helper) (omega arith));
+          rule = j ∙ ap (λ x. openedBy (f .rule) x standing) i;
+          helper = refl;
+          entry = g;
+        })
+
+-- no word that says something moves the next helper
+pub said-helper : (f : Forming) (atoms : List ℕ) (said : Said) → formedSaid f atoms said .helper ≡ f .helper
+unfolding formedSaid
+said-helper f atoms Silent = refl
+said-helper f atoms Chooses = refl
+said-helper f atoms (Atom a standing) = refl
+
+-- the open rule is whole
+module _ (f : Forming) {m : Making} {before after : List ℕ} where
+  pub forms-shut : {h : ℕ} → h ≡ helperBehind (f .helper) (f .rule .free) (f .rule .count)
+      → ((k : ℕ) (l : List ℕ) → Ready k l (f .helper) (f .rule) → Adds (shutRules k l (f .rule)) (f .making) before m after)
+      → Forms [] (λ k l. shutRules k l (f .rule)) (f .helper) (shut f) (f .making) before
+      (record { making = m; rule = f .rule; helper = h; entry = f .entry }) after
+  forms-shut e adds = record { adds = λ c l i r. adds c l r; rule = refl; helper = e; entry = refl }
+
+module _ (next : Due) {atoms : List ℕ} {rules : ℕ → List ℕ → List Rule} {h : ℕ} {g f : Forming} {m : Making} {before mid : List ℕ}
+    (w : Forms atoms rules h g m before f mid) where
+  abbrev more : ℕ → List ℕ → List Rule
+  more c l = rules c l ++ ruleClosed next c l (g .rule)
+
+  pub forms-open : closes next ≡ false → Forms atoms more h (closedBy next g) m before f mid
+  unfolding closedBy ruleClosed
+  forms-open e =
+      let s : closedBy next g ≡ g = b-no _ (shut g) g e in
+      rw s (record {
+        adds = λ c l i r. rw (b-no _ (shutRules c l (g .rule)) [] e, append-nil (rules c l)) (w .adds c l i r);
+        rule = w .rule;
+        helper = w .helper;
+        entry = w .entry;
       })
 
-module _ (next : Due) {l : List Rule} {g f : Forming} {m : Making} {before after : List ℕ} (w : Forms l g m before f after) where
-  pub forms-open : closes next ≡ false → Forms (l ++ ruleClosed next g) g m before f after
-  unfolding ruleClosed
-  forms-open e = rw (b-no _ (ruleBy (g .head) (g .pos) (g .neg) ∷ []) [] e, append-nil l) w
-
-  pub forms-closed : closes next ≡ true → {n : Making} {end : List ℕ}
-      → Adds (ruleBy (f .head) (f .pos) (f .neg) ∷ []) (f .making) after n end
-      → Forms (l ++ ruleClosed next g) g m before (record { making = n; head = f .head; pos = f .pos; neg = f .neg; entry = f .entry }) end
-  unfolding ruleClosed
-  forms-closed e adds =
-      rw (b-yes _ (ruleBy (g .head) (g .pos) (g .neg) ∷ []) [] e)
-      (record {
-        adds = adds-then (w .adds) (rw (w .head, w .pos, w .neg) at adds);
-        head = w .head;
-        pos = w .pos;
-        neg = w .neg;
-        entry = w .entry;
+  pub forms-closed : closes next ≡ true → g .helper ≡ h → {r : Forming} {after : List ℕ}
+      → Forms [] (λ k l. shutRules k l (f .rule)) (f .helper) (shut f) (f .making) mid r after
+      → Forms atoms more h (closedBy next g) m before r after
+  unfolding closedBy ruleClosed
+  forms-closed e same v =
+      let s : closedBy next g ≡ shut g = b-yes _ (shut g) g e in
+      rw s (record {
+        adds = λ c l i r. rw (b-yes _ (shutRules c l (g .rule)) [] e)
+            (adds-then (w .adds c l i r) (rw (w .rule) at (v .adds c l (omega arith) (rw (w .rule, w .helper, same) r))));
+        rule = v .rule ∙ w .rule;
+        helper = v .helper ∙ rw (w .helper, w .rule);
+        entry = v .entry ∙ w .entry;
       })

@@ -23,7 +23,7 @@ same-entry a w x i j =
 
 module _ (len : ℕ) (w : Word) (ws : List Word) (later : Later len ws) where
   pub at-table : (p : Part) (m : ℕ) (t : Token) (ts : List Token) → t ∷ ts ≡ behindRules (p .table) (p .plus) (p .minus) m
-      → NoRule (p .neg) (p .pos) (p .rules) → Sound p
+      → NoRule (p .heads) (p .neg) (p .pos) (p .rules) → Sound p
       → Spelled w t → Spelling ws ts → heard len (Number Table) (w ∷ ws) ≡ says p
   unfolding Proper Rest RestRole Fits FitsRole onNumber onListed with behindRules tableTokens
   at-table p m t ts e f sound is rest = go (p .table) refl
@@ -41,7 +41,7 @@ module _ (len : ℕ) (w : Word) (ws : List Word) (later : Later len ws) where
           (later (Name (x .atom)) (first-one (x .atom) (map (λ e. e .atom) l) s) p m ts (ap (λ k. k ∷ ts) (sym (token-one g)) ∙ e) f sound rest) refl
 
   pub at-name : (a : TextAtom) (p : Part) (m : ℕ) (t : Token) (ts : List Token) → number (a .0) ∷ (t ∷ ts) ≡ behindRules (p .table) (p .plus) (p .minus) m
-      → (a .0 ≡ 0 → ⊥) → NoRule (p .neg) (p .pos) (p .rules) → Sound p
+      → (a .0 ≡ 0 → ⊥) → NoRule (p .heads) (p .neg) (p .pos) (p .rules) → Sound p
       → Spelled w t → Spelling ws ts → heard len (Name a) (w ∷ ws) ≡ says p
   unfolding Proper Rest RestRole Fits FitsRole moveOf with withAtom behindRules tableTokens
   at-name a p m t ts e h f sound is rest = go (p .table) refl
@@ -55,16 +55,16 @@ module _ (len : ℕ) (w : Word) (ws : List Word) (later : Later len ws) where
           let k = tokens-one g in
           let i : a .0 ≡ x .atom .0 = let j = token-one g in cc in
           let s = ap (λ l. every fromOne (map (λ e. e .atom) l)) (sym r) ∙ sound .table in
-          let q : Part = record { pos = p .pos; neg = p .neg; rules = p .rules; table = l; plus = p .plus; minus = p .minus } in
+          let q : Part = record { heads = p .heads; pos = p .pos; neg = p .neg; rules = p .rules; table = l; plus = p .plus; minus = p .minus } in
           heard-one len w ws (Name a) (Number Table) (Atom a InTable) q p refl
           (later (Number Table) tt q m ts (tokens-one k) f
-          (record { neg = sound .neg; pos = sound .pos; rules = sound .rules; table = others-one (x .atom) (map (λ e. e .atom) l) s; plus = sound .plus; minus = sound .minus })
+          (record { heads = sound .heads; neg = sound .neg; pos = sound .pos; rules = sound .rules; headed = sound .headed; table = others-one (x .atom) (map (λ e. e .atom) l) s; plus = sound .plus; minus = sound .minus })
           rest)
-          (ap (λ y. record { pos = p .pos; neg = p .neg; rules = p .rules; table = y ∷ l; plus = p .plus; minus = p .minus })
+          (ap (λ y. record { heads = p .heads; pos = p .pos; neg = p .neg; rules = p .rules; table = y ∷ l; plus = p .plus; minus = p .minus })
           (same-entry a w x i (spelled-name is (token-one k))) ∙ rw r)
 
   pub at-plus-word : (p : Part) (m : ℕ) (t : Token) (ts : List Token) → t ∷ ts ≡ exactly (66 ∷ (43 ∷ [])) ∷ plusTokens (p .plus) (p .minus) m
-      → NoTable (p .neg) (p .pos) (p .rules) (p .table) → Sound p
+      → NoTable (p .heads) (p .neg) (p .pos) (p .rules) (p .table) → Sound p
       → Spelled w t → Spelling ws ts → heard len PlusWord (w ∷ ws) ≡ says p
   unfolding Proper Rest RestRole Fits FitsRole moveOf onSign with
   at-plus-word p m t ts e f sound is rest =
@@ -72,7 +72,7 @@ module _ (len : ℕ) (w : Word) (ws : List Word) (later : Later len ws) where
       (later (Number Plus) tt p m ts (tokens-one e) f sound rest) refl
 
   pub at-minus-word : (p : Part) (m : ℕ) (t : Token) (ts : List Token) → t ∷ ts ≡ exactly (66 ∷ (45 ∷ [])) ∷ minusTokens (p .minus) m
-      → NoPlus (p .neg) (p .pos) (p .rules) (p .table) (p .plus) → Sound p
+      → NoPlus (p .heads) (p .neg) (p .pos) (p .rules) (p .table) (p .plus) → Sound p
       → Spelled w t → Spelling ws ts → heard len MinusWord (w ∷ ws) ≡ says p
   unfolding Proper Rest RestRole Fits FitsRole moveOf onSign with
   at-minus-word p m t ts e f sound is rest =
@@ -80,7 +80,7 @@ module _ (len : ℕ) (w : Word) (ws : List Word) (later : Later len ws) where
       (later (Number Minus) tt p m ts (tokens-one e) f sound rest) refl
 
   pub at-plus : (p : Part) (m : ℕ) (t : Token) (ts : List Token) → t ∷ ts ≡ plusTokens (p .plus) (p .minus) m
-      → NoTable (p .neg) (p .pos) (p .rules) (p .table) → Sound p
+      → NoTable (p .heads) (p .neg) (p .pos) (p .rules) (p .table) → Sound p
       → Spelled w t → Spelling ws ts → heard len (Number Plus) (w ∷ ws) ≡ says p
   unfolding Proper Rest RestRole Fits FitsRole onNumber onListed with withAtom plusTokens atomTokens
   at-plus p m t ts e f sound is rest = go (p .plus) refl
@@ -93,15 +93,15 @@ module _ (len : ℕ) (w : Word) (ws : List Word) (later : Later len ws) where
       go (a ∷ l) r =
           let g = e ∙ ap (λ l. plusTokens l (p .minus) m) r in
           let s = ap (every fromOne) (sym r) ∙ sound .plus in
-          let q : Part = record { pos = p .pos; neg = p .neg; rules = p .rules; table = p .table; plus = l; minus = p .minus } in
+          let q : Part = record { heads = p .heads; pos = p .pos; neg = p .neg; rules = p .rules; table = p .table; plus = l; minus = p .minus } in
           heard-one len w ws (Number Plus) (Number Plus) (Atom a InPlus) q p
           (listed-move w Plus MinusWord (Number Plus) (Atom a InPlus) (a .0) refl (first-one a l s) (spelled-value is (token-one g)))
           (later (Number Plus) tt q m ts (tokens-one g) f
-          (record { neg = sound .neg; pos = sound .pos; rules = sound .rules; table = sound .table; plus = others-one a l s; minus = sound .minus })
+          (record { heads = sound .heads; neg = sound .neg; pos = sound .pos; rules = sound .rules; headed = sound .headed; table = sound .table; plus = others-one a l s; minus = sound .minus })
           rest) (rw r)
 
   pub at-minus : (p : Part) (m : ℕ) (t : Token) (ts : List Token) → t ∷ ts ≡ minusTokens (p .minus) m
-      → NoPlus (p .neg) (p .pos) (p .rules) (p .table) (p .plus) → Sound p
+      → NoPlus (p .heads) (p .neg) (p .pos) (p .rules) (p .table) (p .plus) → Sound p
       → Spelled w t → Spelling ws ts → heard len (Number Minus) (w ∷ ws) ≡ says p
   unfolding Proper Rest RestRole Fits FitsRole onNumber onListed with withAtom minusTokens atomTokens
   at-minus p m t ts e f sound is rest = go (p .minus) refl
@@ -114,15 +114,15 @@ module _ (len : ℕ) (w : Word) (ws : List Word) (later : Later len ws) where
       go (a ∷ l) r =
           let g = e ∙ ap (λ l. minusTokens l m) r in
           let s = ap (every fromOne) (sym r) ∙ sound .minus in
-          let q : Part = record { pos = p .pos; neg = p .neg; rules = p .rules; table = p .table; plus = p .plus; minus = l } in
+          let q : Part = record { heads = p .heads; pos = p .pos; neg = p .neg; rules = p .rules; table = p .table; plus = p .plus; minus = l } in
           heard-one len w ws (Number Minus) (Number Minus) (Atom a InMinus) q p
           (listed-move w Minus (Number Models) (Number Minus) (Atom a InMinus) (a .0) refl (first-one a l s) (spelled-value is (token-one g)))
           (later (Number Minus) tt q m ts (tokens-one g) f
-          (record { neg = sound .neg; pos = sound .pos; rules = sound .rules; table = sound .table; plus = sound .plus; minus = others-one a l s })
+          (record { heads = sound .heads; neg = sound .neg; pos = sound .pos; rules = sound .rules; headed = sound .headed; table = sound .table; plus = sound .plus; minus = others-one a l s })
           rest) (rw r)
 
   pub at-models : (p : Part) (m : ℕ) (t : Token) (ts : List Token) → t ∷ ts ≡ number m ∷ []
-      → NoMinus (p .neg) (p .pos) (p .rules) (p .table) (p .plus) (p .minus) → Sound p
+      → NoMinus (p .heads) (p .neg) (p .pos) (p .rules) (p .table) (p .plus) (p .minus) → Sound p
       → Spelled w t → Spelling ws ts → heard len (Number Models) (w ∷ ws) ≡ says p
   unfolding Proper Rest Fits FitsRole onNumber with
   at-models p m t ts e f sound is rest =

@@ -6,6 +6,7 @@ use mathlib.Core.Bool.{Bool, true, false}
 use mathlib.Core.List.{List, [], _++_}
 use Prim.Native.Nat.{ℕ, _+_, _-_, _≤_, _<_}
 use native.Mathlib.Nat.{sub-zero}
+use native.Mathlib.Numerals.{add-one}
 use native.Mathlib.Omega.{arith}
 use lib.ListN.{length, take, drop, replicate, length-replicate, length-append}
 use lib.Seq.{take-all, take-append-le, take-length}
@@ -31,10 +32,11 @@ use Rattle.lparse.specs.declared.gather.Collected.the-variants.{Atoms, T
 use Rattle.lparse.specs.declared.form.Forming.{Forming}
 use Rattle.lparse.specs.Reading.{Part, Heard, says, wrong}
 use Rattle.lparse.specs.Collect.{textIn, textOf, numbersOf, told, collected, collectHeard, collectOf}
+use Rattle.lparse.specs.Opened.{capped}
 use Rattle.lparse.specs.Make.{counted, Readable, Complete}
 use Rattle.lparse.specs.Import.{only, laidOf, handLaid, handOver, importHeard, importOf}
-use Rattle.lparse.proofs.Collecting.{numbers-length}
-use Rattle.lparse.proofs.Tabled.{count-same}
+use Rattle.lparse.proofs.Noting.{numbers-length}
+use Rattle.lparse.proofs.Capped.{capped-least, capped-on}
 
 -- ---- the limits
 
@@ -73,8 +75,8 @@ module _ (t : Text) (room : ℕ) {m : Making} {draft : List ℕ} (made : Made (m
   pub laid-over : m .fits ≡ false → Short ≡ laidOf (madeBook t) room
   laid-over e = no-fit (madeBook t) room (over-small t (made-over made e))
 
-  pub laid-many : {n : ℕ} → n ≡ madeBook t .atoms → 255 < n → Short ≡ laidOf (madeBook t) room
-  laid-many e h = no-fit (madeBook t) room (over-atoms t (rw e at h))
+  pub laid-many : {n : ℕ} → n ≡ capped (madeBook t .atoms) → 255 < n → Short ≡ laidOf (madeBook t) room
+  laid-many e h = no-fit (madeBook t) room (over-atoms t (capped-least (madeBook t .atoms) {m = 256} (rw e at h)))
 
   module _ (fine : m .fits ≡ true) {atoms : ℕ} (same : atoms ≡ madeBook t .atoms) (few : atoms ≤ 255) where
     fit : fitsIn (madeBook t) ≡ true
@@ -93,19 +95,18 @@ pub blank : length {A = ℕ} (replicate bookBytes 0) ≡ bookBytes
 blank = length-replicate {A = ℕ} bookBytes 0
 
 -- how many atoms the book has
-module _ (n : ℕ) {entry : Bool} where
-  pub count-entry : entry ≡ true → n + 1 ≡ counted entry n []
+module _ (k : ℕ) {n : ℕ} {entry : Bool} (h : n ≡ capped k) where
+  pub count-entry : entry ≡ true → {m : ℕ} → m ≡ capped (n + 1) → m ≡ capped (counted entry k [])
   unfolding counted
-  count-entry e = rw e (omega arith)
+  count-entry e f = rw e (f ∙ ap (λ x. capped (x + 1)) h ∙ capped-on k 1 ∙ ap capped (add-one k))
 
-  pub count-plain : entry ≡ false → n ≡ counted entry n []
+  pub count-plain : entry ≡ false → n ≡ capped (counted entry k [])
   unfolding counted madeAtoms
-  count-plain e = rw e
+  count-plain e = rw e h
 
-pub count-complete : {s atoms draft : List ℕ} (r : Readable s atoms) {f : Forming} → Complete (textOf (r .part)) f draft → {n : ℕ}
-    → n ≡ counted (f .entry) (length atoms) [] → n ≡ madeBook (textOf (r .part)) .atoms
-count-complete {atoms = atoms} r {f} c e =
-    e ∙ ap (λ k. counted (f .entry) k []) (count-same (textOf (r .part)) atoms (r .same)) ∙ sym (c .atoms)
+pub count-complete : {t : Text} {f : Forming} {draft : List ℕ} → Complete t f draft → {n : ℕ}
+    → ((k : ℕ) → f .helper ≡ capped k → n ≡ capped (counted (f .entry) k [])) → n ≡ capped (madeBook t .atoms)
+count-complete c e = e _ (c .helper) ∙ ap capped (sym (c .atoms))
 
 -- the book of the rules and of so many atoms is the book made
 pub finished-made : (t : Text) {atoms n : ℕ} {draft : List ℕ} → atoms ≡ madeBook t .atoms

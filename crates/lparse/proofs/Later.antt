@@ -11,15 +11,17 @@ use Rattle.lparse.specs.declared.due.Said.{Said}
 use Rattle.lparse.specs.declared.due.Move.the-variants.{Goes}
 use Rattle.lparse.specs.Words.{Word}
 use Rattle.lparse.specs.Reading.{moveOf, Part, with, says, adding, onMove, heard}
-use Rattle.lparse.specs.Says.{Token, Spelling, fromOne}
+use Rattle.lparse.specs.Says.{Token, Spelling, fromOne, headed}
 use Rattle.lparse.proofs.Phases.{Fits}
 use Rattle.lparse.proofs.Spelled.{Rest}
 
--- no atom is 0
+-- no atom is 0, and no choice is without heads
 pub record Sound (p : Part) : Type 0 where
+  pub heads : every fromOne (p .heads) ≡ true
   pub neg : every fromOne (p .neg) ≡ true
   pub pos : every fromOne (p .pos) ≡ true
   pub rules : every fromOne (rulesAtoms (p .rules)) ≡ true
+  pub headed : every headed (p .rules) ≡ true
   pub table : every fromOne (map (λ e. e .atom) (p .table)) ≡ true
   pub plus : every fromOne (p .plus) ≡ true
   pub minus : every fromOne (p .minus) ≡ true

@@ -9,9 +9,12 @@ pub mod HeardRules
 pub mod HeardLists
 pub mod Heard
 pub mod Said
+pub mod Noting
 pub mod Collecting
 pub mod Counted
+pub mod Capped
 pub mod Entries
+pub mod HeadRules
 pub mod Formed
 pub mod Remaining
 pub mod Tabled
@@ -21,3 +24,4 @@ pub mod Walked
 pub mod RulesWalked
 pub mod Rows
 pub mod Names
+pub mod FreeHeads

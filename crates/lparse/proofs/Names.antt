@@ -18,22 +18,22 @@ use Rattle.imported.proofs.Numbers.{Mentioned, distinct-of, number-one}
 use Rattle.imported.proofs.Lengths.{distinct-by}
 use Rattle.lparse.specs.declared.due.Due.{Due}
 use Rattle.lparse.specs.declared.due.Standing.{Standing}
-use Rattle.lparse.specs.declared.due.Standing.the-variants.{Head as InHead, Negative as InNegative, Positive as InPositive, Table as InTable, Plus as InPlus, Minus as InMinus}
+use Rattle.lparse.specs.declared.due.Standing.the-variants.{Head as InHead, Free as InFree, Negative as InNegative, Positive as InPositive, Table as InTable, Plus as InPlus, Minus as InMinus}
 use Rattle.lparse.specs.declared.due.Said.{Said}
-use Rattle.lparse.specs.declared.due.Said.the-variants.{Nothing as Silent, Atom}
+use Rattle.lparse.specs.declared.due.Said.the-variants.{Nothing as Silent, Choice as Chooses, Atom}
 use Rattle.lparse.specs.declared.step.Step.{Step}
 use Rattle.lparse.specs.declared.step.Step.the-variants.{Goes as Takes, Format as WrongFormat, Kind as WrongKind, Done}
 use Rattle.lparse.specs.declared.named.Whose.the-variants.{Atom as AtomOf, Nothing as Nobody}
 use Rattle.lparse.specs.declared.named.Name.{Name}
 use Rattle.lparse.specs.declared.named.Name.the-variants.{At, Nothing as Nameless}
 use Rattle.lparse.specs.Words.{endOf, Word, wordAt}
-use Rattle.lparse.specs.Reading.{textAtom, stepAt, Entry, Part, with, withAtom, Heard, says, wrong, adding, heardAt}
+use Rattle.lparse.specs.Reading.{textAtom, stepAt, Entry, Part, with, withAtom, withChoice, Heard, says, wrong, adding, heardAt}
 use Rattle.lparse.specs.Collect.{numbersOf}
 use Rattle.lparse.specs.Forming.{placeOf}
 use Rattle.lparse.specs.Names.{whoseIn, whoseOf, nthIn, nameHeard, nameOf, inTable, isNamed, foundBy, leftBy}
 use Rattle.lparse.specs.Says.{Written, Says}
 use Rattle.lparse.proofs.Said.{says-read}
-use Rattle.lparse.proofs.Collecting.{numbers-atoms}
+use Rattle.lparse.proofs.Noting.{numbers-atoms}
 use Rattle.lparse.proofs.Reading.{byStep, heard-step, step-ahead, took-ahead, took-end}
 
 -- ---- the atom with a number
@@ -110,6 +110,7 @@ module _ (w : Word) (a : TextAtom) (from end : ℕ) (place : w .place ≡ from) 
       ≡ orElse (foundBy found (isNamed (Atom c standing) a) left from end) (nthIn (p .table) a (leftBy left (isNamed (Atom c standing) a)))
   unfolding withAtom isNamed inTable leftBy ifb
   atom-turn c InHead p found left = turn-none found left from end _
+  atom-turn c InFree p found left = turn-none found left from end _
   atom-turn c InNegative p found left = turn-none found left from end _
   atom-turn c InPositive p found left = turn-none found left from end _
   atom-turn c InTable p found left = entry-turn c (p .table) found left (sameText a c) refl
@@ -119,10 +120,12 @@ module _ (w : Word) (a : TextAtom) (from end : ℕ) (place : w .place ≡ from) 
   named-turn : (said : Said) (h : Heard) (found : Name) (left : ℕ)
       → namedBy found left (adding w said h) a
       ≡ namedBy (foundBy found (isNamed said a) left from end) (leftBy left (isNamed said a)) h a
-  unfolding namedBy adding with isNamed leftBy ifb
+  unfolding namedBy adding with withChoice isNamed leftBy ifb
   named-turn Silent (says p) found left = turn-none found left from end _
+  named-turn Chooses (says p) found left = turn-none found left from end _
   named-turn (Atom c standing) (says p) found left = atom-turn c standing p found left
   named-turn Silent (wrong i at) found left = refl
+  named-turn Chooses (wrong i at) found left = refl
   named-turn (Atom c standing) (wrong i at) found left = refl
 
 -- ---- the functions of one word
@@ -136,9 +139,14 @@ module _ (a c : TextAtom) (standing : Standing) {said : Said} (e : said ≡ Atom
   unfolding isNamed sameText
   named-table g = rw (e, ← f) (sym (b-yes _ _ _ g))
 
-pub named-silent : (a : TextAtom) {said : Said} → said ≡ Silent → false ≡ isNamed said a
-unfolding isNamed
-named-silent a e = rw e
+module _ (a : TextAtom) {said : Said} where
+  pub named-silent : said ≡ Silent → false ≡ isNamed said a
+  unfolding isNamed
+  named-silent e = rw e
+
+  pub named-choice : said ≡ Chooses → false ≡ isNamed said a
+  unfolding isNamed
+  named-choice e = rw e
 
 module _ (named : Bool) (left from end : ℕ) {found : Name} where
   pub found-stays : {i j : ℕ} → found ≡ At i j → found ≡ foundBy found named left from end

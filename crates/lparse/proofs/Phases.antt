@@ -1,5 +1,5 @@
--- What the rest of a text can say depends on what is due: in a body so many atoms of each part are left, behind the rules none of a rule
--- comes any more, behind the table no entry, and behind B+ none of it.
+-- What the rest of a text can say depends on what is due: so many heads of a choice are left, in a body so many atoms of each part,
+-- behind the rules none of a rule comes any more, behind the table no entry, and behind B+ none of it.
 use mathlib.Core.Path.{_≡_, refl, ap, sym, _∙_}
 use mathlib.Core.List.{List, [], _∷_}
 use Prim.Native.Nat.{ℕ, suc, _+_, _-_}
@@ -12,24 +12,25 @@ use Rattle.decimal.specs.declared.Digits.the-variants.{Value, Nothing}
 use Rattle.imported.specs.declared.TextAtom.{TextAtom}
 use Rattle.imported.specs.Text.{TextRule}
 use Rattle.lparse.specs.declared.due.Role.{Role}
-use Rattle.lparse.specs.declared.due.Role.the-variants.{Kind, Head, Literals, Negatives, Negative, Positive, Table, Plus, Minus, Models}
+use Rattle.lparse.specs.declared.due.Role.the-variants.{Kind, Head, HeadCount, Heads, Literals, Negatives, Negative, Positive, Table, Plus, Minus, Models}
 use Rattle.lparse.specs.declared.due.Due.{Due}
 use Rattle.lparse.specs.declared.due.Due.the-variants.{Number, Name, PlusWord, MinusWord, End}
 use Rattle.lparse.specs.declared.due.Said.{Said}
 use Rattle.lparse.specs.declared.due.Move.{Move}
 use Rattle.lparse.specs.declared.due.Move.the-variants.{Goes, Format, Kind as OtherKind}
 use Rattle.lparse.specs.Words.{Word}
-use Rattle.lparse.specs.Reading.{bodyOf, onKind, onAtom, onListed, onNegatives, onNumber, numberIn, onValue, onSign, moveOf, signed, whole, Entry, Part, nothingMore, with, withAtom, Heard, says, wrong, adding, onMove, heard}
+use Rattle.lparse.specs.Reading.{bodyOf, headsOf, onKind, onAtom, onListed, onHeadCount, onNegatives, onNumber, numberIn, onValue, onSign, moveOf, signed, whole, Entry, Part, nothingMore, with, withAtom, withChoice, Heard, says, wrong, adding, onMove, heard}
 
--- m negatives and n positives of the open rule are left
-pub record Open (m n : ℕ) (neg pos : List TextAtom) : Type 0 where
+-- m negatives and n positives of the open rule are left, and no head of a choice
+pub record Open (m n : ℕ) (heads neg pos : List TextAtom) : Type 0 where
+  pub no-head : heads ≡ []
   pub negatives : length neg ≡ m
   pub positives : length pos ≡ n
 
 -- nothing of a rule is left; and no entry of the table; and none of B+; and none of B-
-module _ (neg pos : List TextAtom) (rules : List TextRule) where
+module _ (heads neg pos : List TextAtom) (rules : List TextRule) where
   pub record NoRule : Type 0 where
-    pub shut : Open 0 0 neg pos
+    pub shut : Open 0 0 heads neg pos
     pub no-rule : rules ≡ []
 
   module _ (table : List Entry) where
@@ -47,32 +48,39 @@ module _ (neg pos : List TextAtom) (rules : List TextRule) where
         pub no-minus : minus ≡ []
 
 unfoldable pub FitsRole : Role → Part → Type 0
-FitsRole Kind p = Open 0 0 (p .neg) (p .pos)
-FitsRole Head p = Open 0 0 (p .neg) (p .pos)
-FitsRole Literals p = Unit {0}
-FitsRole (Negatives n) p = length (p .neg) + length (p .pos) ≡ n
-FitsRole (Negative m n) p = Open (suc m) n (p .neg) (p .pos)
-FitsRole (Positive n) p = Open 0 (suc n) (p .neg) (p .pos)
-FitsRole Table p = NoRule (p .neg) (p .pos) (p .rules)
-FitsRole Plus p = NoTable (p .neg) (p .pos) (p .rules) (p .table)
-FitsRole Minus p = NoPlus (p .neg) (p .pos) (p .rules) (p .table) (p .plus)
-FitsRole Models p = NoMinus (p .neg) (p .pos) (p .rules) (p .table) (p .plus) (p .minus)
+FitsRole Kind p = Open 0 0 (p .heads) (p .neg) (p .pos)
+FitsRole Head p = Open 0 0 (p .heads) (p .neg) (p .pos)
+FitsRole HeadCount p = length (p .heads) ≡ 0 → ⊥
+FitsRole (Heads n) p = length (p .heads) ≡ suc n
+FitsRole Literals p = p .heads ≡ []
+FitsRole (Negatives n) p = (p .heads ≡ []) × (length (p .neg) + length (p .pos) ≡ n)
+FitsRole (Negative m n) p = Open (suc m) n (p .heads) (p .neg) (p .pos)
+FitsRole (Positive n) p = Open 0 (suc n) (p .heads) (p .neg) (p .pos)
+FitsRole Table p = NoRule (p .heads) (p .neg) (p .pos) (p .rules)
+FitsRole Plus p = NoTable (p .heads) (p .neg) (p .pos) (p .rules) (p .table)
+FitsRole Minus p = NoPlus (p .heads) (p .neg) (p .pos) (p .rules) (p .table) (p .plus)
+FitsRole Models p = NoMinus (p .heads) (p .neg) (p .pos) (p .rules) (p .table) (p .plus) (p .minus)
 
 unfoldable pub Fits : Due → Part → Type 0
 Fits (Number role) p = FitsRole role p
-Fits (Name a) p = NoRule (p .neg) (p .pos) (p .rules)
-Fits PlusWord p = NoTable (p .neg) (p .pos) (p .rules) (p .table)
-Fits MinusWord p = NoPlus (p .neg) (p .pos) (p .rules) (p .table) (p .plus)
-Fits End p = NoMinus (p .neg) (p .pos) (p .rules) (p .table) (p .plus) (p .minus)
+Fits (Name a) p = NoRule (p .heads) (p .neg) (p .pos) (p .rules)
+Fits PlusWord p = NoTable (p .heads) (p .neg) (p .pos) (p .rules) (p .table)
+Fits MinusWord p = NoPlus (p .heads) (p .neg) (p .pos) (p .rules) (p .table) (p .plus)
+Fits End p = NoMinus (p .heads) (p .neg) (p .pos) (p .rules) (p .table) (p .plus) (p .minus)
 
-pub body-open : (m n : ℕ) (p : Part) → FitsRole (bodyOf m n) p → Open m n (p .neg) (p .pos)
+pub body-open : (m n : ℕ) (p : Part) → FitsRole (bodyOf m n) p → Open m n (p .heads) (p .neg) (p .pos)
 unfolding bodyOf FitsRole
 body-open m n p =
-    eq-either (λ r. FitsRole r p → Open m n (p .neg) (p .pos)) m 0 _ _
-    (λ e. eq-either (λ r. FitsRole r p → Open m n (p .neg) (p .pos)) n 0 _ _
-    (λ f o. record { negatives = o .negatives ∙ sym e; positives = o .positives ∙ sym f })
-    (λ f o. record { negatives = o .negatives ∙ sym e; positives = omega (arith, o .positives) }))
-    (λ e o. record { negatives = omega (arith, o .negatives); positives = o .positives })
+    eq-either (λ r. FitsRole r p → Open m n (p .heads) (p .neg) (p .pos)) m 0 _ _
+    (λ e. eq-either (λ r. FitsRole r p → Open m n (p .heads) (p .neg) (p .pos)) n 0 _ _
+    (λ f o. record { no-head = o .no-head; negatives = o .negatives ∙ sym e; positives = o .positives ∙ sym f })
+    (λ f o. record { no-head = o .no-head; negatives = o .negatives ∙ sym e; positives = omega (arith, o .positives) }))
+    (λ e o. record { no-head = o .no-head; negatives = omega (arith, o .negatives); positives = o .positives })
+
+pub heads-left : (n : ℕ) (p : Part) → FitsRole (headsOf n) p → length (p .heads) ≡ n
+unfolding headsOf FitsRole
+heads-left n p =
+    eq-either (λ r. FitsRole r p → length (p .heads) ≡ n) n 0 _ _ (λ e f. ap length f ∙ sym e) (λ e f. omega (arith, f))
 
 -- what is due before a word fits what it says and what fits behind it
 unfoldable Back : Word → Due → Move → Type 0
@@ -82,22 +90,29 @@ Back w due OtherKind = Unit {0}
 
 module _ (w : Word) where
   back-number : (role : Role) (n : ℕ) → Back w (Number role) (onNumber role n)
-  unfolding Back Fits FitsRole onNumber onKind onAtom onListed onNegatives with withAtom
+  unfolding Back Fits FitsRole onNumber onKind onAtom onListed onHeadCount onNegatives with withAtom withChoice
   back-number Kind n =
       eq-either (Back w (Number Kind)) n 0 _ _ (λ e p f. f .shut) (λ e.
-      eq-either (Back w (Number Kind)) n 1 _ _ (λ g p f. f) (λ g. tt))
+      eq-either (Back w (Number Kind)) n 1 _ _ (λ g p f. f) (λ g.
+      eq-either (Back w (Number Kind)) n 3 _ _ (λ i p f. record { no-head = refl; negatives = refl; positives = refl }) (λ i. tt)))
   back-number Head n =
-      eq-either (Back w (Number Head)) n 0 _ _ (λ e. tt) (λ e p f. record { negatives = refl; positives = refl })
-  back-number Literals n = λ p f. tt
+      eq-either (Back w (Number Head)) n 0 _ _ (λ e. tt) (λ e p f. record { no-head = refl; negatives = refl; positives = refl })
+  back-number HeadCount n =
+      eq-either (Back w (Number HeadCount)) n 0 _ _ (λ e. tt) (λ e p f z. e (sym (heads-left n p f) ∙ z))
+  back-number (Heads left) n =
+      eq-either (Back w (Number (Heads left))) n 0 _ _ (λ e. tt) (λ e p f. ap suc (heads-left left p f))
+  back-number Literals n = λ p f. f .0
   back-number (Negatives l) n =
       lt-either (Back w (Number (Negatives l))) l n _ _ (λ h. tt)
-      (λ h p f. let o = body-open n (l - n) p f in omega (arith, o .negatives, o .positives))
+      (λ h p f. let o = body-open n (l - n) p f in (o .no-head, omega (arith, o .negatives, o .positives)))
   back-number (Negative m q) n =
       eq-either (Back w (Number (Negative m q))) n 0 _ _ (λ e. tt)
-      (λ e p f. let o = body-open m q p f in record { negatives = ap suc (o .negatives); positives = o .positives })
+      (λ e p f. let o = body-open m q p f in
+      record { no-head = o .no-head; negatives = ap suc (o .negatives); positives = o .positives })
   back-number (Positive q) n =
       eq-either (Back w (Number (Positive q))) n 0 _ _ (λ e. tt)
-      (λ e p f. let o = body-open 0 q p f in record { negatives = o .negatives; positives = ap suc (o .positives) })
+      (λ e p f. let o = body-open 0 q p f in
+      record { no-head = o .no-head; negatives = o .negatives; positives = ap suc (o .positives) })
   back-number Table n = eq-either (Back w (Number Table)) n 0 _ _ (λ e p f. f .behind-rules) (λ e p f. f)
   back-number Plus n = eq-either (Back w (Number Plus)) n 0 _ _ (λ e p f. f .behind-table) (λ e p f. f)
   back-number Minus n = eq-either (Back w (Number Minus)) n 0 _ _ (λ e p f. f .behind-plus) (λ e p f. f)
@@ -143,7 +158,7 @@ fits-end len End p e =
       behind-plus = record {
         behind-table = record {
           behind-rules = record {
-            shut = record { negatives = refl; positives = refl };
+            shut = record { no-head = refl; negatives = refl; positives = refl };
             no-rule = refl;
           };
           no-entry = refl;

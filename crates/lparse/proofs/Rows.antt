@@ -16,7 +16,7 @@ use Rattle.decimal.specs.declared.Digits.{Digits}
 use Rattle.decimal.specs.declared.Digits.the-variants.{Value, Nothing}
 use Rattle.imported.specs.Making.{madeBook, fitsIn}
 use Rattle.lparse.specs.declared.due.Role.{Role}
-use Rattle.lparse.specs.declared.due.Role.the-variants.{Kind, Head, Literals, Negatives, Negative, Positive, Table, Plus, Minus, Models}
+use Rattle.lparse.specs.declared.due.Role.the-variants.{Kind, Head, HeadCount, Heads, Literals, Negatives, Negative, Positive, Table, Plus, Minus, Models}
 use Rattle.lparse.specs.declared.due.Due.{Due}
 use Rattle.lparse.specs.declared.due.Due.the-variants.{Number, Name, PlusWord, MinusWord, End}
 use Rattle.lparse.specs.declared.due.Move.{Move}
@@ -24,7 +24,7 @@ use Rattle.lparse.specs.declared.due.Move.the-variants.{Goes, Format, Ki
 use Rattle.lparse.specs.declared.importer.Laid.{Laid}
 use Rattle.lparse.specs.declared.importer.Laid.the-variants.{Book as LaidBook, NoFit as Short}
 use Rattle.lparse.specs.Words.{Word, words}
-use Rattle.lparse.specs.Reading.{onKind, onAtom, onListed, onNegatives, onNumber, numberIn, onValue, signed, onSign, moveOf, whole, nothingMore, Heard, says, wrong, onMove, heard, heardAt}
+use Rattle.lparse.specs.Reading.{onKind, onAtom, onListed, onHeadCount, onNegatives, onNumber, numberIn, onValue, signed, onSign, moveOf, whole, nothingMore, Heard, says, wrong, onMove, heard, heardAt}
 use Rattle.lparse.specs.Collect.{textIn, textOf}
 use Rattle.lparse.specs.Says.{Written, textSaid, Says}
 use Rattle.lparse.specs.Import.{laidOf, handLaid, bookGiven, importHeard, importOf}
@@ -54,14 +54,17 @@ begins-walked {ws} (more, t, s) = says-walked 0 kind ws more (heardAs t) (words-
 unfoldable Other : Due → List ℕ → Move → Type 0
 Other due l (Goes next said) = Unit {0}
 Other due l Format = Unit {0}
-Other due l OtherKind = (due ≡ kind) × ((n : ℕ) × (numberIn l ≡ Value n) × (n ≡ 0 → ⊥) × (n ≡ 1 → ⊥))
+Other due l OtherKind = (due ≡ kind) × ((n : ℕ) × (numberIn l ≡ Value n) × (n ≡ 0 → ⊥) × (n ≡ 1 → ⊥) × (n ≡ 3 → ⊥))
 
 module _ (l : List ℕ) where
   other-number : (role : Role) (n : ℕ) → numberIn l ≡ Value n → Other (Number role) l (onNumber role n)
-  unfolding Other onNumber onKind onAtom onListed onNegatives
+  unfolding Other onNumber onKind onAtom onListed onHeadCount onNegatives
   other-number Kind n v =
-      eq-either (Other kind l) n 0 _ _ (λ e. tt) (λ e. eq-either (Other kind l) n 1 _ _ (λ f. tt) (λ f. (refl, (n, v, e, f))))
+      eq-either (Other kind l) n 0 _ _ (λ e. tt) (λ e. eq-either (Other kind l) n 1 _ _ (λ f. tt)
+      (λ f. eq-either (Other kind l) n 3 _ _ (λ g. tt) (λ g. (refl, (n, v, e, f, g)))))
   other-number Head n v = eq-either (Other (Number Head) l) n 0 _ _ (λ e. tt) (λ e. tt)
+  other-number HeadCount n v = eq-either (Other (Number HeadCount) l) n 0 _ _ (λ e. tt) (λ e. tt)
+  other-number (Heads m) n v = eq-either (Other (Number (Heads m)) l) n 0 _ _ (λ e. tt) (λ e. tt)
   other-number Literals n v = tt
   other-number (Negatives m) n v = lt-either (Other (Number (Negatives m)) l) m n _ _ (λ e. tt) (λ e. tt)
   other-number (Negative i j) n v = eq-either (Other (Number (Negative i j)) l) n 0 _ _ (λ e. tt) (λ e. tt)
@@ -87,13 +90,13 @@ module _ (l : List ℕ) where
 other-told : {ws : List Word} {w : Word} {end : Due} → Walked kind ws end → moveOf end (w .bytes) ≡ OtherKind → OtherType ws w
 unfolding Other
 other-told {ws} {w} {end} k m =
-    let (e, (n, v, zero, one)) = rw m at (other (w .bytes) end) in
-    record { behind = walked-rules ws (rw e at k); number = n; read = v; not-closing = zero; not-basic = one }
+    let (e, (n, v, zero, one, three)) = rw m at (other (w .bytes) end) in
+    record { behind = walked-rules ws (rw e at k); number = n; read = v; not-closing = zero; not-basic = one; not-choice = three }
 
 other-move : {ws : List Word} {w : Word} → OtherType ws w → Walked kind ws kind × (moveOf kind (w .bytes) ≡ OtherKind)
 unfolding onNumber onKind
 other-move {ws} {w} o =
-    (rules-walked ws (o .behind), number-move w Kind (o .number) (o .read) ∙ eq-no _ _ _ _ (o .not-closing) ∙ eq-no _ _ _ _ (o .not-basic))
+    (rules-walked ws (o .behind), number-move w Kind (o .number) (o .read) ∙ eq-no _ _ _ _ (o .not-closing) ∙ eq-no _ _ _ _ (o .not-basic) ∙ eq-no _ _ _ _ (o .not-choice))
 
 -- ---- what is heard of a text that is refused
 

@@ -7,28 +7,30 @@ use Prim.Native.Nat.{ℕ, suc, _+_, _-_}
 use native.Mathlib.Omega.{arith}
 use lib.ListN.{length, length-append}
 use Rattle.meaning.specs.Sets.{every}
+use Rattle.meaning.proofs.Tests.{and-left, and-right}
 use Rattle.meaning.proofs.Choice.{b-either, lt-either, eq-either, eq-yes, eq-no, lt-no}
 use Rattle.decimal.specs.declared.Digits.{Digits}
 use Rattle.decimal.specs.declared.Digits.the-variants.{Value, Nothing}
 use Rattle.imported.specs.Making.{ruleAtoms, rulesAtoms, mentioned}
 use Rattle.imported.specs.declared.TextAtom.{TextAtom}
-use Rattle.imported.specs.Text.{TextRule, basic}
+use Rattle.imported.specs.Text.{TextRule, basic, choice}
 use Rattle.lparse.specs.declared.due.Role.{Role}
-use Rattle.lparse.specs.declared.due.Role.the-variants.{Kind, Head, Literals, Negatives, Negative, Positive, Table, Plus, Minus, Models}
+use Rattle.lparse.specs.declared.due.Role.the-variants.{Kind, Head, HeadCount, Heads, Literals, Negatives, Negative, Positive, Table, Plus, Minus, Models}
 use Rattle.lparse.specs.declared.due.Due.{Due}
 use Rattle.lparse.specs.declared.due.Due.the-variants.{Number, Name, PlusWord, MinusWord, End}
-use Rattle.lparse.specs.declared.due.Standing.the-variants.{Head as InHead, Negative as InNegative, Positive as InPositive}
+use Rattle.lparse.specs.declared.due.Standing.the-variants.{Head as InHead, Free as InFree, Negative as InNegative, Positive as InPositive}
 use Rattle.lparse.specs.declared.due.Move.{Move}
 use Rattle.lparse.specs.declared.due.Move.the-variants.{Goes, Format, Kind as OtherKind}
 use Rattle.lparse.specs.Words.{Word}
-use Rattle.lparse.specs.Reading.{bodyOf, onKind, onAtom, onListed, onNegatives, onNumber, numberIn, onValue, signed, onSign, moveOf, Part, nothingMore, with, withAtom, says, heard}
-use Rattle.lparse.specs.Says.{Token, number, atomTokens, rulesTokens, tableTokens, minusTokens, plusTokens, behindRules, tokensOf, Spelling, none, more, fromOne}
+use Rattle.lparse.specs.Reading.{bodyOf, headsOf, onKind, onAtom, onListed, onHeadCount, onNegatives, onNumber, numberIn, onValue, signed, onSign, moveOf, Part, nothingMore, with, withAtom, withChoice, says, heard}
+use Rattle.lparse.specs.Says.{Token, number, atomTokens, rulesTokens, tableTokens, minusTokens, plusTokens, behindRules, tokensOf, Spelling, none, more, fromOne, headed}
 use Rattle.lparse.specs.Rows.{RuleWords}
-use Rattle.lparse.proofs.Spelled.{head-tokens}
+use Rattle.lparse.proofs.Spelled.{literalsBefore, head-tokens, choice-tokens}
 use Rattle.lparse.proofs.Tokens.{first-one, others-one, every-left, every-right, spelled-value, number-move, atom-move}
 use Rattle.lparse.proofs.Later.{heard-one}
+use Rattle.lparse.proofs.HeardRules.{some-head}
 use Rattle.lparse.proofs.Said.{read-words}
-use Rattle.lparse.proofs.Walked.{Walked, here, on, body-none, body-positive, body-negative, closing, rules-closed}
+use Rattle.lparse.proofs.Walked.{Walked, here, on, heads-none, heads-some, body-none, body-positive, body-negative, closing, rules-closed}
 
 -- ---- whole rules are read from type to type
 
@@ -44,31 +46,59 @@ module _ (ts : List Token) (end : Due) (later : (ws : List Word) → Spelling ws
       (on (atom-move w (Negative (length neg) (length pos)) (bodyOf (length neg) (length pos)) InNegative (a .0) refl (first-one a neg e) (spelled-value is refl))
       (body-walked neg pos (others-one a neg e) f s))
 
-  rule-walked : (a : TextAtom) (pos neg : List TextAtom) → every fromOne (a ∷ (neg ++ pos)) ≡ true → {ws : List Word}
-      → Spelling ws (number 1 ∷ (number (a .0) ∷ (number (length neg + length pos) ∷ (number (length neg) ∷ (atomTokens neg ++ (atomTokens pos ++ ts))))))
-      → Walked (Number Kind) ws end
-  unfolding onNumber onKind onNegatives
-  rule-walked a pos neg e (more {w = w} iw (more {w = h} ih (more {w = l} il (more {w = n} {ws = vs} it s)))) =
-      let f = others-one a (neg ++ pos) e in
-      let i : length neg + length pos - length neg ≡ length pos = omega arith in
-      let k : Walked (Number (bodyOf (length neg) (length neg + length pos - length neg))) vs end =
-      rw i (body-walked neg pos (every-left neg pos f) (every-right neg pos f) s) in
-      on (number-move w Kind 1 (spelled-value iw refl) ∙ eq-no _ _ _ _ (λ z. omega arith) ∙ eq-yes _ _ _ _ refl)
-      (on (atom-move h Head Literals InHead (a .0) refl (first-one a (neg ++ pos) e) (spelled-value ih refl))
-      (on (number-move l Literals (length neg + length pos) (spelled-value il refl))
-      (on (number-move n (Negatives (length neg + length pos)) (length neg) (spelled-value it refl)
-      ∙ lt-no (length neg + length pos) (length neg) _ _ (omega arith)) k)))
+  module _ (pos neg : List TextAtom) where
+    literals-walked : every fromOne (neg ++ pos) ≡ true → {ws : List Word} → Spelling ws (literalsBefore pos neg ts) → Walked (Number Literals) ws end
+    unfolding onNumber onNegatives
+    literals-walked f (more {w = l} il (more {w = n} {ws = vs} it s)) =
+        let i : length neg + length pos - length neg ≡ length pos = omega arith in
+        let k : Walked (Number (bodyOf (length neg) (length neg + length pos - length neg))) vs end =
+        rw i (body-walked neg pos (every-left neg pos f) (every-right neg pos f) s) in
+        on (number-move l Literals (length neg + length pos) (spelled-value il refl))
+        (on (number-move n (Negatives (length neg + length pos)) (length neg) (spelled-value it refl)
+        ∙ lt-no (length neg + length pos) (length neg) _ _ (omega arith)) k)
+
+    basic-walked : (a : TextAtom) → every fromOne (a ∷ (neg ++ pos)) ≡ true → {ws : List Word}
+        → Spelling ws (number 1 ∷ (number (a .0) ∷ literalsBefore pos neg ts)) → Walked (Number Kind) ws end
+    unfolding onNumber onKind
+    basic-walked a e (more {w = w} iw (more {w = h} ih s)) =
+        on (number-move w Kind 1 (spelled-value iw refl) ∙ eq-no _ _ _ _ (λ z. omega arith) ∙ eq-yes _ _ _ _ refl)
+        (on (atom-move h Head Literals InHead (a .0) refl (first-one a (neg ++ pos) e) (spelled-value ih refl))
+        (literals-walked (others-one a (neg ++ pos) e) s))
+
+    heads-walked : (hs : List TextAtom) → every fromOne hs ≡ true → every fromOne (neg ++ pos) ≡ true → {ws : List Word}
+        → Spelling ws (atomTokens hs ++ literalsBefore pos neg ts) → Walked (Number (headsOf (length hs))) ws end
+    unfolding atomTokens onNumber
+    heads-walked [] e f s = rw heads-none (literals-walked f s)
+    heads-walked (a ∷ hs) e f (more {w = w} is s) = rw (heads-some (length hs))
+        (on (atom-move w (Heads (length hs)) (headsOf (length hs)) InFree (a .0) refl (first-one a hs e) (spelled-value is refl))
+        (heads-walked hs (others-one a hs e) f s))
+
+    choice-walked : (hs : List TextAtom) → headed (choice hs pos neg) ≡ true → every fromOne (hs ++ (neg ++ pos)) ≡ true → {ws : List Word}
+        → Spelling ws (number 3 ∷ (number (length hs) ∷ (atomTokens hs ++ literalsBefore pos neg ts))) → Walked (Number Kind) ws end
+    unfolding onNumber onKind onHeadCount
+    choice-walked hs h e (more {w = w} iw (more {w = n} it s)) =
+        on (number-move w Kind 3 (spelled-value iw refl)
+        ∙ eq-no _ _ _ _ (λ z. omega arith) ∙ eq-no _ _ _ _ (λ z. omega arith) ∙ eq-yes _ _ _ _ refl)
+        (on (number-move n HeadCount (length hs) (spelled-value it refl) ∙ eq-no _ _ _ _ (some-head hs pos neg h))
+        (heads-walked hs (every-left hs (neg ++ pos) e) (every-right hs (neg ++ pos) e) s))
 
 rules-all : (ts : List Token) (end : Due) → ((ws : List Word) → Spelling ws ts → Walked (Number Kind) ws end)
-    → (l : List TextRule) → every fromOne (rulesAtoms l) ≡ true → (ws : List Word) → Spelling ws (rulesTokens l ++ ts) → Walked (Number Kind) ws end
-unfolding rulesAtoms ruleAtoms rulesTokens
-rules-all ts end later [] e ws s = later ws s
-rules-all ts end later (basic a pos neg ∷ l) e ws s =
-    rule-walked (rulesTokens l ++ ts) end (λ vs t. rules-all ts end later l (every-right (a ∷ (neg ++ pos)) (rulesAtoms l) e) vs t)
-    a pos neg (every-left (a ∷ (neg ++ pos)) (rulesAtoms l) e) (rw (head-tokens a pos neg l ts) at s)
+    → (l : List TextRule) → every fromOne (rulesAtoms l) ≡ true → every headed l ≡ true
+    → (ws : List Word) → Spelling ws (rulesTokens l ++ ts) → Walked (Number Kind) ws end
+unfolding rulesAtoms ruleAtoms rulesTokens every
+rules-all ts end later [] e h ws s = later ws s
+rules-all ts end later (basic a pos neg ∷ l) e h ws s =
+    basic-walked (rulesTokens l ++ ts) end
+    (λ vs t. rules-all ts end later l (every-right (a ∷ (neg ++ pos)) (rulesAtoms l) e) (and-right (headed (basic a pos neg)) (every headed l) h) vs t)
+    pos neg a (every-left (a ∷ (neg ++ pos)) (rulesAtoms l) e) (rw (head-tokens pos neg l ts a) at s)
+rules-all ts end later (choice hs pos neg ∷ l) e h ws s =
+    choice-walked (rulesTokens l ++ ts) end
+    (λ vs t. rules-all ts end later l (every-right (hs ++ (neg ++ pos)) (rulesAtoms l) e) (and-right (headed (choice hs pos neg)) (every headed l) h) vs t)
+    pos neg hs (and-left (headed (choice hs pos neg)) (every headed l) h) (every-left (hs ++ (neg ++ pos)) (rulesAtoms l) e)
+    (rw (choice-tokens pos neg l ts hs) at s)
 
 pub rules-walked : (ws : List Word) → RuleWords ws → Walked (Number Kind) ws (Number Kind)
-rules-walked ws r = rules-all [] (Number Kind) nothing-left (r .rules) (r .atoms) ws (rw append-nil (r .spelled))
+rules-walked ws r = rules-all [] (Number Kind) nothing-left (r .rules) (r .atoms) (r .heads) ws (rw append-nil (r .spelled))
   where
     nothing-left : (vs : List Word) → Spelling vs [] → Walked (Number Kind) vs (Number Kind)
     nothing-left [] none = here
@@ -79,6 +109,8 @@ rules-walked ws r = rules-all [] (Number Kind) nothing-left (r .rules) (r .atoms
 unfoldable ofRule : Due → Bool
 ofRule (Number Kind) = true
 ofRule (Number Head) = true
+ofRule (Number HeadCount) = true
+ofRule (Number (Heads n)) = true
 ofRule (Number Literals) = true
 ofRule (Number (Negatives n)) = true
 ofRule (Number (Negative i j)) = true
@@ -108,12 +140,18 @@ never e = let z : _≡_ {A = ℕ} 0 1 = cc in absurd (omega arith)
 
 module _ (w : Word) where
   kept-number : (role : Role) (n : ℕ) → Kept w (Number role) (onNumber role n)
-  unfolding Kept ofRule onNumber onKind onAtom onListed onNegatives with withAtom
+  unfolding Kept ofRule onNumber onKind onAtom onListed onHeadCount onNegatives with withAtom withChoice
   kept-number Kind n =
       eq-either (Kept w (Number Kind)) n 0 _ _ (λ e h. never h)
-      (λ e. eq-either (Kept w (Number Kind)) n 1 _ _ (λ g h. (refl, λ p b. b)) (λ g. tt))
+      (λ e. eq-either (Kept w (Number Kind)) n 1 _ _ (λ g h. (refl, λ p b. b))
+      (λ g. eq-either (Kept w (Number Kind)) n 3 _ _
+      (λ i h. (refl, λ p b. record { table = b .table; plus = b .plus; minus = b .minus })) (λ i. tt)))
   kept-number Head n =
       eq-either (Kept w (Number Head)) n 0 _ _ (λ e. tt)
+      (λ e h. (refl, λ p b. record { table = b .table; plus = b .plus; minus = b .minus }))
+  kept-number HeadCount n = eq-either (Kept w (Number HeadCount)) n 0 _ _ (λ e. tt) (λ e h. (refl, λ p b. b))
+  kept-number (Heads left) n =
+      eq-either (Kept w (Number (Heads left))) n 0 _ _ (λ e. tt)
       (λ e h. (refl, λ p b. record { table = b .table; plus = b .plus; minus = b .minus }))
   kept-number Literals n = λ h. (refl, λ p b. b)
   kept-number (Negatives l) n = lt-either (Kept w (Number (Negatives l))) l n _ _ (λ h. tt) (λ h g. (refl, λ p b. b))
@@ -170,4 +208,5 @@ walked-rules ws k =
       rules = q .rules;
       spelled = spelling-front ws closing (rulesTokens (q .rules)) _ (rw (bare .table, bare .plus, bare .minus)) (s .spelled);
       atoms = every-left (rulesAtoms (q .rules)) _ (s .atoms);
+      heads = s .heads;
     }

@@ -11,18 +11,18 @@ use Rattle.meaning.proofs.Choice.{b-either, lt-either, eq-either}
 use Rattle.decimal.specs.declared.Digits.{Digits}
 use Rattle.decimal.specs.declared.Digits.the-variants.{Value, Nothing}
 use Rattle.imported.specs.declared.TextAtom.{TextAtom}
-use Rattle.imported.specs.Text.{TextRule, basic}
+use Rattle.imported.specs.Text.{TextRule, basic, choice}
 use Rattle.lparse.specs.declared.due.Role.{Role}
-use Rattle.lparse.specs.declared.due.Role.the-variants.{Kind, Head, Literals, Negatives, Negative, Positive, Table, Plus, Minus, Models}
+use Rattle.lparse.specs.declared.due.Role.the-variants.{Kind, Head, HeadCount, Heads, Literals, Negatives, Negative, Positive, Table, Plus, Minus, Models}
 use Rattle.lparse.specs.declared.due.Due.{Due}
 use Rattle.lparse.specs.declared.due.Due.the-variants.{Number, Name, PlusWord, MinusWord, End}
 use Rattle.lparse.specs.declared.due.Said.{Said}
 use Rattle.lparse.specs.declared.due.Move.{Move}
 use Rattle.lparse.specs.declared.due.Move.the-variants.{Goes, Format, Kind as OtherKind}
 use Rattle.lparse.specs.Words.{Word}
-use Rattle.lparse.specs.Reading.{textAtom, bodyOf, onKind, onAtom, onListed, onNegatives, onNumber, numberIn, onValue, signed, onSign, moveOf, whole, Part, nothingMore, with, withAtom, Heard, says, wrong, adding, onMove, heard}
-use Rattle.lparse.specs.Says.{Token, number, name, exactly, atomTokens, ruleTokens, rulesTokens, tableTokens, minusTokens, plusTokens, behindRules, Spelled, as-number, as-name, as-bytes, Spelling, none, more}
-use Rattle.lparse.proofs.Phases.{Open, Fits, FitsRole, body-open, heard-fits}
+use Rattle.lparse.specs.Reading.{textAtom, bodyOf, headsOf, onKind, onAtom, onListed, onHeadCount, onNegatives, onNumber, numberIn, onValue, signed, onSign, moveOf, whole, Part, nothingMore, with, withAtom, withChoice, Heard, says, wrong, adding, onMove, heard}
+use Rattle.lparse.specs.Says.{Token, number, name, exactly, atomTokens, literalTokens, ruleTokens, rulesTokens, tableTokens, minusTokens, plusTokens, behindRules, Spelled, as-number, as-name, as-bytes, Spelling, none, more}
+use Rattle.lparse.proofs.Phases.{Open, Fits, FitsRole, body-open, heads-left, heard-fits}
 
 -- the tokens of what the rest says, from a rule's start on
 abbrev pub behindBody : Part → ℕ → List Token
@@ -31,12 +31,20 @@ behindBody p m = rulesTokens (p .rules) ++ (number 0 ∷ behindRules (p .table) 
 abbrev pub bodyTokens : Part → ℕ → List Token
 bodyTokens p m = atomTokens (p .neg) ++ (atomTokens (p .pos) ++ behindBody p m)
 
--- the tokens that are left where this is due; behind a rule's type and behind an entry's atom, those behind the token that was taken
+-- a body, with what stands behind it
+abbrev pub literalsBefore : List TextAtom → List TextAtom → List Token → List Token
+literalsBefore pos neg ts = number (length neg + length pos) ∷ (number (length neg) ∷ (atomTokens neg ++ (atomTokens pos ++ ts)))
+
+abbrev pub literalRest : Part → ℕ → List Token
+literalRest p m = literalsBefore (p .pos) (p .neg) (behindBody p m)
+
+-- the tokens that are left where this is due; behind a basic rule's type and behind an entry's atom, those behind the token that was taken
 unfoldable pub RestRole : Role → Part → ℕ → List Token → Type 0
 RestRole Kind p m ts = ts ≡ behindBody p m
 RestRole Head p m ts = number 1 ∷ ts ≡ behindBody p m
-RestRole Literals p m ts =
-    ts ≡ number (length (p .neg) + length (p .pos)) ∷ (number (length (p .neg)) ∷ bodyTokens p m)
+RestRole HeadCount p m ts = ts ≡ number (length (p .heads)) ∷ (atomTokens (p .heads) ++ literalRest p m)
+RestRole (Heads n) p m ts = ts ≡ atomTokens (p .heads) ++ literalRest p m
+RestRole Literals p m ts = ts ≡ literalRest p m
 RestRole (Negatives n) p m ts = ts ≡ number (length (p .neg)) ∷ bodyTokens p m
 RestRole (Negative i j) p m ts = ts ≡ bodyTokens p m
 RestRole (Positive j) p m ts = ts ≡ bodyTokens p m
@@ -57,7 +65,7 @@ nothing [] e = refl
 nothing (a ∷ l) e = absurd (omega arith)
 
 -- where nothing of a body is left, the next rule is
-body-rest : (i j : ℕ) (p : Part) (m : ℕ) (ts : List Token) → Open i j (p .neg) (p .pos) → RestRole (bodyOf i j) p m ts → ts ≡ bodyTokens p m
+body-rest : (i j : ℕ) (p : Part) (m : ℕ) (ts : List Token) → Open i j (p .heads) (p .neg) (p .pos) → RestRole (bodyOf i j) p m ts → ts ≡ bodyTokens p m
 unfolding bodyOf RestRole atomTokens
 body-rest i j p m ts o =
     eq-either (λ r. RestRole r p m ts → ts ≡ bodyTokens p m) i 0 _ _
@@ -65,13 +73,26 @@ body-rest i j p m ts o =
     (λ f t. rw (nothing (p .neg) (o .negatives ∙ e), nothing (p .pos) (o .positives ∙ f)) t)
     (λ f t. t)) (λ e t. t)
 
-pub head-tokens : (a : TextAtom) (pos neg : List TextAtom) (l : List TextRule) (ts : List Token) →
-    rulesTokens (basic a pos neg ∷ l) ++ ts
-    ≡ number 1 ∷ (number (a .0) ∷ (number (length neg + length pos) ∷ (number (length neg)
-    ∷ (atomTokens neg ++ (atomTokens pos ++ (rulesTokens l ++ ts))))))
-unfolding rulesTokens ruleTokens
-head-tokens a pos neg l ts =
-    ap (λ k. number 1 ∷ (number (a .0) ∷ (number (length neg + length pos) ∷ (number (length neg) ∷ k)))) (simp append-assoc)
+-- where no head is left, the body is
+heads-rest : (n : ℕ) (p : Part) (m : ℕ) (ts : List Token) → length (p .heads) ≡ n → RestRole (headsOf n) p m ts
+    → ts ≡ atomTokens (p .heads) ++ literalRest p m
+unfolding headsOf RestRole atomTokens
+heads-rest n p m ts h =
+    eq-either (λ r. RestRole r p m ts → ts ≡ atomTokens (p .heads) ++ literalRest p m) n 0 _ _
+    (λ e t. rw (nothing (p .heads) (h ∙ e)) t) (λ e t. t)
+
+module _ (pos neg : List TextAtom) (l : List TextRule) (ts : List Token) where
+  pub head-tokens : (a : TextAtom) →
+      rulesTokens (basic a pos neg ∷ l) ++ ts ≡ number 1 ∷ (number (a .0) ∷ literalsBefore pos neg (rulesTokens l ++ ts))
+  unfolding rulesTokens ruleTokens literalTokens
+  head-tokens a =
+      ap (λ k. number 1 ∷ (number (a .0) ∷ (number (length neg + length pos) ∷ (number (length neg) ∷ k)))) (simp append-assoc)
+
+  pub choice-tokens : (hs : List TextAtom) →
+      rulesTokens (choice hs pos neg ∷ l) ++ ts
+      ≡ number 3 ∷ (number (length hs) ∷ (atomTokens hs ++ literalsBefore pos neg (rulesTokens l ++ ts)))
+  unfolding rulesTokens ruleTokens literalTokens
+  choice-tokens hs = ap (λ k. number 3 ∷ (number (length hs) ∷ k)) (simp append-assoc)
 
 -- one word more: the token that it is, and what is left with it
 record Taken (w : Word) (due : Due) (p : Part) (ts : List Token) : Type 0 where
@@ -87,12 +108,20 @@ Row w due OtherKind = Unit {0}
 
 module _ (w : Word) (n : ℕ) (v : numberIn (w .bytes) ≡ Value n) where
   row-number : (role : Role) → Row w (Number role) (onNumber role n)
-  unfolding Row Fits FitsRole Rest RestRole onNumber onKind onAtom onListed onNegatives with withAtom rulesTokens ruleTokens tableTokens atomTokens behindRules plusTokens minusTokens
+  unfolding Row Fits FitsRole Rest RestRole onNumber onKind onAtom onListed onHeadCount onNegatives with withAtom withChoice rulesTokens ruleTokens tableTokens atomTokens behindRules plusTokens minusTokens
   row-number Kind =
       eq-either (Row w (Number Kind)) n 0 _ _
       (λ e p m ts f t. record { token = number n; models = m; is = as-number v; rest = rw (e, f .no-rule, t) })
       (λ e. eq-either (Row w (Number Kind)) n 1 _ _
-      (λ g p m ts f t. record { token = number n; models = m; is = as-number v; rest = rw g t }) (λ g. tt))
+      (λ g p m ts f t. record { token = number n; models = m; is = as-number v; rest = rw g t })
+      (λ g. eq-either (Row w (Number Kind)) n 3 _ _
+      (λ i p m ts f t. record {
+        token = number n;
+        models = m;
+        is = as-number v;
+        rest = rw i (ap (λ k. number 3 ∷ k) t ∙ sym (choice-tokens (p .pos) (p .neg) (p .rules) _ (p .heads)));
+      })
+      (λ i. tt)))
   row-number Head =
       eq-either (Row w (Number Head)) n 0 _ _ (λ e. tt)
       (λ e p m ts f t. record {
@@ -100,10 +129,22 @@ module _ (w : Word) (n : ℕ) (v : numberIn (w .bytes) ≡ Value n) where
         models = m;
         is = as-number v;
         rest =
-            ap (λ k. number 1 ∷ (number n ∷ k)) t ∙ sym (head-tokens (textAtom n) (p .pos) (p .neg) (p .rules) _);
+            ap (λ k. number 1 ∷ (number n ∷ k)) t ∙ sym (head-tokens (p .pos) (p .neg) (p .rules) _ (textAtom n));
+      })
+  row-number HeadCount =
+      eq-either (Row w (Number HeadCount)) n 0 _ _ (λ e. tt)
+      (λ e p m ts f t. let h = heads-left n p f in
+      record { token = number n; models = m; is = as-number v; rest = rw (h, heads-rest n p m ts h t) })
+  row-number (Heads left) =
+      eq-either (Row w (Number (Heads left))) n 0 _ _ (λ e. tt)
+      (λ e p m ts f t. record {
+        token = number n;
+        models = m;
+        is = as-number v;
+        rest = ap (λ k. number n ∷ k) (heads-rest left p m ts (heads-left left p f) t);
       })
   row-number Literals =
-      λ p m ts f t. record { token = number n; models = m; is = as-number v; rest = rw (f, t) }
+      λ p m ts f t. record { token = number n; models = m; is = as-number v; rest = rw (f .1, t) }
   row-number (Negatives l) =
       lt-either (Row w (Number (Negatives l))) l n _ _ (λ h. tt)
       (λ h p m ts f t. let o = body-open n (l - n) p f in

@@ -11,16 +11,16 @@ use Rattle.meaning.proofs.Choice.{b-yes, eq-yes, eq-no, lt-no}
 use Rattle.decimal.specs.declared.Digits.the-variants.{Value}
 use Rattle.decimal.specs.Digits.{valueFrom}
 use Rattle.lparse.specs.declared.due.Role.{Role}
-use Rattle.lparse.specs.declared.due.Role.the-variants.{Kind, Head, Literals, Negatives, Negative, Positive, Table, Plus, Minus, Models}
+use Rattle.lparse.specs.declared.due.Role.the-variants.{Kind, Head, HeadCount, Heads, Literals, Negatives, Negative, Positive, Table, Plus, Minus, Models}
 use Rattle.lparse.specs.declared.due.Due.{Due}
 use Rattle.lparse.specs.declared.due.Due.the-variants.{Number, Name, PlusWord, MinusWord, End}
-use Rattle.lparse.specs.declared.due.Standing.the-variants.{Head as InHead, Negative as InNegative, Positive as InPositive}
+use Rattle.lparse.specs.declared.due.Standing.the-variants.{Head as InHead, Free as InFree, Negative as InNegative, Positive as InPositive}
 use Rattle.lparse.specs.declared.due.Said.{Said}
 use Rattle.lparse.specs.declared.due.Said.the-variants.{Nothing as Silent}
 use Rattle.lparse.specs.declared.due.Move.{Move}
 use Rattle.lparse.specs.declared.due.Move.the-variants.{Goes, Format, Kind as OtherKind}
 use Rattle.lparse.specs.Words.{Word}
-use Rattle.lparse.specs.Reading.{bodyOf, onKind, onListed, onNegatives, onNumber, numberIn, onSign, moveOf, whole, Part, nothingMore, with, Heard, says, wrong, adding, onMove, heard}
+use Rattle.lparse.specs.Reading.{bodyOf, headsOf, onKind, onListed, onHeadCount, onNegatives, onNumber, numberIn, onSign, moveOf, whole, Part, nothingMore, with, Heard, says, wrong, adding, onMove, heard}
 use Rattle.lparse.proofs.Tokens.{number-move, atom-move, sign-move}
 use Rattle.lparse.proofs.Later.{heard-one}
 
@@ -250,6 +250,25 @@ completed-literals : Completed (Number Literals)
 unfolding onNumber
 completed-literals = completed-by zeroWord (number-move zeroWord Literals 0 zero-read) (completed-negatives 0)
 
+pub heads-none : headsOf 0 ≡ Literals
+unfolding headsOf
+heads-none = eq-yes _ _ _ _ refl
+
+pub heads-some : (n : ℕ) → headsOf (suc n) ≡ Heads n
+unfolding headsOf
+heads-some n = let e : suc n - 1 ≡ n = omega arith in eq-no _ _ _ _ (λ z. omega arith) ∙ ap Heads e
+
+completed-heads : (n : ℕ) → Completed (Number (headsOf n))
+unfolding onNumber
+completed-heads zero = rw heads-none completed-literals
+completed-heads (suc n) = rw (heads-some n)
+    (completed-by oneWord (atom-move oneWord (Heads n) (headsOf n) InFree 1 refl (λ z. omega arith) one-read) (completed-heads n))
+
+completed-head-count : Completed (Number HeadCount)
+unfolding onNumber onHeadCount
+completed-head-count =
+    completed-by oneWord (number-move oneWord HeadCount 1 one-read ∙ eq-no _ _ _ _ (λ z. omega arith)) (completed-heads 1)
+
 completed-head : Completed (Number Head)
 unfolding onNumber
 completed-head = completed-by oneWord (atom-move oneWord Head Literals InHead 1 refl (λ z. omega arith) one-read) completed-literals
@@ -257,6 +276,8 @@ completed-head = completed-by oneWord (atom-move oneWord Head Literals InHead 1 
 completed-role : (role : Role) → Completed (Number role)
 completed-role Kind = completed-of rules-closed
 completed-role Head = completed-head
+completed-role HeadCount = completed-head-count
+completed-role (Heads n) = rw (heads-some n) at (completed-heads (suc n))
 completed-role Literals = completed-literals
 completed-role (Negatives n) = completed-negatives n
 completed-role (Negative i j) = rw (body-negative i j) at (completed-body (suc i) j)

@@ -20,7 +20,7 @@ use Rattle.imported.specs.Making.{mentioned, distinctFrom, distinct}
 use Rattle.lparse.specs.declared.due.Role.the-variants.{Kind}
 use Rattle.lparse.specs.declared.due.Due.the-variants.{Number}
 use Rattle.lparse.specs.declared.due.Said.{Said}
-use Rattle.lparse.specs.declared.due.Said.the-variants.{Nothing as Silent, Atom}
+use Rattle.lparse.specs.declared.due.Said.the-variants.{Nothing as Silent, Choice as Chooses, Atom}
 use Rattle.lparse.specs.declared.gather.Collected.{Collected}
 use Rattle.lparse.specs.declared.gather.Collected.the-variants.{Atoms, TooMany, Format, Kind as OtherKind}
 use Rattle.lparse.specs.Reading.{Part, Heard, says, wrong, heardAt}
@@ -66,4 +66,5 @@ pub record Notes (k : List TextAtom) (n : ℕ) (before : List ℕ) (m : ℕ) (af
 -- the atom that a word says, if it says one
 unfoldable pub atomsSaid : Said → List TextAtom
 atomsSaid Silent = []
+atomsSaid Chooses = []
 atomsSaid (Atom a standing) = a ∷ []

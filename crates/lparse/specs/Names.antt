@@ -14,9 +14,9 @@ use Rattle.meaning.specs.Choice.{ifb, ifEq}
 use Rattle.imported.specs.declared.TextAtom.{TextAtom}
 use Rattle.imported.specs.Text.{sameText}
 use Rattle.lparse.specs.declared.due.Standing.{Standing}
-use Rattle.lparse.specs.declared.due.Standing.the-variants.{Head as InHead, Negative as InNegative, Positive as InPositive, Table as InTable, Plus as InPlus, Minus as InMinus}
+use Rattle.lparse.specs.declared.due.Standing.the-variants.{Head as InHead, Free as InFree, Negative as InNegative, Positive as InPositive, Table as InTable, Plus as InPlus, Minus as InMinus}
 use Rattle.lparse.specs.declared.due.Said.{Said}
-use Rattle.lparse.specs.declared.due.Said.the-variants.{Nothing as Silent, Atom}
+use Rattle.lparse.specs.declared.due.Said.the-variants.{Nothing as Silent, Choice as Chooses, Atom}
 use Rattle.lparse.specs.declared.named.Whose.{Whose}
 use Rattle.lparse.specs.declared.named.Whose.the-variants.{Atom as AtomOf, Nothing as Nobody}
 use Rattle.lparse.specs.declared.named.Name.{Name}
@@ -48,6 +48,7 @@ nameOf s a k = nameHeard (textIn s) a k
 
 unfoldable pub inTable : Standing → Bool
 inTable InHead = false
+inTable InFree = false
 inTable InNegative = false
 inTable InPositive = false
 inTable InTable = true
@@ -56,6 +57,7 @@ inTable InMinus = false
 
 unfoldable pub isNamed : Said → TextAtom → Bool
 isNamed Silent a = false
+isNamed Chooses a = false
 isNamed (Atom c standing) a = ifb (inTable standing) (sameText a c) false
 
 -- a name that was found stays

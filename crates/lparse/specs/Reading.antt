@@ -1,11 +1,13 @@
 -- The format as a function: what is due, and what each word does there. Document 02, request 1: "basic rules (type 1: head, number of
 -- literals, number of negatives, negatives, positives), the closing 0, the symbol table, the B+ and B- lists and the number of models".
+-- Request 10: "type 3: number of heads (0 is 30), the heads, then the body as in type 1".
 --
 --   bodyOf m p           what is due where m negatives and p positives are left
+--   headsOf n            what is due where n heads of a choice are left
 --   onNumber role n      what a number does where it is due: a row of the format for each role
 --   moveOf due l         what a word of these bytes does
 --   stepAt s at due      what the next word of s does, from `at` on, in the code's terms
---   Part                 what the rest of a text says: the atoms of the rule that is open, and what comes behind it
+--   Part                 what the rest of a text says: the atoms of the rule that is open (heads only of a choice), and what comes behind it
 --   with w said p        what one word more in front says
 --   heard len due ws     what the words say; or the first of them that cannot stand there, with its number
 --   heardAt s at due     the same of the words of s from `at` on
@@ -19,15 +21,15 @@ use Rattle.decimal.specs.declared.Digits.{Digits}
 use Rattle.decimal.specs.declared.Digits.the-variants.{Value, Nothing}
 use Rattle.decimal.specs.Digits.{valueFrom}
 use Rattle.imported.specs.declared.TextAtom.{TextAtom}
-use Rattle.imported.specs.Text.{TextRule, basic}
+use Rattle.imported.specs.Text.{TextRule, basic, choice}
 use Rattle.lparse.specs.declared.due.Role.{Role}
-use Rattle.lparse.specs.declared.due.Role.the-variants.{Kind, Head, Literals, Negatives, Negative, Positive, Table, Plus, Minus, Models}
+use Rattle.lparse.specs.declared.due.Role.the-variants.{Kind, Head, HeadCount, Heads, Literals, Negatives, Negative, Positive, Table, Plus, Minus, Models}
 use Rattle.lparse.specs.declared.due.Due.{Due}
 use Rattle.lparse.specs.declared.due.Due.the-variants.{Number, Name, PlusWord, MinusWord, End}
 use Rattle.lparse.specs.declared.due.Standing.{Standing}
-use Rattle.lparse.specs.declared.due.Standing.the-variants.{Head as InHead, Negative as InNegative, Positive as InPositive, Table as InTable, Plus as InPlus, Minus as InMinus}
+use Rattle.lparse.specs.declared.due.Standing.the-variants.{Head as InHead, Free as InFree, Negative as InNegative, Positive as InPositive, Table as InTable, Plus as InPlus, Minus as InMinus}
 use Rattle.lparse.specs.declared.due.Said.{Said}
-use Rattle.lparse.specs.declared.due.Said.the-variants.{Nothing as Silent, Atom}
+use Rattle.lparse.specs.declared.due.Said.the-variants.{Nothing as Silent, Choice as Chooses, Atom}
 use Rattle.lparse.specs.declared.due.Move.{Move}
 use Rattle.lparse.specs.declared.due.Move.the-variants.{Goes, Format, Kind as OtherKind}
 use Rattle.lparse.specs.declared.step.Step.{Step}
@@ -42,9 +44,14 @@ textAtom n = record { 0 = n }
 unfoldable pub bodyOf : ℕ → ℕ → Role
 bodyOf m p = ifEq m 0 (ifEq p 0 Kind (Positive (p - 1))) (Negative (m - 1) p)
 
--- 31 is for a number other than 0 and 1 where a rule's type is due
+unfoldable pub headsOf : ℕ → Role
+headsOf n = ifEq n 0 Literals (Heads (n - 1))
+
+-- 31 is for a number other than 0, 1 and 3 where a rule's type is due
 unfoldable pub onKind : ℕ → Move
-onKind n = ifEq n 0 (Goes (Number Table) Silent) (ifEq n 1 (Goes (Number Head) Silent) OtherKind)
+onKind n =
+    ifEq n 0 (Goes (Number Table) Silent)
+    (ifEq n 1 (Goes (Number Head) Silent) (ifEq n 3 (Goes (Number HeadCount) Chooses) OtherKind))
 
 -- an atom of a rule is not 0
 unfoldable pub onAtom : ℕ → Role → Standing → Move
@@ -54,12 +61,18 @@ onAtom n next standing = ifEq n 0 Format (Goes (Number next) (Atom (textAtom n) 
 unfoldable pub onListed : ℕ → Due → Due → Said → Move
 onListed n end next said = ifEq n 0 (Goes end Silent) (Goes next said)
 
+-- "number of heads (0 is 30)"
+unfoldable pub onHeadCount : ℕ → Move
+onHeadCount n = ifEq n 0 Format (Goes (Number (headsOf n)) Silent)
+
 unfoldable pub onNegatives : ℕ → ℕ → Move
 onNegatives n literals = ifLt literals n Format (Goes (Number (bodyOf n (literals - n))) Silent)
 
 unfoldable pub onNumber : Role → ℕ → Move
 onNumber Kind n = onKind n
 onNumber Head n = onAtom n Literals InHead
+onNumber HeadCount n = onHeadCount n
+onNumber (Heads left) n = onAtom n (headsOf left) InFree
 onNumber Literals n = Goes (Number (Negatives n)) Silent
 onNumber (Negatives literals) n = onNegatives n literals
 onNumber (Negative m p) n = onAtom n (bodyOf m p) InNegative
@@ -126,6 +139,7 @@ pub record Entry : Type 0 where
   pub name : Word
 
 pub record Part : Type 0 where
+  pub heads : List TextAtom
   pub pos : List TextAtom
   pub neg : List TextAtom
   pub rules : List TextRule
@@ -134,11 +148,12 @@ pub record Part : Type 0 where
   pub minus : List TextAtom
 
 abbrev pub nothingMore : Part
-nothingMore = record { pos = []; neg = []; rules = []; table = []; plus = []; minus = [] }
+nothingMore = record { heads = []; pos = []; neg = []; rules = []; table = []; plus = []; minus = [] }
 
 -- a head takes the atoms behind it as its body
 unfoldable pub withAtom : Word → TextAtom → Standing → Part → Part
 withAtom w a InHead p = record {
+  heads = [];
   pos = [];
   neg = [];
   rules = basic a (p .pos) (p .neg) ∷ p .rules;
@@ -146,7 +161,17 @@ withAtom w a InHead p = record {
   plus = p .plus;
   minus = p .minus;
 }
+withAtom w a InFree p = record {
+  heads = a ∷ p .heads;
+  pos = p .pos;
+  neg = p .neg;
+  rules = p .rules;
+  table = p .table;
+  plus = p .plus;
+  minus = p .minus;
+}
 withAtom w a InNegative p = record {
+  heads = p .heads;
   pos = p .pos;
   neg = a ∷ p .neg;
   rules = p .rules;
@@ -155,6 +180,7 @@ withAtom w a InNegative p = record {
   minus = p .minus;
 }
 withAtom w a InPositive p = record {
+  heads = p .heads;
   pos = a ∷ p .pos;
   neg = p .neg;
   rules = p .rules;
@@ -163,6 +189,7 @@ withAtom w a InPositive p = record {
   minus = p .minus;
 }
 withAtom w a InTable p = record {
+  heads = p .heads;
   pos = p .pos;
   neg = p .neg;
   rules = p .rules;
@@ -171,6 +198,7 @@ withAtom w a InTable p = record {
   minus = p .minus;
 }
 withAtom w a InPlus p = record {
+  heads = p .heads;
   pos = p .pos;
   neg = p .neg;
   rules = p .rules;
@@ -179,6 +207,7 @@ withAtom w a InPlus p = record {
   minus = p .minus;
 }
 withAtom w a InMinus p = record {
+  heads = p .heads;
   pos = p .pos;
   neg = p .neg;
   rules = p .rules;
@@ -187,8 +216,21 @@ withAtom w a InMinus p = record {
   minus = a ∷ p .minus;
 }
 
+-- a choice takes the heads and the atoms behind them
+unfoldable pub withChoice : Part → Part
+withChoice p = record {
+  heads = [];
+  pos = [];
+  neg = [];
+  rules = choice (p .heads) (p .pos) (p .neg) ∷ p .rules;
+  table = p .table;
+  plus = p .plus;
+  minus = p .minus;
+}
+
 unfoldable pub with : Word → Said → Part → Part
 with w Silent p = p
+with w Chooses p = withChoice p
 with w (Atom a standing) p = withAtom w a standing p
 
 pub data Heard : Type 0 where

@@ -1,10 +1,10 @@
 -- When a text is refused, by what is written. Document 02, request 1: "Refusals: 30 text not in the format or 31 another rule type, whichever
 -- stands first in the text, the place being the first byte of that number or word, or the length if text is missing; then 32, no place, the
--- result doesn't fit a book or the buffer lent."
+-- result doesn't fit a book or the buffer lent." Request 10: "31 no longer for type 3".
 --
 --   Begins ws            some words behind these make a text of the format
 --   RuleWords ws         the words are whole rules
---   OtherType ws w       behind these words a rule's type is due, and w is a number other than 0 and 1
+--   OtherType ws w       behind these words a rule's type is due, and w is a number other than 0, 1 and 3
 --   WordAt s at ws w     w is the word of the text at this place, and ws are those before it
 --   AnotherType s at     31: another rule type stands there
 --   WrongWord s at       30: the words before are the beginning of a text, but not with this one, which is no rule type
@@ -24,7 +24,7 @@ use Rattle.imported.specs.Text.{TextRule}
 use Rattle.imported.specs.Making.{rulesAtoms, madeBook, fitsIn}
 use Rattle.lparse.specs.Words.{Word, words}
 use Rattle.lparse.specs.Reading.{numberIn}
-use Rattle.lparse.specs.Says.{Written, rulesTokens, Spelling, fromOne, textSaid, SaysWords, Says}
+use Rattle.lparse.specs.Says.{Written, rulesTokens, Spelling, fromOne, headed, textSaid, SaysWords, Says}
 
 abbrev pub Begins : List Word → Type 0
 Begins ws = (more : List Word) × (t : Written) × SaysWords (ws ++ more) t
@@ -33,6 +33,7 @@ pub record RuleWords (ws : List Word) : Type 0 where
   pub rules : List TextRule
   pub spelled : Spelling ws (rulesTokens rules)
   pub atoms : every fromOne (rulesAtoms rules) ≡ true
+  pub heads : every headed rules ≡ true
 
 pub record OtherType (ws : List Word) (w : Word) : Type 0 where
   pub behind : RuleWords ws
@@ -40,6 +41,7 @@ pub record OtherType (ws : List Word) (w : Word) : Type 0 where
   pub read : numberIn (w .bytes) ≡ Value number
   pub not-closing : number ≡ 0 → ⊥
   pub not-basic : number ≡ 1 → ⊥
+  pub not-choice : number ≡ 3 → ⊥
 
 pub record WordAt (s : List ℕ) (at : ℕ) (before : List Word) (w : Word) : Type 0 where
   pub after : List Word

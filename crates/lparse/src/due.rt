@@ -1,13 +1,26 @@
 // What may stand next in a text, and what a number does there. The rows are those of the format.
 ghost use mathlib.Core.Path.{_≡_};
-ghost use Rattle.lparse.specs.Reading.{bodyOf, onKind, onAtom, onListed, onNegatives, onNumber};
+ghost use Rattle.lparse.specs.Reading.{
+  bodyOf,
+  headsOf,
+  onKind,
+  onAtom,
+  onListed,
+  onHeadCount,
+  onNegatives,
+  onNumber,
+};
 use imported::TextAtom;
 
-// What a number that is due is there for. In a body, the counts are of the atoms behind this one.
+// What a number that is due is there for. The counts are of the atoms behind this one.
 pub enum Role {
     // A rule's type, or the 0 that closes the rules.
     Kind,
     Head,
+    // The number of a choice's heads.
+    HeadCount,
+    // A head of a choice; so many heads more.
+    Heads(u32),
     // The number of literals.
     Literals,
     // The number of negatives, of so many literals.
@@ -37,6 +50,8 @@ pub enum Due {
 // Where an atom stands.
 pub enum Standing {
     Head,
+    // A head of a choice.
+    Free,
     Negative,
     Positive,
     Table,
@@ -47,6 +62,8 @@ pub enum Standing {
 // What a word says of the text's rules, table and lists. An atom of the table is said by its name.
 pub enum Said {
     Nothing,
+    // A choice begins.
+    Choice,
     Atom(TextAtom, Standing),
 }
 
@@ -71,7 +88,17 @@ fn body(negatives: u32, positives: u32) -> Role
     Role::Negative(negatives - 1, positives)
 }
 
-// A rule's type: 0 closes the rules, 1 opens one.
+// What is due where so many heads of a choice are left.
+fn heads(left: u32) -> Role
+    ensures { λ r. ⌜ r ≡ headsOf left ⌝ }
+{
+    if left == 0 {
+        return Role::Literals;
+    }
+    Role::Heads(left - 1)
+}
+
+// A rule's type: 0 closes the rules, 1 opens a basic rule, 3 a choice.
 fn on_kind(n: u32) -> Move
     ensures { λ r. ⌜ r ≡ onKind n ⌝ }
 {
@@ -80,6 +107,9 @@ fn on_kind(n: u32) -> Move
     }
     if n == 1 {
         return Move::Goes(Due::Number(Role::Head), Said::Nothing);
+    }
+    if n == 3 {
+        return Move::Goes(Due::Number(Role::HeadCount), Said::Choice);
     }
     Move::Kind
 }
@@ -104,6 +134,16 @@ fn on_listed(n: u32, end: Due, next: Due, said: Said) -> Move
     Move::Goes(next, said)
 }
 
+// The number of a choice's heads, and so not 0. No room is kept for them: they are read one by one.
+fn on_head_count(n: u32) -> Move
+    ensures { λ r. ⌜ r ≡ onHeadCount n ⌝ }
+{
+    if n == 0 {
+        return Move::Format;
+    }
+    Move::Goes(Due::Number(heads(n)), Said::Nothing)
+}
+
 // The number of negatives, of so many literals.
 fn on_negatives(n: u32, literals: u32) -> Move
     ensures { λ r. ⌜ r ≡ onNegatives n literals ⌝ }
@@ -122,6 +162,8 @@ pub fn on_number(role: Role, n: u32) -> Move
     match role {
         Role::Kind => on_kind(n),
         Role::Head => on_atom(n, Role::Literals, Standing::Head),
+        Role::HeadCount => on_head_count(n),
+        Role::Heads(left) => on_atom(n, heads(left), Standing::Free),
         Role::Literals => Move::Goes(Due::Number(Role::Negatives(n)), Said::Nothing),
         Role::Negatives(literals) => on_negatives(n, literals),
         Role::Negative(negatives, positives) => {

@@ -1,98 +1,62 @@
 // The rules of the book made of what the words of a text say.
 ghost use mathlib.Core.Path.{_≡_};
-ghost use mathlib.Core.Bool.{true, false};
-ghost use mathlib.Core.List.{_++_};
-ghost use Prim.Native.Nat.{_<_};
-ghost use lib.ListN.{set};
+ghost use mathlib.Core.List.{[], _++_};
+ghost use Prim.Native.Nat.{ℕ, _<_};
 ghost use Rattle.book.specs.Making.{Adds};
 ghost use Rattle.lparse.specs.declared.due.Standing.the-variants.{Plus, Minus};
+ghost use Rattle.lparse.specs.Opened.{capped};
 ghost use Rattle.lparse.specs.Forming.{
-  formedBy,
+  entryBy,
   entryRules,
   opensRule,
   closes,
+  helperBehind,
   formedSaid,
   saidRules,
+  shut,
+  closedBy,
+  shutRules,
   ruleClosed,
   Forms,
   Placed,
 };
+use crate::adding::add_open;
 use crate::due::Due;
 use crate::due::Role;
 use crate::due::Said;
 use crate::due::Standing;
 use crate::numbering::number_of;
+use crate::rule::Opened;
+use crate::rule::counted_on;
+use crate::rule::open_rule;
+use crate::rule::opened_by;
+use crate::rule::placed;
 use book::BOOK_BYTES;
 use book::Making;
 use book::add_rule;
 use meaning::AtomNo;
-use meaning::Colouring;
 
-// The rules made so far, the rule that is open, and whether a list had an entry.
+// The rules made so far, the rule that is open, the number of the next helper, told up to 256, and
+// whether a list had an entry.
 pub struct Forming {
     pub making: Making,
-    pub head: AtomNo,
-    pub pos: [bool; Colouring::ATOMS],
-    pub neg: [bool; Colouring::ATOMS],
+    pub rule: Opened,
+    pub helper: usize,
     pub entry: bool,
 }
 
-// The table with one atom more.
-fn placed(table: [bool; Colouring::ATOMS], n: usize) -> [bool; 255]
-    requires { ⌜ n < 255 ⌝ }
-    ensures { λ r. ⌜ r ≡ set table n true ⌝ }
+// Whether a list had an entry, with an atom that stands here.
+fn entry_by(entry: bool, standing: Standing) -> bool
+    ensures { λ r. ⌜ r ≡ entryBy entry standing ⌝ }
 {
-    let mut more = table;
-    more[n] = true;
-    more
-}
-
-// The open rule with the atom of number n.
-fn form_atom(f: Forming, n: usize, standing: Standing) -> Forming
-    requires { ⌜ n < 255 ⌝ }
-    ensures { λ r. ⌜ r ≡ formedBy f n standing ⌝ }
-{
-    let making = f.making;
-    let head = f.head;
-    let pos = f.pos;
-    let neg = f.neg;
     match standing {
-        Standing::Head => Forming {
-            making,
-            head: AtomNo(n as u8),
-            pos: [false; 255],
-            neg: [false; 255],
-            entry: f.entry,
-        },
-        Standing::Negative => Forming {
-            making,
-            head,
-            pos,
-            neg: placed(neg, n),
-            entry: f.entry,
-        },
-        Standing::Positive => Forming {
-            making,
-            head,
-            pos: placed(pos, n),
-            neg,
-            entry: f.entry,
-        },
-        Standing::Table => f,
-        Standing::Plus => Forming {
-            making,
-            head,
-            pos,
-            neg,
-            entry: true,
-        },
-        Standing::Minus => Forming {
-            making,
-            head,
-            pos,
-            neg,
-            entry: true,
-        },
+        Standing::Head => entry,
+        Standing::Free => entry,
+        Standing::Negative => entry,
+        Standing::Positive => entry,
+        Standing::Table => entry,
+        Standing::Plus => true,
+        Standing::Minus => true,
     }
 }
 
@@ -105,12 +69,12 @@ fn add_entry(
     n: usize,
     standing: Standing,
 ) -> Making
-    requires { ⌜ n < h ⌝ }
-    ensures { λ r. ⌜ Adds (entryRules standing h n) m
-        (now (draft .entry)) r (now (draft .exit)) ⌝ }
+    ensures { λ r. ⌜ ((k : ℕ) → h ≡ capped k → n < k →
+        Adds (entryRules standing k n) m (now (draft .entry)) r (now (draft .exit))) ⌝ }
 {
     match standing {
         Standing::Head => m,
+        Standing::Free => m,
         Standing::Negative => m,
         Standing::Positive => m,
         Standing::Table => m,
@@ -121,9 +85,8 @@ fn add_entry(
 
 // "h if not a, not h"
 fn add_plus(draft: &mut [u8; BOOK_BYTES], m: Making, h: usize, n: usize) -> Making
-    requires { ⌜ n < h ⌝ }
-    ensures { λ r. ⌜ Adds (entryRules Plus h n) m
-        (now (draft .entry)) r (now (draft .exit)) ⌝ }
+    ensures { λ r. ⌜ ((k : ℕ) → h ≡ capped k → n < k →
+        Adds (entryRules Plus k n) m (now (draft .entry)) r (now (draft .exit))) ⌝ }
 {
     if 255 <= h {
         return m.passed();
@@ -135,9 +98,8 @@ fn add_plus(draft: &mut [u8; BOOK_BYTES], m: Making, h: usize, n: usize) -> Maki
 
 // "h if a, not h"
 fn add_minus(draft: &mut [u8; BOOK_BYTES], m: Making, h: usize, n: usize) -> Making
-    requires { ⌜ n < h ⌝ }
-    ensures { λ r. ⌜ Adds (entryRules Minus h n) m
-        (now (draft .entry)) r (now (draft .exit)) ⌝ }
+    ensures { λ r. ⌜ ((k : ℕ) → h ≡ capped k → n < k →
+        Adds (entryRules Minus k n) m (now (draft .entry)) r (now (draft .exit))) ⌝ }
 {
     if 255 <= h {
         return m.passed();
@@ -155,6 +117,8 @@ fn opens_rule(role: Role) -> bool
     match role {
         Role::Kind => true,
         Role::Head => false,
+        Role::HeadCount => false,
+        Role::Heads(_) => false,
         Role::Literals => false,
         Role::Negatives(_) => false,
         Role::Negative(_, _) => false,
@@ -182,31 +146,61 @@ fn closes_rule(due: Due) -> bool
 // What a word says, with the rule that an entry adds.
 fn form_said(atoms: &[u32], draft: &mut [u8; BOOK_BYTES], f: Forming, said: Said) -> Forming
     requires { ⌜ Placed (now atoms) said ⌝ }
-    ensures { λ r. ⌜ Forms (saidRules (now (atoms .entry)) said)
-        (formedSaid f (now (atoms .entry)) said) (f .making)
+    ensures { λ r. ⌜ Forms (now (atoms .entry)) (λ k l. saidRules k (now (atoms .entry)) said)
+        (f .helper) (formedSaid f (now (atoms .entry)) said) (f .making)
         (now (draft .entry)) r (now (draft .exit)) ⌝ }
 {
+    let m = f.making;
+    let o = f.rule;
+    let helper = f.helper;
+    let entry = f.entry;
     match said {
         Said::Nothing => f,
+        Said::Choice => Forming {
+            making: m,
+            rule: open_rule(true),
+            helper,
+            entry,
+        },
         Said::Atom(a, standing) => {
             let n = number_of(atoms, a);
-            let g = form_atom(f, n, standing);
-            let m = g.making;
-            let head = g.head;
-            let pos = g.pos;
-            let neg = g.neg;
             Forming {
-                making: add_entry(draft, m, atoms.len(), n, standing),
-                head,
-                pos,
-                neg,
-                entry: g.entry,
+                making: add_entry(draft, m, helper, n, standing),
+                rule: opened_by(o, n, standing),
+                helper,
+                entry: entry_by(entry, standing),
             }
         }
     }
 }
 
-// What a word says, and the rule that was open if it is whole then.
+// The number of the next helper behind the open rule: a choice has one for each head.
+fn helper_behind(helper: usize, free: bool, count: usize) -> usize
+    ensures { λ r. ⌜ r ≡ helperBehind helper free count ⌝ }
+{
+    if free {
+        return counted_on(helper, count);
+    }
+    helper
+}
+
+// The open rule is whole: its rules are added.
+fn close_rule(draft: &mut [u8; BOOK_BYTES], f: Forming) -> Forming
+    ensures { λ r. ⌜ Forms [] (λ k l. shutRules k l (f .rule)) (f .helper) (shut f) (f .making)
+        (now (draft .entry)) r (now (draft .exit)) ⌝ }
+{
+    let m = f.making;
+    let o = f.rule;
+    let helper = f.helper;
+    Forming {
+        making: add_open(draft, m, helper, o),
+        rule: o,
+        helper: helper_behind(helper, o.free, o.count),
+        entry: f.entry,
+    }
+}
+
+// What a word says, and the rules of the rule that was open if it is whole then.
 pub fn form(
     atoms: &[u32],
     draft: &mut [u8; BOOK_BYTES],
@@ -215,24 +209,14 @@ pub fn form(
     next: Due,
 ) -> Forming
     requires { ⌜ Placed (now atoms) said ⌝ }
-    ensures { λ r. ⌜ Forms (saidRules (now (atoms .entry)) said
-        ++ ruleClosed next (formedSaid f (now (atoms .entry)) said))
-        (formedSaid f (now (atoms .entry)) said) (f .making)
+    ensures { λ r. ⌜ Forms (now (atoms .entry)) (λ k l. saidRules k (now (atoms .entry)) said
+        ++ ruleClosed next k l (formedSaid f (now (atoms .entry)) said .rule)) (f .helper)
+        (closedBy next (formedSaid f (now (atoms .entry)) said)) (f .making)
         (now (draft .entry)) r (now (draft .exit)) ⌝ }
 {
     let g = form_said(atoms, draft, f, said);
     if !closes_rule(next) {
         return g;
     }
-    let m = g.making;
-    let head = g.head;
-    let pos = g.pos;
-    let neg = g.neg;
-    Forming {
-        making: add_rule(draft, m, head, &pos, &neg),
-        head,
-        pos,
-        neg,
-        entry: g.entry,
-    }
+    close_rule(draft, g)
 }

@@ -68,6 +68,7 @@ fn note(found: &mut [u32; 255], n: usize, said: Said) -> usize
 {
     match said {
         Said::Nothing => n,
+        Said::Choice => n,
         Said::Atom(a, _) => note_atom(found, n, a),
     }
 }

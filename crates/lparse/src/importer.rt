@@ -1,7 +1,7 @@
 // The book made of a text.
 ghost use mathlib.Core.Path.{_≡_};
 ghost use mathlib.Core.List.{[]};
-ghost use Prim.Native.Nat.{ℕ, _≤_};
+ghost use Prim.Native.Nat.{ℕ};
 ghost use lib.ListN.{length};
 ghost use Rattle.meaning.specs.Told.{Answered};
 ghost use Rattle.book.specs.Format.{bookBytes};
@@ -10,6 +10,7 @@ ghost use Rattle.imported.specs.Text.{Text};
 ghost use Rattle.imported.specs.Making.{madeRules, madeBook};
 ghost use Rattle.lparse.specs.Reading.{Part, says};
 ghost use Rattle.lparse.specs.Collect.{textIn, textOf};
+ghost use Rattle.lparse.specs.Opened.{capped};
 ghost use Rattle.lparse.specs.Make.{counted, Readable, Complete};
 ghost use Rattle.lparse.specs.declared.importer.Laid.the-variants.{Book as LaidBook};
 ghost use Rattle.lparse.specs.Import.{toldBook, laidOf, importOf};
@@ -20,13 +21,14 @@ use crate::form::Forming;
 use crate::form::form;
 use crate::gather::Collected;
 use crate::gather::collect;
+use crate::rule::counted_on;
+use crate::rule::open_rule;
 use crate::step::Step;
 use crate::step::take_word;
 use book::BOOK_BYTES;
 use book::Making;
 use book::copy_front;
 use book::finish_book;
-use meaning::AtomNo;
 
 // The rules of the book, in the draft: the second pass over a text that was found fine, whose
 // different atoms these are.
@@ -37,9 +39,8 @@ fn make(text: &[u8], atoms: &[u32], draft: &mut [u8; BOOK_BYTES]) -> Forming
 {
     let mut f = Forming {
         making: Making::nothing(),
-        head: AtomNo(0),
-        pos: [false; 255],
-        neg: [false; 255],
+        rule: open_rule(false),
+        helper: atoms.len(),
         entry: false,
     };
     let mut due = Due::Number(Role::Kind);
@@ -58,13 +59,13 @@ fn make(text: &[u8], atoms: &[u32], draft: &mut [u8; BOOK_BYTES]) -> Forming
     }
 }
 
-// How many atoms the book has: one more than the text where a list had an entry.
+// How many atoms the book has, told up to 256: one more than the text's and the choices' helpers
+// where a list had an entry.
 fn count_atoms(entry: bool, n: usize) -> usize
-    requires { ⌜ n ≤ 255 ⌝ }
-    ensures { λ r. ⌜ r ≡ counted entry n [] ⌝ }
+    ensures { λ r. ⌜ ((k : ℕ) → n ≡ capped k → r ≡ capped (counted entry k [])) ⌝ }
 {
     if entry {
-        return n + 1;
+        return counted_on(n, 1);
     }
     n
 }
@@ -79,7 +80,7 @@ pub enum Laid {
 fn lay_out(draft: &mut [u8; BOOK_BYTES], m: Making, atoms: usize, room: usize) -> Laid
     requires { ⌜ ((t : Text) × Made (madeRules t) m (now draft)) ⌝ }
     ensures { λ r. ⌜ ((t : Text) → Made (madeRules t) m (now (draft .entry)) →
-        atoms ≡ madeBook t .atoms → (r ≡ laidOf (madeBook t) room)
+        atoms ≡ capped (madeBook t .atoms) → (r ≡ laidOf (madeBook t) room)
         × ((n : ℕ) → r ≡ LaidBook n → Finished (madeBook t) n (now (draft .exit)))) ⌝ }
 {
     if !m.fits {
@@ -104,7 +105,7 @@ fn import_fine(text: &[u8], atoms: &[u32], out: &mut [u8]) -> Imported
     let mut draft = [0u8; BOOK_BYTES];
     let f = make(text, atoms, &mut draft);
     let m = f.making;
-    let count = count_atoms(f.entry, atoms.len());
+    let count = count_atoms(f.entry, f.helper);
     match lay_out(&mut draft, m, count, out.len()) {
         Laid::NoFit => Imported::NoFit,
         Laid::Book(n) => {

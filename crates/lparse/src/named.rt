@@ -51,6 +51,7 @@ fn in_table(standing: Standing) -> bool
 {
     match standing {
         Standing::Head => false,
+        Standing::Free => false,
         Standing::Negative => false,
         Standing::Positive => false,
         Standing::Table => true,
@@ -65,6 +66,7 @@ fn is_named(said: Said, a: TextAtom) -> bool
 {
     match said {
         Said::Nothing => false,
+        Said::Choice => false,
         Said::Atom(c, standing) => {
             if !in_table(standing) {
                 return false;

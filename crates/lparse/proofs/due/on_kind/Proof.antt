@@ -16,7 +16,11 @@ returns-2 c = sym (eq-no _ _ _ _ (λ e. omega arith) ∙ eq-yes _ _ _ _ (omega a
 
 returns-3 : tie.Need-returns-3
 unfolding onKind
-returns-3 c = sym (eq-no _ _ _ _ (λ e. omega arith) ∙ eq-no _ _ _ _ (λ e. omega arith))
+returns-3 c = sym (eq-no _ _ _ _ (λ e. omega arith) ∙ eq-no _ _ _ _ (λ e. omega arith) ∙ eq-yes _ _ _ _ (omega arith))
+
+returns-4 : tie.Need-returns-4
+unfolding onKind
+returns-4 c = sym (eq-no _ _ _ _ (λ e. omega arith) ∙ eq-no _ _ _ _ (λ e. omega arith) ∙ eq-no _ _ _ _ (λ e. omega arith))
 
 pub on-kind-spec : {M : Type 1} → statement M
-on-kind-spec = tie.close (tie.spec returns returns-2 returns-3)
+on-kind-spec = tie.close (tie.spec returns returns-2 returns-3 returns-4)

@@ -45,8 +45,17 @@ returns-10 : tie.Need-returns-10
 unfolding opensRule
 returns-10 c = sym (ap opensRule (c .enum-told10 .given .1))
 
+returns-11 : tie.Need-returns-11
+unfolding opensRule
+returns-11 c = sym (ap opensRule (c .enum-told11 .given .1))
+
+returns-12 : tie.Need-returns-12
+unfolding opensRule
+returns-12 c = sym (ap opensRule (c .enum-told12 .given .1))
+
 pub opens-rule-spec : {M : Type 1} → statement M
 opens-rule-spec =
-    tie.close (tie.spec (λ c. search needs) (λ c. search needs) (λ c. search needs) (λ c. search needs) (λ c. search needs)
-    (λ c. search needs) (λ c. search needs) (λ c. search needs) (λ c. search needs) (λ c. search needs) returns
-    returns-2 returns-3 returns-4 returns-5 returns-6 returns-7 returns-8 returns-9 returns-10)
+    tie.close (tie.spec (λ c. search needs) (λ c. search needs) (λ c. search needs) (λ c. search needs)
+    (λ c. search needs) (λ c. search needs) (λ c. search needs) (λ c. search needs) (λ c. search needs)
+    (λ c. search needs) (λ c. search needs) (λ c. search needs) returns returns-2 returns-3 returns-4 returns-5
+    returns-6 returns-7 returns-8 returns-9 returns-10 returns-11 returns-12)

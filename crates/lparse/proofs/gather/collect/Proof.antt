@@ -7,7 +7,8 @@ use lib.ListN.{length}
 use borrow.Author.Needs.{needs}
 use Rattle.lparse.specs.Reading.{heardAt, stepAt}
 use Rattle.lparse.proofs.Reading.{step-ahead, took-ahead}
-use Rattle.lparse.proofs.Collecting.{stands-long, Gathering, gathering-start, gathering-turn, gather-format, gather-kind, gather-end}
+use Rattle.lparse.proofs.Noting.{stands-long}
+use Rattle.lparse.proofs.Collecting.{Gathering, gathering-start, gathering-turn, gather-format, gather-kind, gather-end}
 use Rattle.lparse.proofs.gather.collect.Statement.{statement}
 use Rattle.lparse.proofs.gather.collect.Tie as tie
 

@@ -9,7 +9,7 @@ use borrow.Author.Needs.{needs}
 use Rattle.meaning.specs.Sets.{some}
 use Rattle.imported.specs.Text.{sameText}
 use Rattle.lparse.specs.Reading.{textAtom}
-use Rattle.lparse.proofs.Collecting.{none-next, one-here}
+use Rattle.lparse.proofs.Noting.{none-next, one-here}
 use Rattle.lparse.proofs.gather.contains.Statement.{statement}
 use Rattle.lparse.proofs.gather.contains.Tie as tie
 

@@ -5,7 +5,7 @@ use Prim.Native.Nat.{_-_, _≤_}
 use native.Mathlib.Omega.{arith}
 use lib.ListN.{length, take, drop, length-set}
 use borrow.Author.Needs.{needs}
-use Rattle.lparse.proofs.Collecting.{copy-more, handed-many, handed}
+use Rattle.lparse.proofs.Noting.{copy-more, handed-many, handed}
 use Rattle.lparse.proofs.gather.hand_over.Statement.{statement}
 use Rattle.lparse.proofs.gather.hand_over.Tie as tie
 

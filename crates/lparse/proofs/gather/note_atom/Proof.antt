@@ -2,7 +2,7 @@
 use mathlib.Core.Path.{sym, _∙_}
 use native.Mathlib.Omega.{arith}
 use borrow.Author.Needs.{needs}
-use Rattle.lparse.proofs.Collecting.{note-passed, note-old, note-full, note-new}
+use Rattle.lparse.proofs.Noting.{note-passed, note-old, note-full, note-new}
 use Rattle.lparse.proofs.gather.note_atom.Statement.{statement}
 use Rattle.lparse.proofs.gather.note_atom.Tie as tie
 

@@ -5,6 +5,7 @@ use Rattle.book.specs.Making.{Finished}
 use Rattle.imported.specs.Text.{Text}
 use Rattle.imported.specs.Making.{madeBook}
 use Rattle.lparse.specs.Collect.{textOf}
+use Rattle.lparse.specs.Opened.{capped}
 use Rattle.lparse.specs.Make.{Complete}
 use Rattle.lparse.proofs.Importing.{blank, count-complete, finished-inside, front-bytes, front-room, given-short, given-book}
 use Rattle.lparse.proofs.importer.import_fine.Statement.{statement}
@@ -24,9 +25,6 @@ module _ (c : tie.After-make) where
   complete : Complete text (c .make .result) (c .make .last .1 .1 .0)
   complete = c .make .ensures (start .pre .part) (start .pre .heard)
 
-count-atoms-requires : tie.Need-count-atoms-requires
-count-atoms-requires c κs = start (c .before) .pre .few
-
 lay-out-requires : tie.Need-lay-out-requires
 lay-out-requires c κs = let k = c .before .before .before in (text k, complete k .made)
 
@@ -35,8 +33,8 @@ module _ (c : tie.After-lay-out) where
   abbrev made : tie.After-make
   made = c .before .before .before .before
 
-  atoms : c .before .before .count-atoms .result ≡ madeBook (text made) .atoms
-  atoms = count-complete (start made .pre) (complete made) (c .before .before .count-atoms .ensures)
+  atoms : c .before .before .count-atoms .result ≡ capped (madeBook (text made) .atoms)
+  atoms = count-complete (complete made) (c .before .before .count-atoms .ensures)
 
 returns : tie.Need-returns
 returns c =
@@ -73,5 +71,5 @@ returns-2 c =
 
 pub import-fine-spec : {M : Type 1} → statement M
 import-fine-spec =
-    tie.close (tie.spec make-requires count-atoms-requires lay-out-requires (λ c. search needs) (λ c. search needs) (λ c. search needs)
+    tie.close (tie.spec make-requires (λ c κs. search needs) lay-out-requires (λ c. search needs) (λ c. search needs) (λ c. search needs)
     (λ c. search needs) part-copy-front-end copy-front-requires returns (λ c. search needs) returns-2)

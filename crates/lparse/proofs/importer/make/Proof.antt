@@ -19,14 +19,17 @@ abbrev μ-loop : tie.MeasureT-loop
 
 loop-holds : tie.Need-loop-holds Inv-loop μ-loop
 loop-holds c =
-    let s = c .before .before .before in
-    (search needs, passing-start (s .args .text .now) (s .args .atoms .now) _ _ (s .args .draft .now) (s .pre .0) (c .nothing .ensures _ (s .pre .1)))
+    let s = c .before .before .before .before in (
+      search needs,
+      passing-start (s .args .text .now) (s .args .atoms .now) (s .pre .0) (c .before .nothing .ensures (s .args .draft .now) (s .pre .1))
+          (c .open-rule .ensures),
+    )
 
 form-requires : tie.Need-form-requires Inv-loop μ-loop
 form-requires c κs =
     let t = c .before .before .before .before in
     let k = t .before in
-    let a = k .before .before .before .before .args in
+    let a = k .before .before .before .before .before .args in
     passing-placed (a .text .now) (a .atoms .now) (k .loop .at) (k .loop .due) (k .loop .inv .1) (t .take-word .ensures) _ _ _ _
     (c .before .before .next .given .1)
 
@@ -36,7 +39,7 @@ module _ (c : tie.After-form Inv-loop μ-loop) where
   turn = c .before .before .before .before .before .before
 
   abbrev text : List ℕ
-  text = turn .before .before .before .before .args .text .now
+  text = turn .before .before .before .before .before .args .text .now
 
   abbrev stepped : c .before .before .before .before .before .take-word .result ≡ stepAt text (turn .loop .at) (turn .loop .due)
   stepped = c .before .before .before .before .before .take-word .ensures
@@ -56,7 +59,7 @@ loop-again : tie.Need-loop-again Inv-loop μ-loop
 loop-again c =
     let k = turn c in (
       ahead c .1,
-      passing-turn (text c) (k .before .before .before .before .args .atoms .now) (k .loop .at) (k .loop .due) (k .loop .inv .1)
+      passing-turn (text c) (k .before .before .before .before .before .args .atoms .now) (k .loop .at) (k .loop .due) (k .loop .inv .1)
           (stepped c) _ _ _ _ (goes c .next .given .1) (c .form .ensures),
     )
 
@@ -64,24 +67,24 @@ returns : tie.Need-returns Inv-loop μ-loop
 returns c =
     let t = c .before .before in
     let k = t .before in
-    let a = k .before .before .before .before .args in
+    let a = k .before .before .before .before .before .args in
     absurd (passing-format (a .text .now) (a .atoms .now) (k .loop .at) (k .loop .due) (k .loop .inv .1) (t .take-word .ensures) _ (c .enum-told .given .1))
 
 returns-2 : tie.Need-returns-2 Inv-loop μ-loop
 returns-2 c =
     let t = c .before .before in
     let k = t .before in
-    let a = k .before .before .before .before .args in
+    let a = k .before .before .before .before .before .args in
     absurd (passing-kind (a .text .now) (a .atoms .now) (k .loop .at) (k .loop .due) (k .loop .inv .1) (t .take-word .ensures) _ (c .enum-told2 .given .1))
 
 returns-3 : tie.Need-returns-3 Inv-loop μ-loop
 returns-3 c =
     let t = c .before .before in
     let k = t .before in
-    let a = k .before .before .before .before .args in
+    let a = k .before .before .before .before .before .args in
     passing-end (a .text .now) (a .atoms .now) (k .loop .at) (k .loop .due) (k .loop .inv .1) (t .take-word .ensures) (c .enum-told3 .given .1)
 
 pub make-spec : {M : Type 1} → statement M
 make-spec =
-    tie.close (tie.spec Inv-loop μ-loop (λ c κs. search needs) loop-holds (λ c κs. search needs) (λ c. search needs) form-requires
+    tie.close (tie.spec Inv-loop μ-loop (λ c κs. search needs) (λ c κs. search needs) loop-holds (λ c κs. search needs) (λ c. search needs) form-requires
     loop-less loop-again (λ c. search needs) returns (λ c. search needs) returns-2 (λ c. search needs) returns-3)

@@ -1,7 +1,6 @@
 -- The search: the atoms passed have other numbers.
 use mathlib.Core.Path.{_≡_, refl}
 use Prim.Native.Nat.{_-_, _≤_}
-use native.Mathlib.Omega.{arith}
 use lib.ListN.{length, drop}
 use borrow.Author.Needs.{needs}
 use Rattle.lparse.specs.Names.{whoseIn, whoseOf}

@@ -29,7 +29,12 @@ returns-6 : tie.Need-returns-6
 unfolding inTable
 returns-6 c = sym (ap inTable (c .enum-told6 .given .1))
 
+returns-7 : tie.Need-returns-7
+unfolding inTable
+returns-7 c = sym (ap inTable (c .enum-told7 .given .1))
+
 pub in-table-spec : {M : Type 1} → statement M
 in-table-spec =
-    tie.close (tie.spec (λ c. search needs) (λ c. search needs) (λ c. search needs) (λ c. search needs) (λ c. search needs)
-    (λ c. search needs) returns returns-2 returns-3 returns-4 returns-5 returns-6)
+    tie.close (tie.spec (λ c. search needs) (λ c. search needs) (λ c. search needs) (λ c. search needs)
+    (λ c. search needs) (λ c. search needs) (λ c. search needs) returns returns-2 returns-3 returns-4 returns-5
+    returns-6 returns-7)

@@ -1,7 +1,7 @@
 -- A word is a name of the atom where it is said of the table, and the atom is the same.
 use borrow.Author.Needs.{needs}
 use borrow.Author.Tests.{not-true, not-false}
-use Rattle.lparse.proofs.Names.{named-silent, named-elsewhere, named-table}
+use Rattle.lparse.proofs.Names.{named-silent, named-choice, named-elsewhere, named-table}
 use Rattle.lparse.proofs.named.is_named.Statement.{statement}
 use Rattle.lparse.proofs.named.is_named.Tie as tie
 
@@ -14,10 +14,13 @@ returns-2 : tie.Need-returns-2
 returns-2 c = named-silent _ (c .enum-told .given .1)
 
 returns-3 : tie.Need-returns-3
-returns-3 c =
+returns-3 c = named-choice _ (c .enum-told2 .given .1)
+
+returns-4 : tie.Need-returns-4
+returns-4 c =
     let k = c .before .before .before in
     named-table _ _ _ (k .before .before .said .given .1) (k .in-table .ensures) (not-false _ (c .before .before .if1 .left))
 
 pub is-named-spec : {M : Type 1} → statement M
 is-named-spec =
-    tie.close (tie.spec (λ c. search needs) (λ c. search needs) (λ c κs. search needs) returns returns-2 returns-3)
+    tie.close (tie.spec (λ c. search needs) (λ c. search needs) (λ c. search needs) (λ c κs. search needs) returns returns-2 returns-3 returns-4)
