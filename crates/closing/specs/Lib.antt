@@ -4,6 +4,7 @@ pub mod Conditions
 pub mod News
 pub mod Dropped
 pub mod Ended
+pub mod Taken
 pub mod Left
 pub mod Picked
 pub mod Settle
