@@ -3,6 +3,7 @@ pub mod Growing
 pub mod Conditions
 pub mod News
 pub mod Dropped
+pub mod Clearing
 pub mod Ended
 pub mod Left
 pub mod Picked

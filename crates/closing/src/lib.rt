@@ -19,10 +19,12 @@ use meaning::Colouring;
 use unsupported::drop_unsupported;
 
 mod clash;
+mod cleared;
 mod first;
 mod levels;
 mod marking;
 mod propagation;
+mod suspected;
 mod unsupported;
 
 pub use clash::Picked;

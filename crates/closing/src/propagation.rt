@@ -60,7 +60,7 @@ fn spread(rows: &[u64; 3072], atoms: &[u64; 4], by_neg: &mut [u64; 4], by_pos: &
 }
 
 // Puts the atom in the set if so told.
-fn note(told: bool, a: AtomNo, set: &mut [u64; 4])
+pub fn note(told: bool, a: AtomNo, set: &mut [u64; 4])
     ensures { λ _. ⌜ atomSet (now (set .exit)) ≡
         (λ x. atomSet (now (set .entry)) x || (told && sameAtom a x)) ⌝ }
 {
