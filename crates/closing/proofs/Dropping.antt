@@ -2,7 +2,7 @@
 -- those that are off; found by suspects, they are the suspects that are not held.
 use mathlib.Core.Path.{_≡_, refl, sym, ap, ap₂, _∙_, fun-ext}
 use mathlib.Core.Logic.{⊎-elim}
-use mathlib.Core.Bool.{Bool, true, false, not, _&&_, _||_, or-false}
+use mathlib.Core.Bool.{Bool, true, not, _&&_, _||_, or-false}
 use mathlib.Core.List.{List}
 use Prim.Native.Nat.{ℕ, _≤_}
 use native.Mathlib.Omega.{arith}
@@ -16,13 +16,14 @@ use Rattle.meaning.specs.Colours.{Under}
 use Rattle.meaning.specs.Bits.{none, below, plus, less, implied, members, listed}
 use Rattle.meaning.specs.Written.{of}
 use Rattle.meaning.specs.Computed.{support}
+use Rattle.meaning.specs.Pending.{joined}
 use Rattle.meaning.specs.Suspects.{Alike, Settled, Suspects, Cleared}
-use Rattle.meaning.proofs.Tests.{both, and-left, and-right, or-left, same, decided, true-and-false, refuted, not-first, implies}
+use Rattle.meaning.proofs.Tests.{and-left, and-right, same, decided, true-and-false, refuted, not-first, implies}
 use Rattle.meaning.proofs.Sets.{below-at, below-some, below-one}
 use Rattle.meaning.proofs.Rules.{some-rule-by, some-rule-one, in-book-or-not}
 use Rattle.meaning.proofs.Four.{members-small, members-nothing}
 use Rattle.meaning.proofs.Support.{support-is, support-unique}
-use Rattle.meaning.proofs.Suspects.{settled-alike, settled-after, cleared-is, rest-unsupported}
+use Rattle.meaning.proofs.Suspects.{settled-alike, cleared-is, rest-unsupported}
 use Rattle.closing.specs.Clearing.{Inside}
 use Rattle.closing.specs.Dropped.{unheld, Dropped}
 use Rattle.closing.proofs.Falling.{at-rule}
@@ -101,22 +102,25 @@ some-in w v z e n {x} f = ⊎-elim
     (λ t. ap not t ∙ sym (let (a, k) = one-in w v z e n f t in below-one 256 (members w) (a .0) (members-small w (a .0) k) k))
     (decided x)
 
+-- what is joined has gone off
+pub gone-off : (b : Book) (off off' rest : List ℕ) → of (listed rest) ≡ unheld b (of (listed off)) → members off' ≡ plus (members off) (members rest)
+    → of (listed off') ≡ joined (of (listed off)) (unheld b (of (listed off)))
+gone-off b off off' rest u e =
+    fun-ext (λ r. at-rule off' e r ∙ ap₂ _||_ (sym (at-rule off refl r)) (sym (at-rule rest refl r) ∙ ap (λ (z : Rules). z r) u))
+
 pub dropped-by : (b : Book) (off off' rest : List ℕ) {more : Bool} → of (listed rest) ≡ unheld b (of (listed off))
     → members off' ≡ plus (members off) (members rest) → more ≡ someBelow 256 (members rest)
     → Dropped b (of (listed off)) more (of (listed off'))
 unfolding unheld
 dropped-by b off off' rest {more} u e f = record {
   more = f ∙ same _ _ to from;
-  gone = gone;
-  rests = λ n. gone ∙ fun-ext (λ r. ap (λ (x : Bool). of (listed off) r || x) (refuted (λ m.
+  gone = gone-off b off off' rest u e;
+  rests = λ n. gone-off b off off' rest u e ∙ fun-ext (λ r. ap (λ (x : Bool). of (listed off) r || x) (refuted (λ m.
       let i = ap (λ (z : Rules). z r) u ∙ m in
       let j = sym (at-rule rest refl r) ∙ i in
       true-and-false (below-one 256 (members rest) (r .0) (members-small rest (r .0) j) j) (sym f ∙ n))) ∙ or-false (of (listed off) r));
 }
   where
-    gone : of (listed off') ≡ (λ r. of (listed off) r || unheld b (of (listed off)) r)
-    gone = fun-ext (λ r. at-rule off' e r ∙ ap₂ _||_ (sym (at-rule off refl r)) (sym (at-rule rest refl r) ∙ ap (λ (z : Rules). z r) u))
-
     inside : (r : RuleNo) → unheld b (of (listed off)) r ≡ true → InBook b r
     inside r m = ltb-true (r .0) (count b) (and-left (ltb (r .0) (count b)) _
         (and-left (ltb (r .0) (count b) && not (of (support b (of (listed off))) r)) _ m))
@@ -130,15 +134,3 @@ dropped-by b off off' rest {more} u e f = record {
     from m = let (r, h, k) = some-rule-by b (unheld b (of (listed off))) m in
         let j = sym (at-rule rest refl r) ∙ ap (λ (z : Rules). z r) u ∙ k in
         below-one 256 (members rest) (r .0) (members-small rest (r .0) j) j
-
--- with these off all others are supported, whether there was one or not
-pub dropped-settled : (b : Book) → count b ≤ 255 → (off off' : Rules) {more : Bool} → Dropped b off more off' → Settled b off'
-unfolding unheld
-dropped-settled b few off off' d = settled-after b (support-is b off few) (λ r h. ⊎-elim
-    (λ m. or-left _ m ∙ sym (ap (λ (z : Rules). z r) (d .gone) ∙ or-left _ m))
-    (λ n. ap (λ (x : Bool). off r || x) (added r h n) ∙ sym (ap (λ (z : Rules). z r) (d .gone)))
-    (decided (off r)))
-  where
-    added : (r : RuleNo) → InBook b r → off r ≡ false → not (of (support b off) r) ≡ unheld b off r
-    added r h n = same _ _ (λ m. both (both (lt-ltb (r .0) (count b) h) m) (ap not n))
-        (λ m. and-right (ltb (r .0) (count b)) _ (and-left (ltb (r .0) (count b) && not (of (support b off) r)) _ m))

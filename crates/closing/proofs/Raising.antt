@@ -24,7 +24,7 @@ use Rattle.meaning.proofs.Written.{of-set}
 use Rattle.meaning.proofs.Listed.{listed-long}
 use Rattle.meaning.proofs.Propagation.{forced-on}
 use Rattle.meaning.proofs.Pending.{pending-fewer, pending-looked-on, pending-looked-past}
-use Rattle.closing.specs.News.{atomSet, Looked, passed, risen, Raised}
+use Rattle.closing.specs.News.{Looked, passed, risen, Raised}
 use Rattle.closing.proofs.Noting.{noted}
 use Rattle.closing.proofs.Falling.{at-rule}
 
@@ -40,22 +40,24 @@ less-listed d w v x y e f g q =
     ∙ ap₂ (λ (m n : Bool). m && not n)
     (ap (λ (u : List ℕ). members u (q .0)) f ∙ sym (at-rule x refl q)) (ap (λ (u : List ℕ). members u (q .0)) g ∙ sym (at-rule y refl q))
 
--- a rule that may go on has gone on, and its head is noted unless it was the head of an on rule
-pub looked-risen : (b : Book) (off : Rules) (r : RuleNo) (on on' nt' : List ℕ) (nt : Atoms) (h : AtomNo) (told : Bool) → r .0 < 256
-    → r ∈ mayOn b (record { on = of (listed on); off = off }) → h ≡ rule b r .head → told ≡ heads b (of (listed on)) h
-    → atomSet nt' ≡ (λ a. nt a || (not told && sameAtom h a)) → listed on' ≡ set (listed on) (r .0) true
-    → Looked b off r (of (listed on)) nt (of (listed on')) (atomSet nt')
+-- the head of a rule is noted unless it was the head of an on rule
+pub noted-true : (b : Book) (r : RuleNo) (on : Rules) (nt : Atoms) {nt' : Atoms} (h : AtomNo) (told : Bool) → h ≡ rule b r .head
+    → told ≡ heads b on h → nt' ≡ (λ a. nt a || (not told && sameAtom h a)) → nt' ≡ newlyTrue b r on nt
 unfolding newlyTrue
-looked-risen b off r on on' nt' nt h told low m e f g p =
-    subst (λ (o : Rules). Looked b off r (of (listed on)) nt o (atomSet nt')) (sym went)
-    (subst (λ (a : Atoms). Looked b off r (of (listed on)) nt (plus (of (listed on)) (r ∷ [])) a) (sym new) (risen m))
-  where
-    went : of (listed on') ≡ plus (of (listed on)) (r ∷ [])
-    went = ap of p ∙ of-set (listed on) r (omega (arith, listed-long on))
+noted-true b r on nt h told e f g = g ∙ noted (λ a. not (heads b on a)) nt h (not told) (ap not f)
+    ∙ fun-ext (λ a. ap (λ (h : AtomNo). nt a || (sameAtom h a && not (heads b on a))) e)
 
-    new : atomSet nt' ≡ (λ a. nt a || (sameAtom (rule b r .head) a && not (heads b (of (listed on)) a)))
-    new = g ∙ noted (λ a. not (heads b (of (listed on)) a)) nt h (not told) (ap not f)
-        ∙ fun-ext (λ a. ap (λ (h : AtomNo). nt a || (sameAtom h a && not (heads b (of (listed on)) a))) e)
+-- a set of words with a rule put in
+pub put-rule : (w v : List ℕ) (r : RuleNo) → r .0 < 256 → listed w ≡ set (listed v) (r .0) true → of (listed w) ≡ plus (of (listed v)) (r ∷ [])
+put-rule w v r low p = ap of p ∙ of-set (listed v) r (omega (arith, listed-long v))
+
+-- a rule that may go on has gone on
+pub looked-risen : (b : Book) (off : Rules) (r : RuleNo) (on on' : List ℕ) (nt : Atoms) {nt' : Atoms} → r .0 < 256
+    → r ∈ mayOn b (record { on = of (listed on); off = off }) → listed on' ≡ set (listed on) (r .0) true
+    → nt' ≡ newlyTrue b r (of (listed on)) nt → Looked b off r (of (listed on)) nt (of (listed on')) nt'
+looked-risen b off r on on' nt {nt'} low m p new =
+    subst (λ (o : Rules). Looked b off r (of (listed on)) nt o nt') (sym (put-rule on' on r low p))
+    (subst (λ (a : Atoms). Looked b off r (of (listed on)) nt (plus (of (listed on)) (r ∷ [])) a) (sym new) (risen m))
 
 -- where the search begins, all of the set is left
 pub onward-first : (w : List ℕ) (r : ℕ) → NextIn (members w) 0 r → (q : RuleNo) → q ∈ of (listed w) → q ∈ onward w r

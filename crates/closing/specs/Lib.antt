@@ -5,6 +5,7 @@ pub mod News
 pub mod Dropped
 pub mod Clearing
 pub mod Ended
+pub mod Taken
 pub mod Left
 pub mod Picked
 pub mod Settle

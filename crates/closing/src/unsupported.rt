@@ -4,6 +4,7 @@ ghost use Rattle.meaning.specs.Sets.{someBelow};
 ghost use Rattle.meaning.specs.Colours.{Under};
 ghost use Rattle.meaning.specs.Bits.{plus, members, listed};
 ghost use Rattle.meaning.specs.Written.{of};
+ghost use Rattle.meaning.specs.Pending.{joined};
 ghost use Rattle.meaning.specs.Suspects.{Settled};
 ghost use Rattle.book.specs.Format.{bookIn, ReadAs};
 ghost use Rattle.book.specs.RuleRows.{RuleRows};
@@ -16,22 +17,11 @@ use meaning::Bits;
 use meaning::join;
 use meaning::whole;
 
-// Puts the rules off; whether there was one.
-fn put_off(rest: &[u64; 4], off: &mut [u64; 4]) -> bool
-    ensures { λ more. ⌜ (members (now (off .exit)) ≡
-        plus (members (now (off .entry))) (members (now (rest .entry))))
-        × (more ≡ someBelow 256 (members (now (rest .entry)))) ⌝ }
-{
-    join(off, rest);
-    !whole(rest).is_within(Bits::empty())
-}
-
-// Puts off the rules outside the support set of the off rules; whether there was one that was not
-// off.
-pub fn drop_unsupported(book: &[u8], shape: Shape, off: &mut [u64; 4]) -> bool
+// Puts off the rules outside the support set of the off rules.
+pub fn drop_unsupported(book: &[u8], shape: Shape, off: &mut [u64; 4])
     requires { ⌜ ReadAs (now book) shape ⌝ }
-    ensures { λ more. ⌜ Dropped (bookIn (now (book .entry))) (of (listed (now (off .entry)))) more
-        (of (listed (now (off .exit)))) ⌝ }
+    ensures { λ _. ⌜ of (listed (now (off .exit))) ≡ joined (of (listed (now (off .entry))))
+        (unheld (bookIn (now (book .entry))) (of (listed (now (off .entry))))) ⌝ }
 {
     let mut marks = [0u64; 4];
     support(book, shape, off, &mut marks);
@@ -39,7 +29,7 @@ pub fn drop_unsupported(book: &[u8], shape: Shape, off: &mut [u64; 4]) -> bool
         .difference(whole(&marks))
         .difference(whole(off));
     let w = rest.w;
-    put_off(&w, off)
+    join(off, &w);
 }
 
 // Writes the rules outside the support set of the off rules that are not off. With the `old` ones
@@ -74,8 +64,18 @@ fn find_unsupported(
     *rest = w;
 }
 
-// The same as drop_unsupported, from off rules with which all others were supported. Afterwards these
-// are the ones that are off now.
+// Puts the rules off; whether there was one.
+fn put_off(rest: &[u64; 4], off: &mut [u64; 4]) -> bool
+    ensures { λ more. ⌜ (members (now (off .exit)) ≡
+        plus (members (now (off .entry))) (members (now (rest .entry))))
+        × (more ≡ someBelow 256 (members (now (rest .entry)))) ⌝ }
+{
+    join(off, rest);
+    !whole(rest).is_within(Bits::empty())
+}
+
+// Puts off the rules outside the support set of the off rules, looking at suspects alone; whether there
+// was one that was not off. Afterwards `old` is what is off.
 pub fn drop_suspects(
     book: &[u8],
     shape: Shape,
