@@ -8,6 +8,7 @@ use Prim.Native.Nat.{ℕ, _≤_, _<_}
 use native.Mathlib.Nat.{zero-add}
 use native.Mathlib.Omega.{arith}
 use lib.Dec.{ltb}
+use lib.ListN.{set}
 use lib.Seq.{ext-getD}
 use borrow.Author.Tests.{not-true, le-ltb, lt-ltb}
 use Rattle.meaning.specs.declared.RuleNo.{RuleNo}
@@ -19,10 +20,12 @@ use Rattle.meaning.specs.Written.{Tables, of, stampFrom, lent, pair}
 use Rattle.meaning.specs.Lowest.{Pick, lowestFrom, lowest, inBoth, clashed}
 use Rattle.meaning.specs.Computed.{support, newly, newLevels, close}
 use Rattle.meaning.specs.Propagation.{Propagated, Propagation, propagate}
-use Rattle.meaning.proofs.Tests.{both, and-left, and-right, either, or-left, or-right, true-and-false, refuted, decided, not-first}
-use Rattle.meaning.proofs.Rules.{some-rule-by, some-rule-one, within-trans}
+use Rattle.meaning.specs.Pending.{joined}
+use Rattle.meaning.specs.Suspects.{Settled}
+use Rattle.meaning.proofs.Tests.{both, and-left, and-right, either, or-left, or-right, same, true-and-false, refuted, decided, not-first}
+use Rattle.meaning.proofs.Rules.{some-rule-by, some-rule-one, within-off, within-trans}
 use Rattle.meaning.proofs.RulesIn.{rules-fewer}
-use Rattle.meaning.proofs.Written.{Sized}
+use Rattle.meaning.proofs.Written.{Sized, of-set}
 use Rattle.meaning.proofs.Stamps.{length-stamp}
 use Rattle.meaning.proofs.Support.{support-is, length-support}
 use Rattle.meaning.proofs.Listed.{listed-long, table-long, table-at}
@@ -30,6 +33,7 @@ use Rattle.meaning.proofs.Additions.{Reached, reached-start, reached-closing}
 use Rattle.meaning.proofs.Propagation.{reached-propagation, reached-unsupported, reached-propagated}
 use Rattle.meaning.proofs.Propagate.{propagate-is, propagate-untouched}
 use Rattle.meaning.proofs.Remaining.{remaining, remaining-more}
+use Rattle.meaning.proofs.Suspects.{settled-after}
 use Rattle.meaning.proofs.ClosedMarks.{closed-support}
 use Rattle.meaning.proofs.Closing.{closing-computed}
 use Rattle.closing.specs.Ended.{ClosedTo, endedAt}
@@ -59,20 +63,27 @@ module _ (b : Book) (few : count b ≤ 255) (c : Tables) (sized : Sized c) {on o
     off-outside = λ r h. rw f (propagate-untouched b few c sized .off r h) ∙ s .off-outside r h;
   }
 
+  pub propagated-off : Under b (of (c .off)) (of off)
+  propagated-off = within-off b (propagated-to .good .above)
+
   pub propagated-no-more : remaining b (lent on off) ≤ remaining b (pair c)
   propagated-no-more = remaining-more b (propagated-to .good .above)
 
+-- a rule that is put in takes none away
+pub put-stays : (w : List ℕ) (r : RuleNo) → r .0 < 256 → (q : RuleNo) → q ∈ of (listed w) → q ∈ of (set (listed w) (r .0) true)
+put-stays w r low q m = ap (λ (s : Rules). s q) (of-set (listed w) r (omega (arith, listed-long w))) ∙ or-left _ m
+
 -- ---- what nothing holds up goes off
 
-module _ (b : Book) (few : count b ≤ 255) (off off' : Rules) {more : Bool} (d : Dropped b off more off') where
+module _ (b : Book) (few : count b ≤ 255) (off off' : Rules) (d : off' ≡ joined off (unheld b off)) where
   gone : (r : RuleNo) → r ∈ off' → (r ∈ off) ⊎ (r ∉ of (support b off))
   unfolding unheld
   gone r m = ⊎-elim (λ i. inl i)
       (λ i. inr (not-true _ (and-right (ltb (r .0) (count b)) _ (and-left (ltb (r .0) (count b) && not (of (support b off) r)) _ i))))
-      (either (off r) _ (ap (λ (s : Rules). s r) (sym (d .gone)) ∙ m))
+      (either (off r) _ (ap (λ (s : Rules). s r) (sym d) ∙ m))
 
   still : (r : RuleNo) → r ∈ off → r ∈ off'
-  still r m = ap (λ (s : Rules). s r) (d .gone) ∙ or-left _ m
+  still r m = ap (λ (s : Rules). s r) d ∙ or-left _ m
 
   pub dropped-above : Under b off off'
   dropped-above r h = still r
@@ -83,10 +94,21 @@ module _ (b : Book) (few : count b ≤ 255) (off off' : Rules) {more : Bool} (d 
     reached = reached-unsupported b (s .reached) (support-is b off few) off' (λ r h. still r) (λ r h. gone r);
     on-outside = s .on-outside;
     off-outside = λ r h.
-        ap (λ (s : Rules). s r) (d .gone)
+        ap (λ (s : Rules). s r) d
         ∙ ap (λ (x : Bool). off r || x) (not-first _ (not-first _ (le-ltb (r .0) (count b) h))) ∙ or-false (off r) ∙ s .off-outside r h;
   }
 
+  -- with these off all others are supported
+  pub dropped-settled : Settled b off'
+  unfolding unheld
+  dropped-settled = settled-after b (support-is b off few) (λ r h. ⊎-elim
+      (λ m. or-left _ m ∙ sym (still r m)) (λ n. ap (λ (x : Bool). off r || x) (added r h n) ∙ ap (λ (s : Rules). s r) (sym d)) (decided (off r)))
+    where
+      added : (r : RuleNo) → InBook b r → r ∉ off → not (of (support b off) r) ≡ unheld b off r
+      added r h n = same _ _ (λ m. both (both (lt-ltb (r .0) (count b) h) m) (ap not n))
+          (λ m. and-right (ltb (r .0) (count b)) _ (and-left (ltb (r .0) (count b) && not (of (support b off) r)) _ m))
+
+module _ (b : Book) (few : count b ≤ 255) (off off' : Rules) {more : Bool} (d : Dropped b off more off') where
   pub dropped-less : (on : Rules) → more ≡ true → remaining b (record { on = on; off = off' }) < remaining b (record { on = on; off = off })
   unfolding remaining unheld
   dropped-less on e =
@@ -94,7 +116,7 @@ module _ (b : Book) (few : count b ≤ 255) (off off' : Rules) {more : Bool} (d 
       let n : off r ≡ false = not-true _ (and-right (ltb (r .0) (count b) && not (of (support b off) r)) _ m) in
       let i : off' r ≡ true = ap (λ (s : Rules). s r) (d .gone) ∙ or-right (off r) m in
       let up : (q : RuleNo) → InBook b q → not (off' q) ≡ true → not (off q) ≡ true =
-      λ q g z. ap not (refuted (λ o. true-and-false (still q o) (not-true _ z))) in
+      λ q g z. ap not (refuted (λ o. true-and-false (dropped-above b few off off' (d .gone) q g o) (not-true _ z))) in
       omega (arith, rules-fewer b (λ q. not (off q)) (λ q. not (off' q)) up r h (ap not n) (ap not i))
 
   -- where there was none

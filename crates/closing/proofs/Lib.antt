@@ -12,6 +12,8 @@ pub mod Falling
 pub mod Raising
 pub mod Propagating
 pub mod Starts
+pub mod Suspecting
+pub mod Clearing
 pub mod Dropping
 pub mod Closed
 pub mod Picked

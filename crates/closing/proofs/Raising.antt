@@ -60,22 +60,27 @@ looked-risen b off r on on' nt {nt'} low m p new =
     (subst (λ (a : Atoms). Looked b off r (of (listed on)) nt (plus (of (listed on)) (r ∷ [])) a) (sym new) (risen m))
 
 -- where the search begins, all of the set is left
+pub onward-first : (w : List ℕ) (r : ℕ) → NextIn (members w) 0 r → (q : RuleNo) → q ∈ of (listed w) → q ∈ onward w r
+unfolding onward
+onward-first w r p q i = elim (decLt (q .0) r) [
+  | yes l ↦ true-and-false (sym (at-rule w refl q) ∙ i) (p .passed (q .0) (omega arith) l)
+  | no l ↦ both i (ap not (le-ltb (q .0) r (omega arith)))
+]
+
+-- at its end none is left
+pub onward-last : (w : List ℕ) (r n : ℕ) → n ≤ r → (q : RuleNo) → q .0 < n → q ∉ onward w r
+unfolding onward
+onward-last w r n h q l = refuted (λ m. true-and-false (and-right (of (listed w) q) _ m) (ap not (lt-ltb (q .0) r (omega arith))))
+
 pub onward-start : (b : Book) (off on : Rules) (nt : Atoms) (todo : List ℕ) (r : ℕ) → NextIn (members todo) 0 r
     → Raised b off (of (listed todo)) on nt (onward todo r) on nt
-unfolding onward
 onward-start b off on nt todo r p = record {
-  pending = λ nl k. pending-fewer b k _ (λ q h m z. inr (both m (ap not (le-ltb (q .0) r (late q m)))));
+  pending = λ nl k. pending-fewer b k _ (λ q h m z. inr (onward-first todo r p q m));
   forced = λ s f. f;
   above = λ q h m. m;
   outside = λ q h. refl;
   new = λ a m. inl m;
 }
-  where
-    late : (q : RuleNo) → q ∈ of (listed todo) → r ≤ q .0
-    late q i = elim (decLt (q .0) r) [
-      | yes l ↦ true-and-false (sym (at-rule todo refl q) ∙ i) (p .passed (q .0) (omega arith) l)
-      | no l ↦ omega arith
-    ]
 
 -- of the candidates only those that are not on need a look
 pub raised-off : (b : Book) (off cand todo on : Rules) (nt : Atoms) {rest on' : Rules} {nt' : Atoms}
@@ -90,7 +95,7 @@ raised-off b off cand todo on nt e k = record {
 }
 
 -- the candidates behind the one at which the search stands
-behind : (todo : List ℕ) (r m : ℕ) → NextIn (members todo) (r + 1) m → (q : RuleNo) → q ∈ onward todo r → (q ≡ ruleNo r) ⊎ (q ∈ onward todo m)
+pub behind : (todo : List ℕ) (r m : ℕ) → NextIn (members todo) (r + 1) m → (q : RuleNo) → q ∈ onward todo r → (q ≡ ruleNo r) ⊎ (q ∈ onward todo m)
 unfolding onward
 behind todo r m p q i = elim (ℕ-discrete (q .0) r) [
   | yes e ↦ inl (λ i. record { 0 = e i })
@@ -149,6 +154,4 @@ onward-turn b off cand on nt todo r m k p h l = raised-turn b off cand on nt (on
 
 pub onward-end : (b : Book) (off cand on : Rules) (nt : Atoms) (todo : List ℕ) (r : ℕ) {on' : Rules} {nt' : Atoms}
     → Raised b off cand on nt (onward todo r) on' nt' → count b ≤ r → (cand' : Rules) → Raised b off cand on nt cand' on' nt'
-unfolding onward
-onward-end b off cand on nt todo r k h cand' =
-    raised-end b off cand on nt (onward todo r) _ _ k cand' (λ q g. refuted (λ m. true-and-false (and-right (of (listed todo) q) _ m) (ap not (lt-ltb (q .0) r (omega arith)))))
+onward-end b off cand on nt todo r k h cand' = raised-end b off cand on nt (onward todo r) _ _ k cand' (onward-last todo r (count b) h)

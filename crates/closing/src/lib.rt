@@ -5,11 +5,12 @@
 // rule in both sets then. Laws for the layers above are in proofs/Laws.antt.
 ghost use mathlib.Core.Path.{_≡_};
 ghost use Rattle.meaning.specs.Bits.{listed};
-ghost use Rattle.meaning.specs.Written.{written, chosen, lent, pair};
-ghost use Rattle.meaning.specs.Colours.{onSide, offSide};
+ghost use Rattle.meaning.specs.Written.{written, of, chosen, lent, pair};
+ghost use Rattle.meaning.specs.Colours.{onSide, offSide, Under};
 ghost use Rattle.meaning.specs.Computed.{close};
 ghost use Rattle.meaning.specs.Lowest.{lowestFrom, inBoth, clashed};
 ghost use Rattle.meaning.specs.Propagation.{Propagated};
+ghost use Rattle.meaning.specs.Suspects.{Settled as AllHeld};
 ghost use Rattle.book.specs.Format.{bookIn, ReadAs};
 ghost use Rattle.book.specs.RuleRows.{RuleRows};
 ghost use Rattle.closing.specs.Ended.{ClosedTo, endedAt};
@@ -25,15 +26,18 @@ use starting::propagate;
 use starting::propagate_dropped;
 use starting::propagate_off;
 use starting::propagate_on;
+use unsupported::drop_suspects;
 use unsupported::drop_unsupported;
 
 mod choice;
 mod clash;
+mod cleared;
 mod first;
 mod levels;
 mod marking;
 mod propagation;
 mod starting;
+mod suspected;
 mod unsupported;
 
 pub use choice::Choice;
@@ -64,7 +68,11 @@ pub fn close(book: &[u8], shape: Shape, rows: &[u64; 3072], c: Colouring) -> Clo
     let mut on = c_on.w;
     let mut off = c_off.w;
     propagate(book, shape, rows, &mut on, &mut off);
-    close_propagated(book, shape, rows, &mut on, &mut off);
+    let before = off;
+    drop_unsupported(book, shape, &mut off);
+    let settled = Bits { w: off };
+    propagate_dropped(book, shape, rows, &before, &mut on, &mut off);
+    close_propagated(book, shape, rows, settled, &mut on, &mut off);
     ended(shape.rules, c, Bits { w: on }, Bits { w: off })
 }
 
@@ -105,7 +113,7 @@ fn close_on(book: &[u8], shape: Shape, rows: &[u64; 3072], d: Colouring, r: Rule
     let mut on = d_on.w;
     let mut off = d_off.w;
     propagate_on(book, shape, rows, r, &mut on, &mut off);
-    close_propagated(book, shape, rows, &mut on, &mut off);
+    close_propagated(book, shape, rows, d_off, &mut on, &mut off);
     ended(shape.rules, d.choose_on(r), Bits { w: on }, Bits { w: off })
 }
 
@@ -123,7 +131,7 @@ fn close_off(book: &[u8], shape: Shape, rows: &[u64; 3072], d: Colouring, r: Rul
     let mut on = d_on.w;
     let mut off = d_off.w;
     propagate_off(book, shape, rows, r, &mut on, &mut off);
-    close_propagated(book, shape, rows, &mut on, &mut off);
+    close_propagated(book, shape, rows, d_off, &mut on, &mut off);
     ended(
         shape.rules,
         d.choose_off(r),
@@ -133,24 +141,29 @@ fn close_off(book: &[u8], shape: Shape, rows: &[u64; 3072], d: Colouring, r: Rul
 }
 
 // Closes two sets from which nothing follows but by support: the rules that nothing holds up go off,
-// and what follows from it is added, until there is none.
+// and what follows from it is added, until there is none. With the settled rules off all others are
+// supported.
 fn close_propagated(
     book: &[u8],
     shape: Shape,
     rows: &[u64; 3072],
+    settled: Bits,
     on: &mut [u64; 4],
     off: &mut [u64; 4],
 )
     requires { ⌜ ReadAs (now book) shape × RuleRows (bookIn (now book)) (now rows)
-        × Propagated (bookIn (now book)) (lent (listed (now on)) (listed (now off))) ⌝ }
+        × Propagated (bookIn (now book)) (lent (listed (now on)) (listed (now off)))
+        × AllHeld (bookIn (now book)) (of (listed (settled .w)))
+        × Under (bookIn (now book)) (of (listed (settled .w))) (of (listed (now off))) ⌝ }
     ensures { λ _. ⌜ ClosedTo (bookIn (now (book .entry)))
         (lent (listed (now (on .entry))) (listed (now (off .entry))))
         (lent (listed (now (on .exit))) (listed (now (off .exit)))) ⌝ }
 {
+    let mut old = settled.w;
     loop {
         let was = whole(off);
         let before = was.w;
-        if !drop_unsupported(book, shape, off) {
+        if !drop_suspects(book, shape, rows, &mut old, off) {
             return;
         }
         propagate_dropped(book, shape, rows, &before, on, off);
