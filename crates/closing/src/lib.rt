@@ -22,7 +22,10 @@ use meaning::Bits;
 use meaning::Colouring;
 use meaning::RuleNo;
 use meaning::whole;
+use starting::propagate;
 use starting::propagate_dropped;
+use starting::propagate_off;
+use starting::propagate_on;
 use unsupported::drop_suspects;
 use unsupported::drop_unsupported;
 
@@ -44,9 +47,7 @@ pub use clash::lowest_in;
 pub use first::Settled;
 pub use first::settle;
 pub use marking::support;
-pub use starting::propagate;
-pub use starting::propagate_off;
-pub use starting::propagate_on;
+pub use starting::propagate_chosen;
 
 // What a closing comes to: the colouring, and of a contradiction the lowest rule in both sets.
 pub struct Closure {

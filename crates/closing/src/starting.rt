@@ -13,6 +13,8 @@ ghost use Rattle.meaning.specs.Propagation.{Propagated, propagate};
 ghost use Rattle.book.specs.Format.{bookIn, ReadAs};
 ghost use Rattle.book.specs.RuleRows.{headedBy, lostBy, RuleRows};
 ghost use Rattle.closing.specs.News.{atomSet};
+ghost use Rattle.closing.specs.Taken.{puts, Puts};
+use crate::choice::Choice;
 use crate::propagation::lost_heads;
 use crate::propagation::note;
 use crate::propagation::propagate_from;
@@ -182,4 +184,28 @@ pub fn propagate_off(
     let before = was.w;
     put(off, r.0);
     propagate_dropped(book, shape, rows, &before, on, off);
+}
+
+// Adds to the two sets, with the choice taken, what follows from them without support, and nothing
+// else. Where a rule is chosen and nothing followed before, only what the rule brings is looked at.
+pub fn propagate_chosen(
+    book: &[u8],
+    shape: Shape,
+    rows: &[u64; 3072],
+    choice: Choice,
+    on: &mut [u64; 4],
+    off: &mut [u64; 4],
+)
+    requires { ⌜ ReadAs (now book) shape × RuleRows (bookIn (now book)) (now rows)
+        × Puts (bookIn (now book)) (lent (listed (now on)) (listed (now off))) choice ⌝ }
+    ensures { λ _. ⌜ (listed (now (on .exit)) ≡ propagate (bookIn (now (book .entry)))
+        (puts choice (coloured (listed (now (on .entry))) (listed (now (off .entry))))) .on)
+        × (listed (now (off .exit)) ≡ propagate (bookIn (now (book .entry)))
+        (puts choice (coloured (listed (now (on .entry))) (listed (now (off .entry))))) .off) ⌝ }
+{
+    match choice {
+        Choice::Nothing => propagate(book, shape, rows, on, off),
+        Choice::On(r) => propagate_on(book, shape, rows, r, on, off),
+        Choice::Off(r) => propagate_off(book, shape, rows, r, on, off),
+    }
 }
