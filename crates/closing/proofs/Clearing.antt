@@ -31,7 +31,7 @@ use Rattle.book.specs.RuleRows.{sets, headedBy, RuleRows}
 use Rattle.closing.specs.Clearing.{noRules, woke, Tried, waits, holds, Swept}
 use Rattle.closing.proofs.Falling.{at-rule}
 use Rattle.closing.proofs.Spreading.{outside}
-use Rattle.closing.proofs.Raising.{onward, onward-first, behind}
+use Rattle.closing.proofs.Raising.{onward, less-listed, onward-first, behind}
 
 -- ---- one look
 
@@ -84,7 +84,7 @@ swept-start b s v cand r p woken n = record {
 }
 
 module _ {b : Book} {s v cand v' rest woken : Rules} (k : Swept b s v cand v' rest woken) where
-  pub swept-turn : (r : RuleNo) (rest' : Rules) → ((q : RuleNo) → q ∈ rest → (q ≡ r) ⊎ (q ∈ rest')) → InBook b r → r ∈ cand
+  swept-turn : (r : RuleNo) (rest' : Rules) → ((q : RuleNo) → q ∈ rest → (q ≡ r) ⊎ (q ∈ rest')) → InBook b r → r ∈ cand
       → {v'' woken' : Rules} → Tried b r v' woken v'' woken' → Swept b s v cand v'' rest' woken'
   unfolding stands woke
   swept-turn r rest' f h c (waits n) = record {
@@ -153,12 +153,11 @@ swept-next b s v cand from r m k n low p h t =
 pub left-at : (left d v x y woken s held : List ℕ) → members left ≡ less-in (members d) (members v) → v ≡ held
     → members d ≡ both-in (members x) (members y) → x ≡ woken → y ≡ s
     → (q : RuleNo) → of (listed left) q ≡ ((of (listed woken) q && of (listed s) q) && not (of (listed held) q))
-left-at left d v x y woken s held e g h i j q = at-rule left e q ∙ ap₂ (λ (m n : Bool). m && not n)
-    (ap (λ (z : Set ℕ). z (q .0)) h ∙ ap₂ _&&_ (at x woken i ∙ sym (at-rule woken refl q)) (at y s j ∙ sym (at-rule s refl q)))
-    (at v held g ∙ sym (at-rule held refl q))
+left-at left d v x y woken s held e g h i j q = less-listed left d v d held e refl g q ∙ ap (λ (m : Bool). m && not (of (listed held) q))
+    (at-rule d h q ∙ ap₂ _&&_ (at x woken i) (at y s j))
   where
-    at : (l m : List ℕ) → l ≡ m → members l (q .0) ≡ members m (q .0)
-    at l m z = ap (λ (n : List ℕ). members n (q .0)) z
+    at : (l m : List ℕ) → l ≡ m → members l (q .0) ≡ of (listed m) q
+    at l m z = ap (λ (n : List ℕ). members n (q .0)) z ∙ sym (at-rule m refl q)
 
 -- ---- pass after pass
 

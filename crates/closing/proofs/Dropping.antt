@@ -10,7 +10,7 @@ use lib.Dec.{ltb}
 use lib.ListN.{replicate}
 use borrow.Author.Tests.{not-true, lt-ltb, le-ltb, ltb-true}
 use Rattle.meaning.specs.declared.RuleNo.{RuleNo}
-use Rattle.meaning.specs.Sets.{Set, _∉_, everyBelow, someBelow}
+use Rattle.meaning.specs.Sets.{_∉_, everyBelow, someBelow}
 use Rattle.meaning.specs.Books.{Rules, Book, ruleNo, count, InBook, someRule}
 use Rattle.meaning.specs.Colours.{Under}
 use Rattle.meaning.specs.Bits.{none, below, plus, less, implied, members, listed}
@@ -27,6 +27,7 @@ use Rattle.meaning.proofs.Suspects.{settled-alike, cleared-is, rest-unsupported
 use Rattle.closing.specs.Clearing.{Inside}
 use Rattle.closing.specs.Dropped.{unheld, Dropped}
 use Rattle.closing.proofs.Falling.{at-rule}
+use Rattle.closing.proofs.Raising.{less-listed}
 use Rattle.closing.proofs.Propagating.{none-in, one-in}
 
 -- ---- found from nothing
@@ -36,12 +37,8 @@ pub unheld-marked : (b : Book) {n : ℕ} → count b ≡ n → (off marks all he
     → members rest ≡ less (members held) (members y) → y ≡ off → of (listed rest) ≡ unheld b (of (listed off))
 unfolding unheld
 unheld-marked b c off marks all held v y rest a m p pv q qy = fun-ext (λ r.
-    at-rule rest q r
-    ∙ ap₂ (λ (x y : Bool). x && not y)
-    (ap (λ (s : Set ℕ). s (r .0)) p
-    ∙ ap₂ (λ (x y : Bool). x && not y) (ap (λ (s : Set ℕ). s (r .0)) a ∙ ap (λ (k : ℕ). ltb (r .0) k) (sym c))
-    (ap (λ (l : List ℕ). members l (r .0)) pv ∙ sym (at-rule marks refl r) ∙ ap (λ (l : List Bool). of l r) m))
-    (ap (λ (l : List ℕ). members l (r .0)) qy ∙ sym (at-rule off refl r)))
+    less-listed rest held y held off q refl qy r ∙ ap (λ (z : Bool). z && not (of (listed off) r)) (less-listed held all v all marks p refl pv r
+    ∙ ap₂ (λ (x y : Bool). x && not y) (at-rule all a r ∙ ap (λ (k : ℕ). ltb (r .0) k) (sym c)) (ap (λ (l : List Bool). of l r) m)))
 
 -- ---- found by suspects
 
@@ -81,16 +78,12 @@ module _ (b : Book) (few : count b ≤ 255) where
       (λ h. not-first _ (inside r h) ∙ sym (not-first _ (not-first _ (le-ltb (r .0) (count b) h))))
       (in-book-or-not b r))
     where
-      at : (v w : List ℕ) → v ≡ w → (r : RuleNo) → members v (r .0) ≡ of (listed w) r
-      at v w z r = ap (λ (l : List ℕ). members l (r .0)) z ∙ sym (at-rule w refl r)
-
       rest : (r : RuleNo) → of (listed left) r ≡ (of (listed s) r && not (of (listed held) r))
-      rest r = at-rule left m r ∙ ap₂ (λ (v w : Bool). v && not w) (at p s mp r) (at q held mq r)
+      rest = less-listed left p q s held m mp mq
 
       others : Alike b (of (listed first)) (λ r. not (of (listed off) r) && not (of (listed s) r))
-      others r h = at-rule first f r ∙ ap₂ (λ (v w : Bool). v && not w)
-          (ap (λ (z : Set ℕ). z (r .0)) l
-          ∙ ap₂ (λ (v w : Bool). v && not w) (ap (λ (z : Set ℕ). z (r .0)) a ∙ lt-ltb (r .0) _ (omega (arith, e))) (at u off lu r)) (at y s fy r)
+      others r h = less-listed first live y live s f refl fy r ∙ ap (λ (v : Bool). v && not (of (listed s) r)) (less-listed live all u all off l refl lu r
+          ∙ ap (λ (v : Bool). v && not (of (listed off) r)) (at-rule all a r ∙ lt-ltb (r .0) _ (omega (arith, e))))
 
 -- ---- they go off
 

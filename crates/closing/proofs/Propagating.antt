@@ -12,7 +12,7 @@ use Rattle.meaning.specs.Sets.{Set, _∈_, _∉_, everyBelow, someBelow}
 use Rattle.meaning.specs.Books.{Atoms, Rules, Book, atomNo, count, InBook}
 use Rattle.meaning.specs.Colours.{Pair}
 use Rattle.meaning.specs.Bits.{none, implied, members, listed}
-use Rattle.meaning.specs.Written.{Tables, of, coloured, lent}
+use Rattle.meaning.specs.Written.{Tables, coloured, lent}
 use Rattle.meaning.specs.Propagation.{propagate}
 use Rattle.meaning.specs.Pending.{Forced, Pending, noAtoms, hit, dropped, newlyLost}
 use Rattle.meaning.proofs.Tests.{or-left, true-and-false, refuted, implies, decided}

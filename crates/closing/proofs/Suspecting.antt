@@ -27,6 +27,7 @@ use Rattle.closing.specs.News.{atomSet, rowsBelow}
 use Rattle.closing.specs.Clearing.{Inside, Suspected}
 use Rattle.closing.proofs.Falling.{at-rule}
 use Rattle.closing.proofs.Spreading.{outside, rows-pos}
+use Rattle.closing.proofs.Raising.{less-listed}
 
 -- ---- a free rule
 
@@ -107,13 +108,9 @@ module _ (b : Book) (t : List ℕ) (k : RuleRows b t) (off todo s zero on d fres
     (g : members fresh ≡ less-in (members d) (members y)) (gy : y ≡ s) where
   fresh-at : (r : RuleNo) → of (listed fresh) r ≡ less (standing b (of (listed off)) (atomSet todo)) (of (listed s)) r
   unfolding standing
-  fresh-at r = at-rule fresh g r ∙ ap₂ (λ (p q : Bool). p && not q)
-      (ap (λ (z : Set ℕ). z (r .0)) f ∙ ap₂ (λ (p q : Bool). p && not q)
-      (ap (λ (l : List ℕ). members l (r .0)) fu ∙ ap (λ (z : Set ℕ). z (r .0)) e
-      ∙ ap (λ (z : Set ℕ). z (r .0) || rowsBelow t 256 (members todo) 256 (r .0)) n ∙ rows-pos b t k todo r)
-      (ap (λ (l : List ℕ). members l (r .0)) fv ∙ sym (at-rule off refl r))
+  fresh-at r = less-listed fresh d y d s g refl gy r ∙ ap (λ (p : Bool). p && not (of (listed s) r)) (less-listed d u v on off f fu fv r
+      ∙ ap (λ (p : Bool). p && not (of (listed off) r)) (at-rule on e r ∙ ap (λ (z : Set ℕ). z (r .0) || rowsBelow t 256 (members todo) 256 (r .0)) n ∙ rows-pos b t k todo r)
       ∙ swapped (some (atomSet todo) (rule b r .pos)) (not (of (listed off) r)))
-      (ap (λ (l : List ℕ). members l (r .0)) gy ∙ sym (at-rule s refl r))
     where
       swapped : (p q : Bool) → (p && q) ≡ (q && p)
       swapped true true = refl
@@ -132,8 +129,7 @@ module _ (b : Book) (t : List ℕ) (k : RuleRows b t) (off todo s zero on d fres
 -- the doubted heads of the rules that went off, by value
 pub went-off : (b : Book) (old off w u v : List ℕ) → members w ≡ less-in (members u) (members v) → u ≡ off → v ≡ old
     → doubted b (of (listed off)) (of (listed w)) ≡ doubted b (of (listed off)) (less (of (listed off)) (of (listed old)))
-went-off b old off w u v e f g = ap (λ (z : Rules). doubted b (of (listed off)) z) (fun-ext (λ r. at-rule w e r ∙ ap₂ (λ (x y : Bool). x && not y)
-    (ap (λ (l : List ℕ). members l (r .0)) f ∙ sym (at-rule off refl r)) (ap (λ (l : List ℕ). members l (r .0)) g ∙ sym (at-rule old refl r))))
+went-off b old off w u v e f g = ap (λ (z : Rules). doubted b (of (listed off)) z) (fun-ext (less-listed w u v off old e f g))
 
 -- no rule outside the book is suspected
 pub suspected-inside : (b : Book) (off s : Rules) (todo : Atoms) {s' : Rules} {todo' : Atoms} → Suspected b off s todo s' todo'
