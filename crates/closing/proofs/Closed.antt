@@ -8,32 +8,35 @@ use Prim.Native.Nat.{ℕ, _≤_, _<_}
 use native.Mathlib.Nat.{zero-add}
 use native.Mathlib.Omega.{arith}
 use lib.Dec.{ltb}
-use lib.ListN.{length-replicate}
+use lib.ListN.{set}
 use lib.Seq.{ext-getD}
 use borrow.Author.Tests.{not-true, le-ltb, lt-ltb}
 use Rattle.meaning.specs.declared.RuleNo.{RuleNo}
 use Rattle.meaning.specs.Sets.{_∈_, _∉_}
 use Rattle.meaning.specs.Books.{Rules, Book, ruleNo, count, InBook}
-use Rattle.meaning.specs.Colours.{Pair, Closed, Closing}
+use Rattle.meaning.specs.Colours.{Pair, Under, Closed}
 use Rattle.meaning.specs.Bits.{below, less, tableFrom, listed}
-use Rattle.meaning.specs.Written.{Tables, of, coloured, stampFrom, lent, pair}
+use Rattle.meaning.specs.Written.{Tables, of, stampFrom, lent, pair}
 use Rattle.meaning.specs.Lowest.{Pick, lowestFrom, lowest, inBoth, clashed}
 use Rattle.meaning.specs.Computed.{support, newly, newLevels, close}
 use Rattle.meaning.specs.Propagation.{Propagated, Propagation, propagate}
-use Rattle.meaning.proofs.Tests.{both, and-left, and-right, either, or-left, or-right, true-and-false, refuted, decided, not-first}
-use Rattle.meaning.proofs.Rules.{some-rule-by, some-rule-one}
+use Rattle.meaning.specs.Pending.{joined}
+use Rattle.meaning.specs.Suspects.{Settled}
+use Rattle.meaning.proofs.Tests.{both, and-left, and-right, either, or-left, or-right, same, true-and-false, refuted, decided, not-first}
+use Rattle.meaning.proofs.Rules.{some-rule-by, some-rule-one, within-off, within-trans}
 use Rattle.meaning.proofs.RulesIn.{rules-fewer}
-use Rattle.meaning.proofs.Written.{Sized}
+use Rattle.meaning.proofs.Written.{Sized, of-set}
 use Rattle.meaning.proofs.Stamps.{length-stamp}
 use Rattle.meaning.proofs.Support.{support-is, length-support}
 use Rattle.meaning.proofs.Listed.{listed-long, table-long, table-at}
-use Rattle.meaning.proofs.Additions.{Reached, reached-start}
+use Rattle.meaning.proofs.Additions.{Reached, reached-start, reached-closing}
 use Rattle.meaning.proofs.Propagation.{reached-propagation, reached-unsupported, reached-propagated}
 use Rattle.meaning.proofs.Propagate.{propagate-is, propagate-untouched}
 use Rattle.meaning.proofs.Remaining.{remaining, remaining-more}
+use Rattle.meaning.proofs.Suspects.{settled-after}
 use Rattle.meaning.proofs.ClosedMarks.{closed-support}
 use Rattle.meaning.proofs.Closing.{closing-computed}
-use Rattle.closing.specs.Ended.{endedAt}
+use Rattle.closing.specs.Ended.{ClosedTo, endedAt}
 use Rattle.closing.specs.Dropped.{unheld, Dropped}
 use Rattle.closing.proofs.Searches.{lowest-in}
 
@@ -48,35 +51,42 @@ closes-start b c = record { reached = reached-start b c; on-outside = λ r h. re
 
 -- ---- propagation
 
-module _ (b : Book) (few : count b ≤ 255) (on off : List ℕ) {on' off' : List Bool}
-    (e : on' ≡ propagate b (coloured (listed on) (listed off)) .on) (f : off' ≡ propagate b (coloured (listed on) (listed off)) .off) where
-  sized : Sized (coloured (listed on) (listed off))
-  sized = record { on = listed-long on; off = listed-long off; marks = length-replicate 256 false; levels = length-replicate {A = ℕ} 255 0 }
+module _ (b : Book) (few : count b ≤ 255) (c : Tables) (sized : Sized c) {on off : List Bool}
+    (e : on ≡ propagate b c .on) (f : off ≡ propagate b c .off) where
+  pub propagated-to : Propagation b (pair c) (lent on off)
+  propagated-to = rw (e, f) (propagate-is b few c sized)
 
-  pub propagated-to : Propagation b (lent (listed on) (listed off)) (lent on' off')
-  propagated-to = rw (e, f) (propagate-is b few (coloured (listed on) (listed off)) sized)
-
-  pub closes-propagated : {start : Pair} → UnderWay b start (lent (listed on) (listed off)) → UnderWay b start (lent on' off')
+  pub closes-propagated : {start : Pair} → UnderWay b start (pair c) → UnderWay b start (lent on off)
   closes-propagated s = record {
     reached = reached-propagation b (s .reached) propagated-to;
-    on-outside = λ r h. rw e (propagate-untouched b few (coloured (listed on) (listed off)) sized .on r h) ∙ s .on-outside r h;
-    off-outside = λ r h. rw f (propagate-untouched b few (coloured (listed on) (listed off)) sized .off r h) ∙ s .off-outside r h;
+    on-outside = λ r h. rw e (propagate-untouched b few c sized .on r h) ∙ s .on-outside r h;
+    off-outside = λ r h. rw f (propagate-untouched b few c sized .off r h) ∙ s .off-outside r h;
   }
 
-  pub propagated-no-more : remaining b (lent on' off') ≤ remaining b (lent (listed on) (listed off))
+  pub propagated-off : Under b (of (c .off)) (of off)
+  propagated-off = within-off b (propagated-to .good .above)
+
+  pub propagated-no-more : remaining b (lent on off) ≤ remaining b (pair c)
   propagated-no-more = remaining-more b (propagated-to .good .above)
+
+-- a rule that is put in takes none away
+pub put-stays : (w : List ℕ) (r : RuleNo) → r .0 < 256 → (q : RuleNo) → q ∈ of (listed w) → q ∈ of (set (listed w) (r .0) true)
+put-stays w r low q m = ap (λ (s : Rules). s q) (of-set (listed w) r (omega (arith, listed-long w))) ∙ or-left _ m
 
 -- ---- what nothing holds up goes off
 
-module _ (b : Book) (few : count b ≤ 255) (off off' : Rules) {more : Bool} (d : Dropped b off more off') where
+module _ (b : Book) (few : count b ≤ 255) (off off' : Rules) (d : off' ≡ joined off (unheld b off)) where
   gone : (r : RuleNo) → r ∈ off' → (r ∈ off) ⊎ (r ∉ of (support b off))
   unfolding unheld
   gone r m = ⊎-elim (λ i. inl i)
       (λ i. inr (not-true _ (and-right (ltb (r .0) (count b)) _ (and-left (ltb (r .0) (count b) && not (of (support b off) r)) _ i))))
-      (either (off r) _ (ap (λ (s : Rules). s r) (sym (d .gone)) ∙ m))
+      (either (off r) _ (ap (λ (s : Rules). s r) (sym d) ∙ m))
 
   still : (r : RuleNo) → r ∈ off → r ∈ off'
-  still r m = ap (λ (s : Rules). s r) (d .gone) ∙ or-left _ m
+  still r m = ap (λ (s : Rules). s r) d ∙ or-left _ m
+
+  pub dropped-above : Under b off off'
+  dropped-above r h = still r
 
   pub closes-dropped : (on : Rules) {start : Pair} → UnderWay b start (record { on = on; off = off }) → UnderWay b start (record { on = on; off = off' })
   unfolding unheld
@@ -84,10 +94,21 @@ module _ (b : Book) (few : count b ≤ 255) (off off' : Rules) {more : Bool} (d 
     reached = reached-unsupported b (s .reached) (support-is b off few) off' (λ r h. still r) (λ r h. gone r);
     on-outside = s .on-outside;
     off-outside = λ r h.
-        ap (λ (s : Rules). s r) (d .gone)
+        ap (λ (s : Rules). s r) d
         ∙ ap (λ (x : Bool). off r || x) (not-first _ (not-first _ (le-ltb (r .0) (count b) h))) ∙ or-false (off r) ∙ s .off-outside r h;
   }
 
+  -- with these off all others are supported
+  pub dropped-settled : Settled b off'
+  unfolding unheld
+  dropped-settled = settled-after b (support-is b off few) (λ r h. ⊎-elim
+      (λ m. or-left _ m ∙ sym (still r m)) (λ n. ap (λ (x : Bool). off r || x) (added r h n) ∙ ap (λ (s : Rules). s r) (sym d)) (decided (off r)))
+    where
+      added : (r : RuleNo) → InBook b r → r ∉ off → not (of (support b off) r) ≡ unheld b off r
+      added r h n = same _ _ (λ m. both (both (lt-ltb (r .0) (count b) h) m) (ap not n))
+          (λ m. and-right (ltb (r .0) (count b)) _ (and-left (ltb (r .0) (count b) && not (of (support b off) r)) _ m))
+
+module _ (b : Book) (few : count b ≤ 255) (off off' : Rules) {more : Bool} (d : Dropped b off more off') where
   pub dropped-less : (on : Rules) → more ≡ true → remaining b (record { on = on; off = off' }) < remaining b (record { on = on; off = off })
   unfolding remaining unheld
   dropped-less on e =
@@ -95,7 +116,7 @@ module _ (b : Book) (few : count b ≤ 255) (off off' : Rules) {more : Bool} (d 
       let n : off r ≡ false = not-true _ (and-right (ltb (r .0) (count b) && not (of (support b off) r)) _ m) in
       let i : off' r ≡ true = ap (λ (s : Rules). s r) (d .gone) ∙ or-right (off r) m in
       let up : (q : RuleNo) → InBook b q → not (off' q) ≡ true → not (off q) ≡ true =
-      λ q g z. ap not (refuted (λ o. true-and-false (still q o) (not-true _ z))) in
+      λ q g z. ap not (refuted (λ o. true-and-false (dropped-above b few off off' (d .gone) q g o) (not-true _ z))) in
       omega (arith, rules-fewer b (λ q. not (off q)) (λ q. not (off' q)) up r h (ap not n) (ap not i))
 
   -- where there was none
@@ -116,25 +137,43 @@ marks-live b few {n} e on off k = ext-getD false _ _ (table-long 0 256 _ ∙ sym
     ∙ ap (λ (j : ℕ). ltb j n && not (of off (ruleNo j))) (zero-add i) ∙ ap (λ (m : ℕ). ltb i m && not (of off (ruleNo i))) (sym e)
     ∙ sym (closed-support b few (lent on off) k (ruleNo i)))
 
-pub closes-end : (b : Book) → count b ≤ 255 → (c : Tables) → Sized c → (on off off' : List ℕ) {more : Bool}
-    → UnderWay b (pair c) (lent (listed on) (listed off)) → Propagated b (lent (listed on) (listed off))
-    → Dropped b (of (listed off)) more (of (listed off')) → more ≡ false → {n : ℕ} → count b ≡ n → {d : Tables}
-    → d ≡ endedAt n c (listed on) (listed off') → d ≡ close b c
-unfolding newLevels
-closes-end b few c long on off off' s k d e {n} i z =
-    let same-off : of (listed off') ≡ of (listed off) = d .rests e in
+-- where nothing is unsupported
+pub closed-to : (b : Book) → count b ≤ 255 → (start : Pair) (on off off' : List ℕ) {more : Bool}
+    → UnderWay b start (lent (listed on) (listed off)) → Propagated b (lent (listed on) (listed off))
+    → Dropped b (of (listed off)) more (of (listed off')) → more ≡ false → ClosedTo b start (lent (listed on) (listed off'))
+closed-to b few start on off off' s k d e =
     let closing = reached-propagated b (s .reached) k (support-is b (of (listed off)) few) (none-left b few _ _ d e) in
-    let at-end = subst (λ (o : Rules). Closing b (pair c) (record { on = of (listed on); off = o })) (sym same-off) closing in
+    subst (λ (o : Rules). ClosedTo b start (record { on = of (listed on); off = o })) (sym (d .rests e))
+    (record { closing = closing; on-outside = s .on-outside; off-outside = s .off-outside })
+
+-- what was reached before goes before
+pub closed-behind : (b : Book) {start c d : Pair} → UnderWay b start c → ClosedTo b c d → ClosedTo b start d
+closed-behind b s k = record {
+  closing = reached-closing b
+      (record {
+        above = within-trans b (s .reached .above) (k .closing .good .above);
+        below = λ e g. k .closing .least e (record { above = s .reached .below e g; closed = g .closed });
+      })
+      (k .closing .good .closed);
+  on-outside = λ r h. k .on-outside r h ∙ s .on-outside r h;
+  off-outside = λ r h. k .off-outside r h ∙ s .off-outside r h;
+}
+
+pub closes-end : (b : Book) → count b ≤ 255 → (c : Tables) → Sized c → (on off : List ℕ)
+    → ClosedTo b (pair c) (lent (listed on) (listed off)) → {n : ℕ} → count b ≡ n → {d : Tables}
+    → d ≡ endedAt n c (listed on) (listed off) → d ≡ close b c
+unfolding newLevels
+closes-end b few c long on off k {n} i z =
     z ∙ closing-computed b few c _ long
     (record {
       on = listed-long on;
-      off = listed-long off';
+      off = listed-long off;
       marks = table-long 0 256 _;
       levels = length-stamp 0 _ _ (c .level) (c .levels) ∙ long .levels;
     })
-    at-end (marks-live b few i (listed on) (listed off') (at-end .good .closed))
-    (record { on = s .on-outside; off = λ r h. ap (λ (o : Rules). o r) same-off ∙ s .off-outside r h })
-    refl (ap (λ (m : ℕ). stampFrom 0 m (newly (pair c) (lent (listed on) (listed off'))) (c .level) (c .levels)) (sym i))
+    (k .closing) (marks-live b few i (listed on) (listed off) (k .closing .good .closed))
+    (record { on = k .on-outside; off = k .off-outside })
+    refl (ap (λ (m : ℕ). stampFrom 0 m (newly (pair c) (lent (listed on) (listed off))) (c .level) (c .levels)) (sym i))
 
 -- the rule told of a contradiction, where the search among the first rules has found it
 pub clash-end : (b : Book) (c : Tables) {n : ℕ} → count b ≡ n → {d : Tables} → d ≡ close b c → (on off : List Bool)

@@ -11,6 +11,9 @@ pub mod Noting
 pub mod Falling
 pub mod Raising
 pub mod Propagating
+pub mod Starts
+pub mod Suspecting
+pub mod Clearing
 pub mod Dropping
 pub mod Closed
 pub mod Picked

@@ -1,24 +1,21 @@
--- Propagation by what is new, as the loop of `propagate` goes through it (src/propagation.rt): the start, the two steps, the measure and
--- the end. What is reached lies within every propagated pair above the start, and what is pending is in the three sets.
+-- Propagation by what is new, as the loop of `propagate_from` goes through it (src/propagation.rt): the start, the two steps, the measure
+-- and the end. What is reached lies within every propagated pair above the start, and what is pending is in the three sets.
 use mathlib.Core.Path.{_≡_, refl, sym, ap, subst, _∙_}
 use mathlib.Core.Logic.{⊎-elim}
-use mathlib.Core.Bool.{Bool, true, false, _&&_, _||_, or-false}
+use mathlib.Core.Bool.{Bool, true, false, _||_, or-false}
 use mathlib.Core.List.{List}
 use Prim.Native.Nat.{ℕ, _≤_, _<_}
-use native.Mathlib.Omega.{arith}
-use lib.Dec.{ltb}
 use lib.ListN.{length-replicate}
-use borrow.Author.Tests.{lt-ltb}
 use Rattle.meaning.specs.declared.AtomNo.{AtomNo}
 use Rattle.meaning.specs.declared.RuleNo.{RuleNo}
 use Rattle.meaning.specs.Sets.{Set, _∈_, _∉_, everyBelow, someBelow}
 use Rattle.meaning.specs.Books.{Atoms, Rules, Book, atomNo, count, InBook}
 use Rattle.meaning.specs.Colours.{Pair}
-use Rattle.meaning.specs.Bits.{none, below, implied, members, listed}
-use Rattle.meaning.specs.Written.{Tables, of, coloured, lent}
+use Rattle.meaning.specs.Bits.{none, implied, members, listed}
+use Rattle.meaning.specs.Written.{Tables, coloured, lent}
 use Rattle.meaning.specs.Propagation.{propagate}
 use Rattle.meaning.specs.Pending.{Forced, Pending, noAtoms, hit, dropped, newlyLost}
-use Rattle.meaning.proofs.Tests.{both, and-right, or-left, true-and-false, refuted, implies, decided}
+use Rattle.meaning.proofs.Tests.{or-left, true-and-false, refuted, implies, decided}
 use Rattle.meaning.proofs.Tests.{implied as implied-by}
 use Rattle.meaning.proofs.Sets.{below-at, below-all, below-some, below-one}
 use Rattle.meaning.proofs.Rules.{within-both}
@@ -27,15 +24,9 @@ use Rattle.meaning.proofs.Four.{members-small}
 use Rattle.meaning.proofs.Listed.{listed-long}
 use Rattle.meaning.proofs.Propagation.{forced-start}
 use Rattle.meaning.proofs.Propagate.{propagation-computed}
-use Rattle.meaning.proofs.Pending.{pending-start, pending-drop, forced-drop, pending-propagation}
+use Rattle.meaning.proofs.Pending.{pending-drop, forced-drop, pending-propagation}
 use Rattle.meaning.proofs.Remaining.{remaining, remaining-more, remaining-on, remaining-drop}
-use Rattle.book.specs.declared.reader.Shape.{Shape}
-use Rattle.book.specs.Format.{bookIn, ReadAs}
-use Rattle.book.specs.RuleRows.{headedBy, lostBy, RuleRows}
-use Rattle.book.proofs.Places.{rule-keeps, in-shape}
-use Rattle.book.proofs.RuleRows.{headed-by, lost-by}
 use Rattle.closing.specs.News.{atomSet, Fallen, Raised}
-use Rattle.closing.proofs.Falling.{at-rule}
 
 pub record Propagating (b : Book) (start c : Pair) (nt nl : Atoms) (cand : Rules) : Type 0 where
   pub forced : Forced b start c
@@ -43,25 +34,10 @@ pub record Propagating (b : Book) (start c : Pair) (nt nl : Atoms) (cand : Rules
   pub on-outside : (r : RuleNo) → count b ≤ r .0 → c .on r ≡ start .on r
   pub off-outside : (r : RuleNo) → count b ≤ r .0 → c .off r ≡ start .off r
 
--- ---- the start: all true atoms, all lost atoms, all rules
+-- ---- the start, with what is handed in
 
-module _ (s : List ℕ) (h : Shape) (e : ReadAs s h) (few : h .atoms < 256) (t : List ℕ) (k : RuleRows (bookIn s) t) where
-  pub propagating-start : (on off nt nl cand : List ℕ) → atomSet nt ≡ (λ a. ltb (a .0) (h .atoms) && headedBy t on a)
-      → atomSet nl ≡ (λ a. ltb (a .0) (h .atoms) && lostBy t off a) → members cand ≡ below (h .rules)
-      → Propagating (bookIn s) (lent (listed on) (listed off)) (lent (listed on) (listed off)) (atomSet nt) (atomSet nl) (of (listed cand))
-  propagating-start on off nt nl cand f g c = record {
-    forced = forced-start (bookIn s) _;
-    pending = pending-start (bookIn s) _ (atomSet nt) (atomSet nl) (of (listed cand))
-        (λ a m. sym (headed-by (bookIn s) t k on a (members-small nt (a .0) m)) ∙ and-right (ltb (a .0) (h .atoms)) _ (ap (λ (x : Atoms). x a) (sym f) ∙ m))
-        (λ a m. sym (lost-by (bookIn s) t k off a (members-small nl (a .0) m)) ∙ and-right (ltb (a .0) (h .atoms)) _ (ap (λ (x : Atoms). x a) (sym g) ∙ m))
-        (λ r l a i m. let low = rule-keeps s h e r (in-shape s h e r l) .neg .below a i in
-        ap (λ (x : Atoms). x a) f ∙ both (lt-ltb (a .0) (h .atoms) low) (headed-by (bookIn s) t k on a (omega arith) ∙ m))
-        (λ r l a i m. let low = rule-keeps s h e r (in-shape s h e r l) .pos .below a i in
-        ap (λ (x : Atoms). x a) g ∙ both (lt-ltb (a .0) (h .atoms) low) (lost-by (bookIn s) t k off a (omega arith) ∙ m))
-        (λ r l. at-rule cand c r ∙ lt-ltb (r .0) (h .rules) (in-shape s h e r l));
-    on-outside = λ r l. refl;
-    off-outside = λ r l. refl;
-  }
+pub propagating-start : (b : Book) (c : Pair) {nt nl : Atoms} {cand : Rules} → Pending b c nt nl cand → Propagating b c c nt nl cand
+propagating-start b c p = record { forced = forced-start b c; pending = p; on-outside = λ r l. refl; off-outside = λ r l. refl }
 
 -- ---- step 1
 
@@ -132,14 +108,15 @@ module _ (w v z : List ℕ) (e : v ≡ w) (n : members z ≡ none) {x : Bool} (f
 
 -- ---- the end
 
+pub sized-coloured : (on off : List ℕ) → Sized (coloured (listed on) (listed off))
+sized-coloured on off =
+    record { on = listed-long on; off = listed-long off; marks = length-replicate 256 false; levels = length-replicate {A = ℕ} 255 0 }
+
 pub propagating-end : (b : Book) → count b ≤ 255 → (on₀ off₀ on off : List ℕ) {nt nl : Atoms} {cand : Rules}
     → Propagating b (lent (listed on₀) (listed off₀)) (lent (listed on) (listed off)) nt nl cand
     → ((a : AtomNo) → a ∉ nt) → ((a : AtomNo) → a ∉ nl) → ((r : RuleNo) → InBook b r → r ∉ cand)
     → (listed on ≡ propagate b (coloured (listed on₀) (listed off₀)) .on) × (listed off ≡ propagate b (coloured (listed on₀) (listed off₀)) .off)
 propagating-end b few on₀ off₀ on off p t l c =
-    let e = propagation-computed b few (coloured (listed on₀) (listed off₀)) (sized on₀ off₀) (coloured (listed on) (listed off)) (sized on off)
+    let e = propagation-computed b few (coloured (listed on₀) (listed off₀)) (sized-coloured on₀ off₀) (coloured (listed on) (listed off)) (sized-coloured on off)
     (pending-propagation b (p .pending) (p .forced) t l c) refl refl refl (record { on = p .on-outside; off = p .off-outside }) in
     (ap (λ (d : Tables). d .on) e, ap (λ (d : Tables). d .off) e)
-  where
-    sized : (on off : List ℕ) → Sized (coloured (listed on) (listed off))
-    sized on off = record { on = listed-long on; off = listed-long off; marks = length-replicate 256 false; levels = length-replicate {A = ℕ} 255 0 }

@@ -24,7 +24,7 @@ use Rattle.meaning.proofs.Written.{of-set}
 use Rattle.meaning.proofs.Listed.{listed-long}
 use Rattle.meaning.proofs.Propagation.{forced-on}
 use Rattle.meaning.proofs.Pending.{pending-fewer, pending-looked-on, pending-looked-past}
-use Rattle.closing.specs.News.{atomSet, Looked, passed, risen, Raised}
+use Rattle.closing.specs.News.{Looked, passed, risen, Raised}
 use Rattle.closing.proofs.Noting.{noted}
 use Rattle.closing.proofs.Falling.{at-rule}
 
@@ -40,40 +40,47 @@ less-listed d w v x y e f g q =
     ∙ ap₂ (λ (m n : Bool). m && not n)
     (ap (λ (u : List ℕ). members u (q .0)) f ∙ sym (at-rule x refl q)) (ap (λ (u : List ℕ). members u (q .0)) g ∙ sym (at-rule y refl q))
 
--- a rule that may go on has gone on, and its head is noted unless it was the head of an on rule
-pub looked-risen : (b : Book) (off : Rules) (r : RuleNo) (on on' nt' : List ℕ) (nt : Atoms) (h : AtomNo) (told : Bool) → r .0 < 256
-    → r ∈ mayOn b (record { on = of (listed on); off = off }) → h ≡ rule b r .head → told ≡ heads b (of (listed on)) h
-    → atomSet nt' ≡ (λ a. nt a || (not told && sameAtom h a)) → listed on' ≡ set (listed on) (r .0) true
-    → Looked b off r (of (listed on)) nt (of (listed on')) (atomSet nt')
+-- the head of a rule is noted unless it was the head of an on rule
+pub noted-true : (b : Book) (r : RuleNo) (on : Rules) (nt : Atoms) {nt' : Atoms} (h : AtomNo) (told : Bool) → h ≡ rule b r .head
+    → told ≡ heads b on h → nt' ≡ (λ a. nt a || (not told && sameAtom h a)) → nt' ≡ newlyTrue b r on nt
 unfolding newlyTrue
-looked-risen b off r on on' nt' nt h told low m e f g p =
-    subst (λ (o : Rules). Looked b off r (of (listed on)) nt o (atomSet nt')) (sym went)
-    (subst (λ (a : Atoms). Looked b off r (of (listed on)) nt (plus (of (listed on)) (r ∷ [])) a) (sym new) (risen m))
-  where
-    went : of (listed on') ≡ plus (of (listed on)) (r ∷ [])
-    went = ap of p ∙ of-set (listed on) r (omega (arith, listed-long on))
+noted-true b r on nt h told e f g = g ∙ noted (λ a. not (heads b on a)) nt h (not told) (ap not f)
+    ∙ fun-ext (λ a. ap (λ (h : AtomNo). nt a || (sameAtom h a && not (heads b on a))) e)
 
-    new : atomSet nt' ≡ (λ a. nt a || (sameAtom (rule b r .head) a && not (heads b (of (listed on)) a)))
-    new = g ∙ noted (λ a. not (heads b (of (listed on)) a)) nt h (not told) (ap not f)
-        ∙ fun-ext (λ a. ap (λ (h : AtomNo). nt a || (sameAtom h a && not (heads b (of (listed on)) a))) e)
+-- a set of words with a rule put in
+pub put-rule : (w v : List ℕ) (r : RuleNo) → r .0 < 256 → listed w ≡ set (listed v) (r .0) true → of (listed w) ≡ plus (of (listed v)) (r ∷ [])
+put-rule w v r low p = ap of p ∙ of-set (listed v) r (omega (arith, listed-long v))
+
+-- a rule that may go on has gone on
+pub looked-risen : (b : Book) (off : Rules) (r : RuleNo) (on on' : List ℕ) (nt : Atoms) {nt' : Atoms} → r .0 < 256
+    → r ∈ mayOn b (record { on = of (listed on); off = off }) → listed on' ≡ set (listed on) (r .0) true
+    → nt' ≡ newlyTrue b r (of (listed on)) nt → Looked b off r (of (listed on)) nt (of (listed on')) nt'
+looked-risen b off r on on' nt {nt'} low m p new =
+    subst (λ (o : Rules). Looked b off r (of (listed on)) nt o nt') (sym (put-rule on' on r low p))
+    (subst (λ (a : Atoms). Looked b off r (of (listed on)) nt (plus (of (listed on)) (r ∷ [])) a) (sym new) (risen m))
 
 -- where the search begins, all of the set is left
+pub onward-first : (w : List ℕ) (r : ℕ) → NextIn (members w) 0 r → (q : RuleNo) → q ∈ of (listed w) → q ∈ onward w r
+unfolding onward
+onward-first w r p q i = elim (decLt (q .0) r) [
+  | yes l ↦ true-and-false (sym (at-rule w refl q) ∙ i) (p .passed (q .0) (omega arith) l)
+  | no l ↦ both i (ap not (le-ltb (q .0) r (omega arith)))
+]
+
+-- at its end none is left
+pub onward-last : (w : List ℕ) (r n : ℕ) → n ≤ r → (q : RuleNo) → q .0 < n → q ∉ onward w r
+unfolding onward
+onward-last w r n h q l = refuted (λ m. true-and-false (and-right (of (listed w) q) _ m) (ap not (lt-ltb (q .0) r (omega arith))))
+
 pub onward-start : (b : Book) (off on : Rules) (nt : Atoms) (todo : List ℕ) (r : ℕ) → NextIn (members todo) 0 r
     → Raised b off (of (listed todo)) on nt (onward todo r) on nt
-unfolding onward
 onward-start b off on nt todo r p = record {
-  pending = λ nl k. pending-fewer b k _ (λ q h m z. inr (both m (ap not (le-ltb (q .0) r (late q m)))));
+  pending = λ nl k. pending-fewer b k _ (λ q h m z. inr (onward-first todo r p q m));
   forced = λ s f. f;
   above = λ q h m. m;
   outside = λ q h. refl;
   new = λ a m. inl m;
 }
-  where
-    late : (q : RuleNo) → q ∈ of (listed todo) → r ≤ q .0
-    late q i = elim (decLt (q .0) r) [
-      | yes l ↦ true-and-false (sym (at-rule todo refl q) ∙ i) (p .passed (q .0) (omega arith) l)
-      | no l ↦ omega arith
-    ]
 
 -- of the candidates only those that are not on need a look
 pub raised-off : (b : Book) (off cand todo on : Rules) (nt : Atoms) {rest on' : Rules} {nt' : Atoms}
@@ -88,7 +95,7 @@ raised-off b off cand todo on nt e k = record {
 }
 
 -- the candidates behind the one at which the search stands
-behind : (todo : List ℕ) (r m : ℕ) → NextIn (members todo) (r + 1) m → (q : RuleNo) → q ∈ onward todo r → (q ≡ ruleNo r) ⊎ (q ∈ onward todo m)
+pub behind : (todo : List ℕ) (r m : ℕ) → NextIn (members todo) (r + 1) m → (q : RuleNo) → q ∈ onward todo r → (q ≡ ruleNo r) ⊎ (q ∈ onward todo m)
 unfolding onward
 behind todo r m p q i = elim (ℕ-discrete (q .0) r) [
   | yes e ↦ inl (λ i. record { 0 = e i })
@@ -147,6 +154,4 @@ onward-turn b off cand on nt todo r m k p h l = raised-turn b off cand on nt (on
 
 pub onward-end : (b : Book) (off cand on : Rules) (nt : Atoms) (todo : List ℕ) (r : ℕ) {on' : Rules} {nt' : Atoms}
     → Raised b off cand on nt (onward todo r) on' nt' → count b ≤ r → (cand' : Rules) → Raised b off cand on nt cand' on' nt'
-unfolding onward
-onward-end b off cand on nt todo r k h cand' =
-    raised-end b off cand on nt (onward todo r) _ _ k cand' (λ q g. refuted (λ m. true-and-false (and-right (of (listed todo) q) _ m) (ap not (lt-ltb (q .0) r (omega arith)))))
+onward-end b off cand on nt todo r k h cand' = raised-end b off cand on nt (onward todo r) _ _ k cand' (onward-last todo r (count b) h)

@@ -5,33 +5,49 @@
 // rule in both sets then. Laws for the layers above are in proofs/Laws.antt.
 ghost use mathlib.Core.Path.{_≡_};
 ghost use Rattle.meaning.specs.Bits.{listed};
-ghost use Rattle.meaning.specs.Written.{written, lent, pair};
+ghost use Rattle.meaning.specs.Written.{written, of, chosen, lent, pair};
+ghost use Rattle.meaning.specs.Colours.{onSide, offSide, Under};
 ghost use Rattle.meaning.specs.Computed.{close};
 ghost use Rattle.meaning.specs.Lowest.{lowestFrom, inBoth, clashed};
+ghost use Rattle.meaning.specs.Propagation.{Propagated};
+ghost use Rattle.meaning.specs.Suspects.{Settled as AllHeld};
 ghost use Rattle.book.specs.Format.{bookIn, ReadAs};
 ghost use Rattle.book.specs.RuleRows.{RuleRows};
-ghost use Rattle.closing.specs.Ended.{endedAt};
+ghost use Rattle.closing.specs.Ended.{ClosedTo, endedAt};
 ghost use Rattle.closing.specs.Picked.{picked};
+ghost use Rattle.closing.specs.Taken.{taken, Ready, Takes};
 use book::Shape;
 use levels::stamp;
 use meaning::Bits;
 use meaning::Colouring;
+use meaning::RuleNo;
+use meaning::whole;
+use starting::propagate;
+use starting::propagate_dropped;
+use starting::propagate_off;
+use starting::propagate_on;
+use unsupported::drop_suspects;
 use unsupported::drop_unsupported;
 
+mod choice;
 mod clash;
+mod cleared;
 mod first;
 mod levels;
 mod marking;
 mod propagation;
+mod starting;
+mod suspected;
 mod unsupported;
 
+pub use choice::Choice;
 pub use clash::Picked;
 pub use clash::lowest_clash;
 pub use clash::lowest_in;
 pub use first::Settled;
 pub use first::settle;
 pub use marking::support;
-pub use propagation::propagate;
+pub use starting::propagate_chosen;
 
 // What a closing comes to: the colouring, and of a contradiction the lowest rule in both sets.
 pub struct Closure {
@@ -51,11 +67,106 @@ pub fn close(book: &[u8], shape: Shape, rows: &[u64; 3072], c: Colouring) -> Clo
     let c_off = c.off;
     let mut on = c_on.w;
     let mut off = c_off.w;
+    propagate(book, shape, rows, &mut on, &mut off);
+    let before = off;
+    drop_unsupported(book, shape, &mut off);
+    let settled = Bits { w: off };
+    propagate_dropped(book, shape, rows, &before, &mut on, &mut off);
+    close_propagated(book, shape, rows, settled, &mut on, &mut off);
+    ended(shape.rules, c, Bits { w: on }, Bits { w: off })
+}
+
+// The same of d with the choice taken. Where a rule is chosen and d is closed, only what the rule
+// brings is looked at.
+pub fn close_chosen(
+    book: &[u8],
+    shape: Shape,
+    rows: &[u64; 3072],
+    d: Colouring,
+    choice: Choice,
+) -> Closure
+    requires { ⌜ ReadAs (now book) shape × RuleRows (bookIn (now book)) (now rows)
+        × Takes (bookIn (now book)) (written d) choice ⌝ }
+    ensures { λ e. ⌜ (written (e .colours) ≡
+        close (bookIn (now (book .entry))) (taken choice (written d)))
+        × (picked (e .clash) ≡ clashed (bookIn (now (book .entry)))
+        (pair (close (bookIn (now (book .entry))) (taken choice (written d))))) ⌝ }
+{
+    match choice {
+        Choice::Nothing => close(book, shape, rows, d),
+        Choice::On(r) => close_on(book, shape, rows, d, r),
+        Choice::Off(r) => close_off(book, shape, rows, d, r),
+    }
+}
+
+// The same with the rule put on.
+fn close_on(book: &[u8], shape: Shape, rows: &[u64; 3072], d: Colouring, r: RuleNo) -> Closure
+    requires { ⌜ ReadAs (now book) shape × RuleRows (bookIn (now book)) (now rows)
+        × Ready (bookIn (now book)) (written d) r ⌝ }
+    ensures { λ e. ⌜ (written (e .colours) ≡
+        close (bookIn (now (book .entry))) (chosen onSide r (written d)))
+        × (picked (e .clash) ≡ clashed (bookIn (now (book .entry)))
+        (pair (close (bookIn (now (book .entry))) (chosen onSide r (written d))))) ⌝ }
+{
+    let d_on = d.on;
+    let d_off = d.off;
+    let mut on = d_on.w;
+    let mut off = d_off.w;
+    propagate_on(book, shape, rows, r, &mut on, &mut off);
+    close_propagated(book, shape, rows, d_off, &mut on, &mut off);
+    ended(shape.rules, d.choose_on(r), Bits { w: on }, Bits { w: off })
+}
+
+// The same with the rule put off.
+fn close_off(book: &[u8], shape: Shape, rows: &[u64; 3072], d: Colouring, r: RuleNo) -> Closure
+    requires { ⌜ ReadAs (now book) shape × RuleRows (bookIn (now book)) (now rows)
+        × Ready (bookIn (now book)) (written d) r ⌝ }
+    ensures { λ e. ⌜ (written (e .colours) ≡
+        close (bookIn (now (book .entry))) (chosen offSide r (written d)))
+        × (picked (e .clash) ≡ clashed (bookIn (now (book .entry)))
+        (pair (close (bookIn (now (book .entry))) (chosen offSide r (written d))))) ⌝ }
+{
+    let d_on = d.on;
+    let d_off = d.off;
+    let mut on = d_on.w;
+    let mut off = d_off.w;
+    propagate_off(book, shape, rows, r, &mut on, &mut off);
+    close_propagated(book, shape, rows, d_off, &mut on, &mut off);
+    ended(
+        shape.rules,
+        d.choose_off(r),
+        Bits { w: on },
+        Bits { w: off },
+    )
+}
+
+// Closes two sets from which nothing follows but by support: the rules that nothing holds up go off,
+// and what follows from it is added, until there is none. With the settled rules off all others are
+// supported.
+fn close_propagated(
+    book: &[u8],
+    shape: Shape,
+    rows: &[u64; 3072],
+    settled: Bits,
+    on: &mut [u64; 4],
+    off: &mut [u64; 4],
+)
+    requires { ⌜ ReadAs (now book) shape × RuleRows (bookIn (now book)) (now rows)
+        × Propagated (bookIn (now book)) (lent (listed (now on)) (listed (now off)))
+        × AllHeld (bookIn (now book)) (of (listed (settled .w)))
+        × Under (bookIn (now book)) (of (listed (settled .w))) (of (listed (now off))) ⌝ }
+    ensures { λ _. ⌜ ClosedTo (bookIn (now (book .entry)))
+        (lent (listed (now (on .entry))) (listed (now (off .entry))))
+        (lent (listed (now (on .exit))) (listed (now (off .exit)))) ⌝ }
+{
+    let mut old = settled.w;
     loop {
-        propagate(book, shape, rows, &mut on, &mut off);
-        if !drop_unsupported(book, shape, &mut off) {
-            return ended(shape.rules, c, Bits { w: on }, Bits { w: off });
+        let was = whole(off);
+        let before = was.w;
+        if !drop_suspects(book, shape, rows, &mut old, off) {
+            return;
         }
+        propagate_dropped(book, shape, rows, &before, on, off);
     }
 }
 

@@ -3,16 +3,17 @@
 // or the other. The new atoms put off the rules that they block or starve; when no atom is newly
 // lost, the candidates have their look, and those that go on make atoms newly true.
 ghost use mathlib.Core.Path.{_≡_};
-ghost use mathlib.Core.Bool.{_&&_, _||_};
+ghost use mathlib.Core.Bool.{true, _&&_, _||_};
 ghost use Prim.Native.Nat.{_+_, _<_};
-ghost use lib.Dec.{ltb};
+ghost use lib.ListN.{set};
 ghost use Rattle.meaning.specs.Books.{rule, sameAtom};
 ghost use Rattle.meaning.specs.Bits.{none, plus, members, listed};
-ghost use Rattle.meaning.specs.Written.{of, coloured};
+ghost use Rattle.meaning.specs.Written.{of, lent, coloured};
 ghost use Rattle.meaning.specs.Colours.{heads, allIn};
 ghost use Rattle.meaning.specs.Propagation.{propagate};
+ghost use Rattle.meaning.specs.Pending.{Pending, newlyTrue};
 ghost use Rattle.book.specs.Format.{bookIn, ReadAs};
-ghost use Rattle.book.specs.RuleRows.{sets, headedBy, lostBy, RuleRows};
+ghost use Rattle.book.specs.RuleRows.{sets, RuleRows};
 ghost use Rattle.closing.specs.News.{atomSet, rowsBelow, Fallen, Looked, Raised};
 use book::Shape;
 use book::head;
@@ -60,7 +61,7 @@ fn spread(rows: &[u64; 3072], atoms: &[u64; 4], by_neg: &mut [u64; 4], by_pos: &
 }
 
 // Puts the atom in the set if so told.
-fn note(told: bool, a: AtomNo, set: &mut [u64; 4])
+pub fn note(told: bool, a: AtomNo, set: &mut [u64; 4])
     ensures { λ _. ⌜ atomSet (now (set .exit)) ≡
         (λ x. atomSet (now (set .entry)) x || (told && sameAtom a x)) ⌝ }
 {
@@ -71,7 +72,7 @@ fn note(told: bool, a: AtomNo, set: &mut [u64; 4])
 }
 
 // The rule's head is put in the set if all its rules are off.
-fn note_lost(
+pub fn note_lost(
     book: &[u8],
     shape: Shape,
     rows: &[u64; 3072],
@@ -90,7 +91,7 @@ fn note_lost(
 }
 
 // Writes the heads of the rules of the set all of whose rules are off.
-fn lost_heads(
+pub fn lost_heads(
     book: &[u8],
     shape: Shape,
     rows: &[u64; 3072],
@@ -138,7 +139,27 @@ fn fall(
     lost_heads(book, shape, rows, &new, off, nl);
 }
 
-// A candidate has its look: if it may go on it goes on, and its head is new unless it was true.
+// The rule goes on, and its head is new unless it was true.
+pub fn rise(
+    book: &[u8],
+    shape: Shape,
+    rows: &[u64; 3072],
+    r: RuleNo,
+    on: &mut [u64; 4],
+    nt: &mut [u64; 4],
+)
+    requires { ⌜ ReadAs (now book) shape × (r .0 < shape .rules)
+        × RuleRows (bookIn (now book)) (now rows) ⌝ }
+    ensures { λ _. ⌜ (listed (now (on .exit)) ≡ set (listed (now (on .entry))) (r .0) true)
+        × (atomSet (now (nt .exit)) ≡ newlyTrue (bookIn (now (book .entry))) r
+        (of (listed (now (on .entry)))) (atomSet (now (nt .entry)))) ⌝ }
+{
+    let a = head(book, shape, r);
+    note(!is_headed(rows, a, on), a, nt);
+    put(on, r.0);
+}
+
+// A candidate has its look: if it may go on it goes on.
 fn look_at(
     book: &[u8],
     shape: Shape,
@@ -157,9 +178,7 @@ fn look_at(
     if !may_go_on(book, shape, r, rows, on, off) {
         return;
     }
-    let a = head(book, shape, r);
-    note(!is_headed(rows, a, on), a, nt);
-    put(on, r.0);
+    rise(book, shape, rows, r, on, nt);
 }
 
 // Every candidate that is not on has its look, in order; none is left.
@@ -189,67 +208,29 @@ fn raise(
     }
 }
 
-// The atom is put in the one set if it is the head of an on rule, in the other if all its rules are
-// off.
-fn note_atom(
-    rows: &[u64; 3072],
-    a: AtomNo,
-    on: &[u64; 4],
-    off: &[u64; 4],
-    nt: &mut [u64; 4],
-    nl: &mut [u64; 4],
-)
-    ensures { λ _. ⌜ (atomSet (now (nt .exit)) ≡ (λ x. atomSet (now (nt .entry)) x
-        || (sameAtom a x && headedBy (now (rows .entry)) (now (on .entry)) x)))
-        × (atomSet (now (nl .exit)) ≡ (λ x. atomSet (now (nl .entry)) x
-        || (sameAtom a x && lostBy (now (rows .entry)) (now (off .entry)) x))) ⌝ }
-{
-    note(is_headed(rows, a, on), a, nt);
-    note(is_lost(rows, a, off), a, nl);
-}
-
-// Writes the true ones and the lost ones of the first `atoms` atoms.
-fn begin(
-    atoms: u8,
-    rows: &[u64; 3072],
-    on: &[u64; 4],
-    off: &[u64; 4],
-    nt: &mut [u64; 4],
-    nl: &mut [u64; 4],
-)
-    ensures { λ _. ⌜ (atomSet (now (nt .exit)) ≡ (λ x.
-        ltb (x .0) atoms && headedBy (now (rows .entry)) (now (on .entry)) x))
-        × (atomSet (now (nl .exit)) ≡ (λ x.
-        ltb (x .0) atoms && lostBy (now (rows .entry)) (now (off .entry)) x)) ⌝ }
-{
-    *nt = [0; 4];
-    *nl = [0; 4];
-    let mut a: u8 = 0;
-    while a < atoms {
-        note_atom(rows, AtomNo(a), on, off, nt, nl);
-        a += 1;
-    }
-}
-
-// Adds to the two sets what follows from them without support, and nothing else.
-pub fn propagate(
+// Adds to the two sets what follows from them without support, and nothing else, where all has been
+// looked at but for the atoms newly true, the atoms newly lost and the candidates that are handed in.
+pub fn propagate_from(
     book: &[u8],
     shape: Shape,
     rows: &[u64; 3072],
+    newly_true: Bits,
+    newly_lost: Bits,
+    candidates: Bits,
     on: &mut [u64; 4],
     off: &mut [u64; 4],
 )
-    requires { ⌜ ReadAs (now book) shape × RuleRows (bookIn (now book)) (now rows) ⌝ }
+    requires { ⌜ ReadAs (now book) shape × RuleRows (bookIn (now book)) (now rows)
+        × Pending (bookIn (now book)) (lent (listed (now on)) (listed (now off)))
+        (atomSet («newly_true» .w)) (atomSet («newly_lost» .w)) (of (listed (candidates .w))) ⌝ }
     ensures { λ _. ⌜ (listed (now (on .exit)) ≡ propagate (bookIn (now (book .entry)))
         (coloured (listed (now (on .entry))) (listed (now (off .entry)))) .on)
         × (listed (now (off .exit)) ≡ propagate (bookIn (now (book .entry)))
         (coloured (listed (now (on .entry))) (listed (now (off .entry)))) .off) ⌝ }
 {
-    let mut nt = [0u64; 4];
-    let mut nl = [0u64; 4];
-    begin(shape.atoms, rows, on, off, &mut nt, &mut nl);
-    let all = Bits::below(shape.rules);
-    let mut cand = all.w;
+    let mut nt = newly_true.w;
+    let mut nl = newly_lost.w;
+    let mut cand = candidates.w;
     loop {
         fall(book, shape, rows, off, &mut nt, &mut nl, &mut cand);
         if whole(&nl).is_within(Bits::empty()) {

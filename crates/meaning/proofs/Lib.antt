@@ -24,6 +24,8 @@ pub mod Propagation
 pub mod Propagate
 pub mod Pending
 pub mod Remaining
+pub mod Suspects
+pub mod Suspecting
 pub mod Answers
 pub mod LeastModel
 pub mod Order

@@ -4,14 +4,14 @@
 -- Step 1 is pending-drop with forced-drop; step 2, for each candidate, is pending-looked-on with forced-on, or pending-looked-past.
 use mathlib.Core.Path.{_≡_, refl, ap}
 use mathlib.Core.Logic.{_⊎_, inr, ⊎-elim, ⊎-map}
-use mathlib.Core.Bool.{true, false, not, _||_}
+use mathlib.Core.Bool.{true, false, not, _&&_, _||_}
 use mathlib.Core.List.{[], _∷_, List·Memᴰ}
 use borrow.Author.Tests.{not-true}
 use Rattle.meaning.specs.declared.AtomNo.{AtomNo}
 use Rattle.meaning.specs.declared.RuleNo.{RuleNo}
 use Rattle.meaning.specs.Sets.{_∈_, _∉_, _⊆_, every, some}
-use Rattle.meaning.specs.Books.{Atoms, Rules, sameAtom, among, Book, rule, InBook}
-use Rattle.meaning.specs.Colours.{Pair, onSide, offSide, put, plus, heads, allIn, mayOn, blocked, starved, Under}
+use Rattle.meaning.specs.Books.{Atoms, Rules, sameAtom, Book, rule, InBook}
+use Rattle.meaning.specs.Colours.{Pair, onSide, put, plus, heads, allIn, mayOn, blocked, starved, Under}
 use Rattle.meaning.specs.Engine.{less}
 use Rattle.meaning.specs.Propagation.{Propagated, Propagation}
 use Rattle.meaning.specs.Pending.{Forced, Waits, is-on, is-candidate, by-true, by-lost, Pending, noAtoms, hit, called, joined, dropped}
@@ -48,6 +48,11 @@ module _ (b : Book) where
     starves = λ r h a m e n. k .goes-off-starved r h (some-one _ _ a m e);
     waits = λ r h m. is-on (k .goes-on r h m);
   }
+
+  -- an atom that became lost is the head of a rule that went off
+  lost-head : (off off' : Rules) (a : AtomNo) → a ∈ allIn b off' → a ∉ allIn b off → a ∈ heads b (less off' off)
+  lost-head off off' a e n = proved (λ z. true-and-false (allIn-all b off a (λ r h q. proved (λ o.
+      true-and-false (rw q at (heads-of b (less off' off) r h (both (allIn-at b off' a e r h q) (ap not o)))) z))) n)
 
   module _ {c : Pair} {nt nl : Atoms} {cand : Rules} (p : Pending b c nt nl cand) where
     pub pending-end : ((a : AtomNo) → a ∉ nt) → ((a : AtomNo) → a ∉ nl) → ((r : RuleNo) → InBook b r → r ∉ cand) → Propagated b c
@@ -150,11 +155,11 @@ module _ (b : Book) where
     -- an atom that became lost is the head of a rule put off just now
     newly-lost : (s : Rules) (a : AtomNo) → a ∈ allIn b (joined (c .off) s) → a ∉ allIn b (c .off) → a ∈ newlyLost b s (c .off)
     unfolding newlyLost
-    newly-lost s a e n = both (proved (λ z. true-and-false (allIn-all b (c .off) a (λ r h q. proved (λ o.
-        true-and-false (rw q at (heads-of b (less s (c .off)) r h (both (put-off r h q o) (ap not o)))) z))) n)) e
+    newly-lost s a e n = both (heads-mono b (λ r h m. both (put-off r m) (and-right (joined (c .off) s r) _ m)) a (lost-head _ _ a e n)) e
       where
-        put-off : (r : RuleNo) → InBook b r → rule b r .head ≡ a → r ∉ c .off → r ∈ s
-        put-off r h q o = ⊎-elim (λ m. true-and-false m o) (λ m. m) (either (c .off r) _ (allIn-at b _ a e r h q))
+        put-off : (r : RuleNo) → r ∈ less (joined (c .off) s) (c .off) → r ∈ s
+        put-off r m = ⊎-elim (λ k. true-and-false k (not-true _ (and-right (joined (c .off) s r) _ m))) (λ k. k)
+            (either (c .off r) _ (and-left (joined (c .off) s r) _ m))
 
     -- legal or chosen, rules go off: what is lost by it is new
     pub pending-fall : (s : Rules) → Pending b (dropped s c) nt (λ a. nl a || newlyLost b s (c .off) a) cand
@@ -220,13 +225,13 @@ module _ (b : Book) where
         → ((r : RuleNo) → InBook b r → r ∉ cand) → Propagation b start c
     pending-propagation f t l k = forced-propagation b f (pending-end p t l k)
 
-  -- ---- the start after a choice at a propagated pair: only the head of the chosen rule can be new
+  -- ---- the start where a propagated pair has grown: only heads of the rules that went on or off can be new
 
-  pub pending-chosen-on : {c : Pair} → Propagated b c → (r : RuleNo) → InBook b r
+  pub pending-chosen : {c : Pair} → Propagated b c → (r : RuleNo) → InBook b r
       → Pending b (put onSide (r ∷ []) c) (newlyTrue b r (c .on) noAtoms) noAtoms (λ q. false)
-  pending-chosen-on k r h = pending-raise (propagated-pending k (λ q. false)) r h
+  pending-chosen k r h = pending-raise (propagated-pending k (λ q. false)) r h
 
-  pub pending-chosen-off : {c : Pair} → Propagated b c → (r : RuleNo)
-      → Pending b (put offSide (r ∷ []) c) noAtoms (newlyLost b (among (r ∷ [])) (c .off)) (λ q. false)
-  unfolding put
-  pending-chosen-off k r = pending-fall (propagated-pending k (λ q. false)) (among (r ∷ []))
+  pub pending-dropped : {c : Pair} → Propagated b c → (off : Rules) → Under b (c .off) off
+      → Pending b (record { on = c .on; off = off }) noAtoms (λ a. heads b (less off (c .off)) a && allIn b off a) (λ q. false)
+  pending-dropped {c} k off up = pending-off (propagated-pending k (λ q. false)) off _ up (λ a m. true-and-false m refl)
+      (λ a m. and-right (heads b (less off (c .off)) a) _ m) (λ a e n. both (lost-head (c .off) off a e n) e)

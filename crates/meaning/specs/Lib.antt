@@ -14,6 +14,7 @@ pub mod Propagation
 pub mod Lowest
 pub mod Engine
 pub mod Pending
+pub mod Suspects
 pub mod Told
 pub mod Buffers
 pub mod Joined

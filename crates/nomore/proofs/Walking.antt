@@ -2,26 +2,31 @@
 -- two sets. The events go by their own laws, the run by those of walk (walk/proofs/Steps).
 use mathlib.Core.Path.{_≡_, refl, sym, _∙_, ap, ap₂}
 use mathlib.Core.Bool.{Bool}
-use mathlib.Core.List.{List, [], _∷_, _++_}
+use mathlib.Core.List.{List, [], _∷_}
 use Prim.Native.Nat.{ℕ, _≤_, _<_}
 use native.Mathlib.Omega.{arith}
 use Rattle.meaning.specs.declared.RuleNo.{RuleNo}
-use Rattle.meaning.specs.Books.{Book, count}
+use Rattle.meaning.specs.Books.{Book, count, InBook}
 use Rattle.meaning.specs.Bits.{none as none-in, below, plus, less, members, listed}
 use Rattle.meaning.specs.Colours.{Pair, Side, onSide, offSide}
-use Rattle.meaning.specs.Written.{Tables, coloured, pair, lent}
+use Rattle.meaning.specs.Written.{Tables, nothing, coloured, pair, lent}
 use Rattle.meaning.specs.Lowest.{Pick, none, one, lowestFrom, lowest, inBoth, clashed}
-use Rattle.meaning.specs.Propagation.{propagate}
-use Rattle.meaning.proofs.Written.{Sized, sized-nothing}
-use Rattle.meaning.proofs.Listed.{listed-long, listed-empty}
-use Rattle.meaning.proofs.Propagate.{propagate-rest}
+use Rattle.meaning.specs.Propagation.{Propagated, propagate}
+use Rattle.meaning.proofs.Written.{Sized, sized-on, sized-off}
+use Rattle.meaning.proofs.Listed.{listed-empty}
+use Rattle.meaning.proofs.Lowest.{lowest-one}
+use Rattle.meaning.proofs.Propagate.{propagate-is, propagate-rest}
 use Rattle.book.specs.declared.reader.Shape.{Shape}
 use Rattle.book.specs.Format.{bookIn, ReadAs}
 use Rattle.book.proofs.Places.{shape-count}
 use Rattle.closing.specs.Left.{left}
 use Rattle.closing.specs.Picked.{picked}
+use Rattle.closing.specs.Taken.{puts}
+use Rattle.closing.specs.declared.choice.Choice.{Choice}
+use Rattle.closing.specs.declared.choice.Choice.the-variants.{Nothing, On, Off}
 use Rattle.closing.specs.declared.clash.Picked.{Picked}
 use Rattle.closing.proofs.Searches.{lowest-in}
+use Rattle.closing.proofs.Propagating.{sized-coloured}
 use Rattle.walk.specs.Events.{Event, clash, fork, quiet, reading}
 use Rattle.walk.specs.Readings.{readingOf}
 use Rattle.walk.specs.Run.{Wanted, State, counted, clashedAt, halting, readingMet, run}
@@ -36,20 +41,31 @@ use Rattle.nomore.proofs.Events.{Propagates, Forks, Leaf, own-clash, ow
 
 -- ---- two sets of 256 bits
 
-pub sized-coloured : (on off : List ℕ) → Sized (coloured (listed on) (listed off))
-sized-coloured on off =
-    record { on = listed-long on; off = listed-long off; marks = sized-nothing .marks; levels = sized-nothing .levels }
+pub sized-puts : (k : Choice) (on off : List ℕ) → Sized (puts k (coloured (listed on) (listed off)))
+sized-puts Nothing on off = sized-coloured on off
+sized-puts (On r) on off = sized-on r (sized-coloured on off)
+sized-puts (Off r) on off = sized-off r (sized-coloured on off)
 
 -- ---- closing without support, written out
 
-module _ (b : Book) (fits : count b ≤ 255) (on off : List ℕ) where
+module _ (b : Book) (fits : count b ≤ 255) (k : Choice) (on off : List ℕ) where
+  abbrev from : Tables
+  from = puts k (coloured (listed on) (listed off))
+
   -- the marks and the levels stay
-  pub grown : (d-on d-off : List ℕ) → listed d-on ≡ propagate b (coloured (listed on) (listed off)) .on
-      → listed d-off ≡ propagate b (coloured (listed on) (listed off)) .off
-      → coloured (listed d-on) (listed d-off) ≡ propagate b (coloured (listed on) (listed off))
+  pub grown : (d-on d-off : List ℕ) → listed d-on ≡ propagate b (puts k (coloured (listed on) (listed off))) .on
+      → listed d-off ≡ propagate b (puts k (coloured (listed on) (listed off))) .off
+      → coloured (listed d-on) (listed d-off) ≡ propagate b (puts k (coloured (listed on) (listed off)))
   grown d-on d-off e f =
-      let (m, v, l) = propagate-rest b fits (coloured (listed on) (listed off)) (sized-coloured on off) in
-      λ i. record { on = e i; off = f i; marks = sym m i; level = sym v i; levels = sym l i }
+      let (m, v, l) = propagate-rest b fits from (sized-puts k on off) in
+      let (m', v', l') = as-before k in
+      λ i. record { on = e i; off = f i; marks = sym (m ∙ m') i; level = sym (v ∙ v') i; levels = sym (l ∙ l') i }
+    where
+      as-before : (k : Choice) → let c = puts k (coloured (listed on) (listed off)) in
+          (c .marks ≡ nothing .marks) × (c .level ≡ 0) × (c .levels ≡ nothing .levels)
+      as-before Nothing = (refl, refl, refl)
+      as-before (On r) = (refl, refl, refl)
+      as-before (Off r) = (refl, refl, refl)
 
 -- ---- what closing without support and the search for a rule say
 
@@ -73,9 +89,13 @@ pub clash-told : (b : Book) (c : Pair) {v w : Picked} → picked v ≡ clashed b
 clash-told b c f g = sym f ∙ ap picked g
 
 -- each side of a fork is less far from its end
-pub side-falls : {b : Book} {c d : Tables} {r : RuleNo} {n : ℕ} → Forks b c d r → left b c ≡ n → (x : Side) {y : Tables}
-    → y ≡ colour x r d → left b y < n
-side-falls f e x g = rw (g, ← e) (fork-falls f x)
+pub side-falls : {b : Book} {c d : Tables} {r : RuleNo} {n : ℕ} → Forks b c d r → left b c ≡ n → (x : Side) → left b (colour x r d) < n
+side-falls f e x = rw (← e) (fork-falls f x)
+
+-- and what is new on it comes from the rule
+pub side-grows : {b : Book} {c d : Tables} {r : RuleNo} → Forks b c d r → InBook b r × Propagated b (pair d)
+side-grows {b} {c} {r = r} f = let k = f .propagates in
+    (lowest-one b _ r (f .choice) .0, rw (k .propagated) (propagate-is b (k .few) c (k .sized) .good .propagated))
 
 -- ---- the ways of a call
 
@@ -125,14 +145,11 @@ module _ (b : Book) (w : Wanted) (s : State) where
       walk-leaf {c} {y = y} f et ey eu =
           let q : ownFrom b c ≡ quiet ∷ testOf b y = rw ey (own-leaf f) in way-quiet b w s going h _ (testOf b y) q et eu
 
-      -- x and y are the two sides of the fork, u the state after the first and v after the second
-      pub walk-fork : {c d : Tables} {r : RuleNo} {t : Tally} {x y : Tables} {u v : State} → Forks b c d r
-          → t ≡ counted s (s .tally .sets) Going
-          → x ≡ colour onSide r d → u ≡ run b w (record { tally = t; out = s .out }) (ownFrom b x)
-          → y ≡ colour offSide r d → v ≡ run b w u (ownFrom b y) → v ≡ run b w s (ownFrom b c)
-      walk-fork {c} {r = r} {x = x} {y = y} f et ex eu ey ev =
-          let q : ownFrom b c ≡ fork r ∷ (ownFrom b x ++ ownFrom b y) = rw (ex, ey) (own-fork f) in
-          way-fork b w s going h _ (ownFrom b x) (ownFrom b y) q et eu ev
+      -- u is the state after the one side of the fork, v after both
+      pub walk-fork : {c d : Tables} {r : RuleNo} {t : Tally} {u v : State} → Forks b c d r → t ≡ counted s (s .tally .sets) Going
+          → u ≡ run b w (record { tally = t; out = s .out }) (ownFrom b (colour onSide r d))
+          → v ≡ run b w u (ownFrom b (colour offSide r d)) → v ≡ run b w s (ownFrom b c)
+      walk-fork f et eu ev = way-fork b w s going h _ _ _ (own-fork f) et eu ev
 
       -- the test of e, which closing without support takes to d
       module _ (e : Tables) {d : Tables} (k : d ≡ propagate b e) where

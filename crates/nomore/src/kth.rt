@@ -12,6 +12,7 @@ use book::Read;
 use book::Shape;
 use book::make_rows;
 use book::read_book;
+use closing::Choice;
 use meaning::Bits;
 use meaning::RuleNo;
 use walk::Found;
@@ -40,6 +41,7 @@ fn kth(book: &[u8], shape: Shape, k: u32, limit: u32, answer: &mut [u8]) -> Tall
         &rows,
         Bits::empty(),
         Bits::empty(),
+        Choice::Nothing,
         k - 1,
         limit,
         start,

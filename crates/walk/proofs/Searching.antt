@@ -108,19 +108,18 @@ or-else-told This w k = refl
 or-else-told Another w k = refl
 
 module _ {b : Book} (inside on : List ℕ) {c d : Tables} {r : RuleNo} (f : Forks b c d r) where
-  side-searches : (z : Side) {s : List AtomNo} {x : Atoms} {y : Tables} → y ≡ chosen z r d → Searches b s x inside on c
-      → Searches b s x inside on y
-  side-searches z {s} {x} e g = rw e (record {
+  side-searches : (z : Side) {s : List AtomNo} {x : Atoms} → Searches b s x inside on c → Searches b s x inside on (chosen z r d)
+  side-searches z {s} {x} g = record {
     atoms-in = g .atoms-in;
     atoms-of = g .atoms-of;
     rules = g .rules;
     avoids = side-avoids b s x f z (g .avoids);
-  })
+  }
 
-  module _ {y : Tables} {v : Verdict} (ey : y ≡ chosen onSide r d) (tv : TellsFirst b inside on y v) where
+  module _ {v : Verdict} (tv : TellsFirst b inside on (chosen onSide r d) v) where
     on-verdict : (s : List AtomNo) (x : Atoms) → Searches b s x inside on c
         → v ≡ firstAmong b s x (readingsIn b (events b (chosen onSide r d)))
-    on-verdict s x g = tv .each s x (side-searches onSide ey g) ∙ ap (λ (u : Tables). firstAmong b s x (readingsIn b (events b u))) ey
+    on-verdict s x g = tv .each s x (side-searches onSide g)
 
     abbrev off-verdict : List AtomNo → Atoms → Verdict
     off-verdict s x = firstAmong b s x (readingsIn b (events b (chosen offSide r d)))
@@ -131,11 +130,11 @@ module _ {b : Book} (inside on : List ℕ) {c d : Tables} {r : RuleNo} (f : Fork
           ∙ or-else-told v _ k);
     }
 
-    pub tells-off : v ≡ Nobody → {z : Tables} {w : Verdict} → z ≡ chosen offSide r d → TellsFirst b inside on z w → TellsFirst b inside on c w
+    pub tells-off : v ≡ Nobody → {w : Verdict} → TellsFirst b inside on (chosen offSide r d) w → TellsFirst b inside on c w
     unfolding orElse
-    tells-off n ez tw = record {
+    tells-off n tw = record {
       each = λ s x g. sym (first-fork b s x f ∙ ap (λ (u : Verdict). orElse u (off-verdict s x)) (sym (on-verdict s x g) ∙ n)
-          ∙ sym (tw .each s x (side-searches offSide ez g) ∙ ap (λ (u : Tables). firstAmong b s x (readingsIn b (events b u))) ez));
+          ∙ sym (tw .each s x (side-searches offSide g)));
     }
 
 -- ---- what a verdict says

@@ -21,10 +21,14 @@ use Rattle.meaning.specs.Computed.{close}
 use Rattle.meaning.specs.Lowest.{Pick, none, one, lowestFrom, lowest, clashed}
 use Rattle.meaning.proofs.Tests.{apart}
 use Rattle.meaning.proofs.Choice.{b-yes, b-no, lt-either}
+use Rattle.meaning.proofs.Written.{Sized, sized-chosen}
 use Rattle.book.specs.declared.reader.Shape.{Shape}
 use Rattle.book.specs.Format.{bookIn, ReadAs}
 use Rattle.book.proofs.Places.{shape-count}
 use Rattle.closing.specs.Left.{left, Shallow}
+use Rattle.closing.specs.Taken.{taken, Ready}
+use Rattle.closing.specs.declared.choice.Choice.{Choice}
+use Rattle.closing.specs.declared.choice.Choice.the-variants.{Nothing, On, Off}
 use Rattle.walk.specs.Events.{Event, clash, fork, reading, quiet, after, eventsIn, events, rest}
 use Rattle.walk.specs.Run.{Wanted, State, counted, clashedAt, halting, readingMet, run}
 use Rattle.walk.specs.Room.{Room}
@@ -38,8 +42,9 @@ use Rattle.walk.specs.declared.tally.Halt.the-variants.{Going, Full, Lim
 use Rattle.walk.specs.declared.tally.Tally.{Tally}
 use Rattle.walk.proofs.tally.Halt.{the-type}
 use Rattle.walk.proofs.Events.{Closes, events-clash, events-reading, rest-clash, rest-reading}
-use Rattle.walk.proofs.Events.{Forks, fork-falls, fork-shallow, events-fork, rest-fork-on, rest-fork-off}
+use Rattle.walk.proofs.Events.{Forks, fork-in-book, fork-falls, fork-level, events-fork, rest-fork-on, rest-fork-off}
 use Rattle.closing.proofs.Searches.{lowest-in}
+use Rattle.closing.proofs.Laws.{close-closed}
 use Rattle.walk.proofs.Run.{run-append, run-ended, run-fine}
 use Rattle.walk.proofs.Fresh.{counted-append}
 use Rattle.walk.proofs.Steps.{way-stops, way-clash, way-reading, way-fork, way-quiet}
@@ -88,13 +93,21 @@ pub clash-told : {b : Book} {c d : Tables} {v w : Picked} → Closes b c d → p
 clash-told k f g = rw (k .closed) (sym f ∙ ap picked g)
 
 -- each side of a fork is less far from its end, where a colouring is as far as it has rules without a colour
-pub side-falls : {b : Book} {c d : Tables} {r : RuleNo} {n : ℕ} → Forks b c d r → left b c ≡ n → (x : Side) {y : Tables}
-    → y ≡ chosen x r d → left b y < n
-side-falls f e x g = rw (g, ← e) (fork-falls f x)
+pub side-falls : {b : Book} {c d : Tables} {r : RuleNo} {n : ℕ} → Forks b c d r → left b c ≡ n → (x : Side) → left b (chosen x r d) < n
+side-falls f e x = rw (← e) (fork-falls f x)
 
-pub side-shallow : {b : Book} {c d : Tables} {r : RuleNo} → Forks b c d r → Shallow b c → (x : Side) {y : Tables}
-    → y ≡ chosen x r d → Shallow b y
-side-shallow f h x g = rw g (fork-shallow f h x)
+-- and what is new on it comes from the rule
+pub side-ready : {b : Book} {c d : Tables} {r : RuleNo} → Forks b c d r → Shallow b c → Ready b d r
+side-ready {b} {c} f h = let k = f .closes in record {
+  closed = rw (k .closed) (close-closed b (k .few) c (k .sized));
+  in-book = fork-in-book f;
+  low = fork-level f h;
+}
+
+pub sized-taken : (k : Choice) {c : Tables} → Sized c → Sized (taken k c)
+sized-taken Nothing s = s
+sized-taken (On r) s = sized-chosen onSide r s
+sized-taken (Off r) s = sized-chosen offSide r s
 
 -- ---- the ways of a call
 
@@ -151,16 +164,17 @@ module _ (b : Book) (p : Set Atoms) (w : Wanted) (s : State) (c : Tables) where
         unfolding run
         walk-quiet f e = way-quiet b w s going h way [] (one-event quiet (b-no _ _ _ (sym asked ∙ f))) e refl
 
-      -- x and y are the two sides of the fork, u the state after the first and v after the second
-      pub walk-fork : {r : RuleNo} {t : Tally} {x y : Tables} {u v : State} → Forks b c d r → t ≡ counted s (s .tally .sets) Going
-          → x ≡ chosen onSide r d → u ≡ run b w (record { tally = t; out = s .out }) (countedBy b p (events b x))
-          → y ≡ chosen offSide r d → v ≡ run b w u (countedBy b p (events b y)) → v ≡ run b w s (countedBy b p (events b c))
+      -- u is the state after the one side of the fork, v after both
+      pub walk-fork : {r : RuleNo} {t : Tally} {u v : State} → Forks b c d r → t ≡ counted s (s .tally .sets) Going
+          → u ≡ run b w (record { tally = t; out = s .out }) (countedBy b p (events b (chosen onSide r d)))
+          → v ≡ run b w u (countedBy b p (events b (chosen offSide r d))) → v ≡ run b w s (countedBy b p (events b c))
       unfolding countedBy
-      walk-fork {r} {x = x} {y = y} f et ex eu ey ev =
-          let q : way ≡ fork r ∷ (countedBy b p (events b x) ++ countedBy b p (events b y)) = rw (ex, ey)
-          (ap (countedBy b p) (events-fork f)
-          ∙ ap (λ (es : List Event). fork r ∷ es) (counted-append b p (events b (chosen onSide r d)) (events b (chosen offSide r d)))) in
-          way-fork b w s going h way (countedBy b p (events b x)) (countedBy b p (events b y)) q et eu ev
+      walk-fork {r} f et eu ev =
+          let x = events b (chosen onSide r d) in
+          let y = events b (chosen offSide r d) in
+          let q : way ≡ fork r ∷ (countedBy b p x ++ countedBy b p y) =
+          ap (countedBy b p) (events-fork f) ∙ ap (λ (es : List Event). fork r ∷ es) (counted-append b p x y) in
+          way-fork b w s going h way (countedBy b p x) (countedBy b p y) q et eu ev
 
 -- one reading more
 pub met-sets : (b : Book) (w : Wanted) (s : State) (x : Atoms) {t : State} → t ≡ readingMet b w s x → t .tally .sets ≡ s .tally .sets + 1
@@ -181,9 +195,9 @@ module _ (b : Book) (w : Wanted) (s : State) (c : Tables) (x : Atoms) {d : Table
 
   -- a says whether the rule that is chosen generates x
   module _ {r : RuleNo} (f : Forks b c d r) {a : Bool} (g : a ≡ generating b x r) where
-    pub resume-off : a ≡ false → {y : Tables} {u : State} → y ≡ chosen offSide r d → u ≡ run b w s (rest b y x) → u ≡ run b w s (rest b c x)
-    resume-off n ey eu = eu ∙ rw ey (sym (ap (run b w s) (rest-fork-off f x (sym g ∙ n))))
+    pub resume-off : a ≡ false → {u : State} → u ≡ run b w s (rest b (chosen offSide r d) x) → u ≡ run b w s (rest b c x)
+    resume-off n eu = eu ∙ sym (ap (run b w s) (rest-fork-off f x (sym g ∙ n)))
 
-    pub resume-on : a ≡ true → {y z : Tables} {u v : State} → y ≡ chosen onSide r d → u ≡ run b w s (rest b y x)
-        → z ≡ chosen offSide r d → v ≡ run b w u (events b z) → v ≡ run b w s (rest b c x)
-    resume-on m ey eu ez ev = ev ∙ rw (ez, eu, ey) (sym (ap (run b w s) (rest-fork-on f x (sym g ∙ m)) ∙ run-append b w s _ _))
+    pub resume-on : a ≡ true → {u v : State} → u ≡ run b w s (rest b (chosen onSide r d) x) → v ≡ run b w u (events b (chosen offSide r d))
+        → v ≡ run b w s (rest b c x)
+    resume-on m eu ev = ev ∙ rw eu (sym (ap (run b w s) (rest-fork-on f x (sym g ∙ m)) ∙ run-append b w s _ _))

@@ -18,6 +18,7 @@ use crate::search::first_alike;
 use crate::search::same_rules;
 use crate::verdict::Verdict;
 use book::Shape;
+use closing::Choice;
 use meaning::Bits;
 use meaning::Colouring;
 use meaning::whole;
@@ -44,7 +45,7 @@ fn is_first(
     let mut c = Colouring::empty();
     c.off = off;
     let inside = part.w;
-    let verdict = first_alike(book, shape, rows, c, &inside, on);
+    let verdict = first_alike(book, shape, rows, c, Choice::Nothing, &inside, on);
     let Verdict::This = verdict else {
         return false;
     };

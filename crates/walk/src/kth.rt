@@ -18,6 +18,7 @@ use book::Refusal;
 use book::Shape;
 use book::make_rows;
 use book::read_book;
+use closing::Choice;
 use meaning::Colouring;
 use meaning::RuleNo;
 
@@ -65,6 +66,7 @@ pub fn kth_by(
         shape,
         rows,
         Colouring::empty(),
+        Choice::Nothing,
         k - 1,
         1,
         limit,

@@ -15,6 +15,7 @@ use book::Read;
 use book::Shape;
 use book::make_rows;
 use book::read_book;
+use closing::Choice;
 use meaning::Colouring;
 use meaning::RuleNo;
 
@@ -64,6 +65,7 @@ fn page_in(book: &[u8], shape: Shape, limit: u32, tries: u32, last: &[u8], out: 
             shape,
             &rows,
             Colouring::empty(),
+            Choice::Nothing,
             0,
             room,
             limit,
@@ -76,6 +78,7 @@ fn page_in(book: &[u8], shape: Shape, limit: u32, tries: u32, last: &[u8], out: 
         shape,
         &rows,
         Colouring::empty(),
+        Choice::Nothing,
         last,
         0,
         room,

@@ -11,6 +11,7 @@ ghost use Rattle.meaning.specs.Written.{written};
 ghost use Rattle.book.specs.Format.{bookIn, ReadAs};
 ghost use Rattle.book.specs.RuleRows.{RuleRows};
 ghost use Rattle.closing.specs.Left.{Shallow};
+ghost use Rattle.closing.specs.Taken.{taken, Takes};
 ghost use Rattle.walk.specs.Events.{rest};
 ghost use Rattle.walk.specs.Run.{State, run};
 ghost use Rattle.walk.specs.Page.{setIn};
@@ -22,8 +23,9 @@ use crate::walk::walk;
 use book::Shape;
 use book::negatives;
 use book::positives;
+use closing::Choice;
 use closing::Picked;
-use closing::close;
+use closing::close_chosen;
 use meaning::AtomNo;
 use meaning::Colouring;
 use meaning::RuleNo;
@@ -64,12 +66,13 @@ pub fn generates(book: &[u8], shape: Shape, r: RuleNo, row: &[u8]) -> bool
     all_so(negatives(book, shape, r), row, false)
 }
 
-// Walks on behind the reading of the last row, from the colouring c.
+// Walks on behind the reading of the last row, from the colouring c with the choice taken.
 pub fn resume(
     book: &[u8],
     shape: Shape,
     rows: &[u64; 3072],
     c: Colouring,
+    choice: Choice,
     last: &[u8],
     pass: u32,
     room: usize,
@@ -79,14 +82,15 @@ pub fn resume(
 ) -> Tally
     requires { ⌜ ReadAs (now book) shape
         × Room (bookIn (now book)) pass room (record { tally = t; out = now out })
-        × Shallow (bookIn (now book)) (written c)
-        × RuleRows (bookIn (now book)) (now rows) ⌝ }
+        × Shallow (bookIn (now book)) (taken choice (written c))
+        × RuleRows (bookIn (now book)) (now rows)
+        × Takes (bookIn (now book)) (written c) choice ⌝ }
     ensures { λ r. ⌜ _≡_ {A = State} (record { tally = r; out = now (out .exit) })
         (run (bookIn (now (book .entry))) (record { pass = pass; room = room; limit = limit })
         (record { tally = t; out = now (out .entry) })
-        (rest (bookIn (now (book .entry))) (written c) (setIn (now (last .entry))))) ⌝ }
+        (rest (bookIn (now (book .entry))) (taken choice (written c)) (setIn (now (last .entry))))) ⌝ }
 {
-    let closed = close(book, shape, rows, c);
+    let closed = close_chosen(book, shape, rows, c, choice);
     let clash = closed.clash;
     if let Picked::Rule(_) = clash {
         return t;
@@ -100,7 +104,8 @@ pub fn resume(
             book,
             shape,
             rows,
-            d.choose_off(r),
+            d,
+            Choice::Off(r),
             last,
             pass,
             room,
@@ -113,7 +118,8 @@ pub fn resume(
         book,
         shape,
         rows,
-        d.choose_on(r),
+        d,
+        Choice::On(r),
         last,
         pass,
         room,
@@ -125,7 +131,8 @@ pub fn resume(
         book,
         shape,
         rows,
-        d.choose_off(r),
+        d,
+        Choice::Off(r),
         pass,
         room,
         limit,

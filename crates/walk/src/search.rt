@@ -9,13 +9,15 @@ ghost use Rattle.meaning.specs.Written.{written};
 ghost use Rattle.book.specs.Format.{bookIn, ReadAs};
 ghost use Rattle.book.specs.RuleRows.{RuleRows};
 ghost use Rattle.closing.specs.Left.{Shallow};
+ghost use Rattle.closing.specs.Taken.{taken, Takes};
 ghost use Rattle.walk.specs.Search.{TellsFirst};
 use crate::colours::lowest_uncoloured;
 use crate::part::is_lost_in;
 use crate::verdict::Verdict;
 use book::Shape;
+use closing::Choice;
 use closing::Picked;
-use closing::close;
+use closing::close_chosen;
 use meaning::Bits;
 use meaning::Colouring;
 
@@ -38,14 +40,17 @@ pub fn first_alike(
     shape: Shape,
     rows: &[u64; 3072],
     c: Colouring,
+    choice: Choice,
     inside: &[u64; 4],
     on: Bits,
 ) -> Verdict
-    requires { ⌜ ReadAs (now book) shape × Shallow (bookIn (now book)) (written c)
-        × RuleRows (bookIn (now book)) (now rows) ⌝ }
-    ensures { λ v. ⌜ TellsFirst (bookIn (now (book .entry))) (now (inside .entry)) (on .w) (written c) v ⌝ }
+    requires { ⌜ ReadAs (now book) shape × Shallow (bookIn (now book)) (taken choice (written c))
+        × RuleRows (bookIn (now book)) (now rows)
+        × Takes (bookIn (now book)) (written c) choice ⌝ }
+    ensures { λ v. ⌜ TellsFirst (bookIn (now (book .entry))) (now (inside .entry)) (on .w)
+        (taken choice (written c)) v ⌝ }
 {
-    let closed = close(book, shape, rows, c);
+    let closed = close_chosen(book, shape, rows, c, choice);
     let clash = closed.clash;
     if let Picked::Rule(_) = clash {
         return Verdict::Nobody;
@@ -60,9 +65,9 @@ pub fn first_alike(
         }
         return Verdict::Another;
     };
-    let verdict = first_alike(book, shape, rows, d.choose_on(r), inside, on);
+    let verdict = first_alike(book, shape, rows, d, Choice::On(r), inside, on);
     let Verdict::Nobody = verdict else {
         return verdict;
     };
-    first_alike(book, shape, rows, d.choose_off(r), inside, on)
+    first_alike(book, shape, rows, d, Choice::Off(r), inside, on)
 }

@@ -22,6 +22,7 @@ use book::Read;
 use book::Shape;
 use book::make_rows;
 use book::read_book;
+use closing::Choice;
 use meaning::Colouring;
 use meaning::RuleNo;
 
@@ -59,6 +60,7 @@ fn kth_shown(
         shape,
         &rows,
         Colouring::empty(),
+        Choice::Nothing,
         every,
         &w,
         k - 1,

@@ -5,6 +5,7 @@ ghost use Rattle.meaning.specs.Written.{written};
 ghost use Rattle.book.specs.Format.{bookIn, ReadAs};
 ghost use Rattle.book.specs.RuleRows.{RuleRows};
 ghost use Rattle.closing.specs.Left.{Shallow};
+ghost use Rattle.closing.specs.Taken.{taken, Takes};
 ghost use Rattle.walk.specs.Events.{events};
 ghost use Rattle.walk.specs.Run.{State, run};
 ghost use Rattle.walk.specs.Room.{Room};
@@ -16,12 +17,13 @@ use crate::met::meet;
 use crate::tally::Halt;
 use crate::tally::Tally;
 use book::Shape;
+use closing::Choice;
 use closing::Picked;
-use closing::close;
+use closing::close_chosen;
 use meaning::Colouring;
 
-// Walks on from the colouring c: one try, and after a choice first with the rule on, then with it
-// off, each from the colouring before the choice. Every reading counts, or only those that no earlier
+// Walks on from the colouring c with the choice taken: one try, and after it first with a rule on,
+// then with it off, each from the colouring before that choice. Every reading counts, or only those that no earlier
 // one matches on the shown atoms, which are the mask; the memory holds what was found to count.
 // It ends because each choice leaves fewer rules without a colour: closing takes no colour away, and
 // the chosen rule, which had none, gets one. So it goes at most 255 levels deep.
@@ -30,6 +32,7 @@ pub fn walk_shown(
     shape: Shape,
     rows: &[u64; 3072],
     c: Colouring,
+    choice: Choice,
     every: bool,
     mask: &[u64; 4],
     pass: u32,
@@ -41,15 +44,16 @@ pub fn walk_shown(
 ) -> Tally
     requires { ⌜ ReadAs (now book) shape
         × Room (bookIn (now book)) pass room (record { tally = t; out = now out })
-        × Shallow (bookIn (now book)) (written c)
+        × Shallow (bookIn (now book)) (taken choice (written c))
         × RuleRows (bookIn (now book)) (now rows)
-        × Remembers every (bookIn (now book)) (shownIn (now mask)) (now seen) (t .sets) ⌝ }
+        × Remembers every (bookIn (now book)) (shownIn (now mask)) (now seen) (t .sets)
+        × Takes (bookIn (now book)) (written c) choice ⌝ }
     ensures { λ r. ⌜ (_≡_ {A = State} (record { tally = r; out = now (out .exit) })
         (run (bookIn (now (book .entry))) (record { pass = pass; room = room; limit = limit })
         (record { tally = t; out = now (out .entry) })
         (countedBy (bookIn (now (book .entry)))
         (counts every (bookIn (now (book .entry))) (shownIn (now (mask .entry))))
-        (events (bookIn (now (book .entry))) (written c)))))
+        (events (bookIn (now (book .entry))) (taken choice (written c))))))
         × Remembers every (bookIn (now (book .entry))) (shownIn (now (mask .entry))) (now (seen .exit)) (r .sets) ⌝ }
 {
     let halt = t.halt;
@@ -65,7 +69,7 @@ pub fn walk_shown(
             halt: Halt::Limit,
         };
     }
-    let closed = close(book, shape, rows, c);
+    let closed = close_chosen(book, shape, rows, c, choice);
     let clash = closed.clash;
     if let Picked::Rule(r) = clash {
         return t.clashed(r);
@@ -78,12 +82,12 @@ pub fn walk_shown(
         return meet(book, shape, d.on, pass, room, limit, t, out);
     };
     let forked = t.tried(t.sets, Halt::Going);
-    let chosen = d.choose_on(r);
     let first = walk_shown(
         book,
         shape,
         rows,
-        chosen,
+        d,
+        Choice::On(r),
         every,
         mask,
         pass,
@@ -97,7 +101,8 @@ pub fn walk_shown(
         book,
         shape,
         rows,
-        d.choose_off(r),
+        d,
+        Choice::Off(r),
         every,
         mask,
         pass,
@@ -115,6 +120,7 @@ pub fn walk(
     shape: Shape,
     rows: &[u64; 3072],
     c: Colouring,
+    choice: Choice,
     pass: u32,
     room: usize,
     limit: u32,
@@ -123,11 +129,12 @@ pub fn walk(
 ) -> Tally
     requires { ⌜ ReadAs (now book) shape
         × Room (bookIn (now book)) pass room (record { tally = t; out = now out })
-        × Shallow (bookIn (now book)) (written c)
-        × RuleRows (bookIn (now book)) (now rows) ⌝ }
+        × Shallow (bookIn (now book)) (taken choice (written c))
+        × RuleRows (bookIn (now book)) (now rows)
+        × Takes (bookIn (now book)) (written c) choice ⌝ }
     ensures { λ r. ⌜ _≡_ {A = State} (record { tally = r; out = now (out .exit) })
         (run (bookIn (now (book .entry))) (record { pass = pass; room = room; limit = limit })
-        (record { tally = t; out = now (out .entry) }) (events (bookIn (now (book .entry))) (written c))) ⌝ }
+        (record { tally = t; out = now (out .entry) }) (events (bookIn (now (book .entry))) (taken choice (written c)))) ⌝ }
 {
     let mask = [0u64; 4];
     let mut seen = [0u64; 1];
@@ -136,6 +143,7 @@ pub fn walk(
         shape,
         rows,
         c,
+        choice,
         true,
         &mask,
         pass,

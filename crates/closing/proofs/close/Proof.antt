@@ -1,92 +1,110 @@
--- The invariant: the sets go on from the start within every closed pair above it (UnderWay). A turn that goes on has put a rule off. Where
--- nothing is unsupported the pair is closed. Blueprint C2.
+-- What is propagated is under way to the closing, and so is what follows when the rules that nothing held up are off. With these off all
+-- others are supported, and the rest of the way closes it.
 use mathlib.Core.Path.{ap}
-use native.Mathlib.Omega.{arith}
-use borrow.Author.Tests.{not-true, not-false}
+use Prim.Native.Nat.{_≤_}
 use borrow.Author.Needs.{needs}
+use Rattle.meaning.specs.Books.{count}
+use Rattle.meaning.specs.Colours.{Pair}
 use Rattle.meaning.specs.Bits.{listed}
-use Rattle.meaning.specs.Written.{written, of, lent, pair}
+use Rattle.meaning.specs.Written.{Tables, written, of, coloured, lent, pair}
 use Rattle.meaning.proofs.Written.{Sized}
 use Rattle.meaning.proofs.Listed.{sized-written}
-use Rattle.meaning.proofs.Remaining.{remaining}
 use Rattle.book.specs.Format.{bookIn}
 use Rattle.book.proofs.Places.{shape-count}
 use Rattle.closing.proofs.Good.{Good, good-few}
-use Rattle.closing.proofs.Closed.{UnderWay, closes-start, propagated-to, closes-propagated, propagated-no-more, closes-dropped}
-use Rattle.closing.proofs.Closed.{dropped-less, closes-end, clash-end}
+use Rattle.closing.proofs.Propagating.{sized-coloured}
+use Rattle.closing.proofs.Closed.{UnderWay, closes-start, propagated-to, propagated-off, closes-propagated, dropped-above}
+use Rattle.closing.proofs.Closed.{closes-dropped, dropped-settled, closed-behind, closes-end, clash-end}
 use Rattle.closing.proofs.close.Statement.{statement}
 use Rattle.closing.proofs.close.Tie as tie
-
-abbrev Inv-loop : tie.InvT-loop
-Inv-loop book shape rows c on₀ off₀ on off =
-    UnderWay (bookIn book) (lent (listed on₀) (listed off₀)) (lent (listed on) (listed off))
-
-abbrev μ-loop : tie.MeasureT-loop
-μ-loop book shape rows c on₀ off₀ on off = remaining (bookIn book) (lent (listed on) (listed off))
 
 -- ---- the places on the way, with what is known there
 
 -- the book is good, and the tables of the colouring have their length
-start-good : (s : tie.Start Inv-loop μ-loop) → Good (s .args .book .now) (s .args .shape) × Sized (written (s .args .c))
+start-good : (s : tie.Start) → Good (s .args .book .now) (s .args .shape) × Sized (written (s .args .c))
 start-good s = (search needs, sized-written (s .args .c) (search needs))
 
--- behind the propagation of a turn: where the turn began, and the start of the function
-module _ (p : tie.After-propagate Inv-loop μ-loop) where
-  abbrev turn : tie.At-loop Inv-loop μ-loop
-  turn = p .before .before .before
+-- behind the propagation: the start, its sets, and what is reached
+module _ (p : tie.After-propagate) where
+  abbrev entry : tie.Start
+  entry = p .before .before .before .before .before .before .before .before
 
-  abbrev entry : tie.Start Inv-loop μ-loop
-  entry = turn .before .before .before .before .before .before
+  abbrev sets : Tables
+  sets = coloured (listed (entry .args .c .on .w)) (listed (entry .args .c .off .w))
 
-  propagated : UnderWay (bookIn (entry .args .book .now)) (pair (written (entry .args .c)))
+  abbrev from : Pair
+  from = pair (written (entry .args .c))
+
+  few : count (bookIn (entry .args .book .now)) ≤ 255
+  few = good-few (start-good entry .0)
+
+  propagated : UnderWay (bookIn (entry .args .book .now)) from
       (lent (listed (p .propagate .last .1 .1 .1 .0)) (listed (p .propagate .last .1 .1 .1 .1 .0)))
   propagated =
-      closes-propagated _ (good-few (start-good entry .0)) (turn .loop .on) (turn .loop .off) (p .propagate .ensures .0) (p .propagate .ensures .1) (turn .loop .inv)
+      let (e, f) = p .propagate .ensures in closes-propagated _ few sets (sized-coloured _ _) e f (closes-start _ _)
 
--- behind the rules that nothing holds up
-abbrev before-it : tie.After-drop-unsupported Inv-loop μ-loop → tie.After-propagate Inv-loop μ-loop
-before-it d = d .before .before
+-- behind what follows from the rules that nothing held up: these rules, the sets with them off, and what is reached
+module _ (q : tie.After-propagate-dropped) where
+  abbrev dropped : tie.After-drop-unsupported
+  dropped = q .before .before .before .before
+
+  abbrev before-it : tie.After-propagate
+  before-it = dropped .before .before
+
+  abbrev less-them : Tables
+  less-them = coloured (listed (before-it .propagate .last .1 .1 .1 .0)) (listed (dropped .drop-unsupported .last .1 .1 .0))
+
+  followed : UnderWay (bookIn (entry before-it .args .book .now)) (from before-it)
+      (lent (listed (q .propagate-dropped .last .1 .1 .1 .1 .0)) (listed (q .propagate-dropped .last .1 .1 .1 .1 .1 .0)))
+  followed =
+      let (e, f) = q .propagate-dropped .ensures in
+      closes-propagated _ (few before-it) less-them (sized-coloured _ _) e f
+      (closes-dropped _ (few before-it) _ _ (dropped .drop-unsupported .ensures) (of (listed (before-it .propagate .last .1 .1 .1 .0))) (propagated before-it))
 
 -- ---- the needs
 
-loop-holds : tie.Need-loop-holds Inv-loop μ-loop
-loop-holds c = closes-start _ _
+propagate-requires : tie.Need-propagate-requires
+propagate-requires c κs = let s = c .before .before .before .before .before .before .before in s .pre
 
-propagate-requires : tie.Need-propagate-requires Inv-loop μ-loop
-propagate-requires c κs = c .before .before .before .before .before .before .before .before .pre
-
-drop-unsupported-requires : tie.Need-drop-unsupported-requires Inv-loop μ-loop
+drop-unsupported-requires : tie.Need-drop-unsupported-requires
 drop-unsupported-requires c κs = entry (c .before) .pre .0
 
-returns : tie.Need-returns Inv-loop μ-loop
-returns c =
-    let d = c .before .before in
-    let p = before-it d in
+propagate-dropped-requires : tie.Need-propagate-dropped-requires
+propagate-dropped-requires c κs =
+    let d = c .before .before .before in
+    let p = d .before .before in
     let s = entry p in
-    let (g, z) = start-good s in
-    let n = shape-count _ _ (s .pre .0) in
-    let k = propagated-to _ (good-few g) (turn p .loop .on) (turn p .loop .off) (p .propagate .ensures .0) (p .propagate .ensures .1) .good .propagated in
-    let e = closes-end _ (good-few g) (written (s .args .c)) z (p .propagate .last .1 .1 .1 .0) (p .propagate .last .1 .1 .1 .1 .0) (d .drop-unsupported .last .1 .1 .0)
-    (propagated p) k (d .drop-unsupported .ensures) (not-true (d .drop-unsupported .result) (c .before .if1 .taken)) n (c .ended .ensures .0) in
-    (e, clash-end _ _ n e _ _ (ap pair (c .ended .ensures .0)) (c .ended .ensures .1))
-
-loop-less : tie.Need-loop-less Inv-loop μ-loop
-loop-less c =
-    let d = c .before in
-    let p = before-it d in
-    let few = good-few (start-good (entry p) .0) in
-    omega (
-      arith,
-      propagated-no-more _ few (turn p .loop .on) (turn p .loop .off) (p .propagate .ensures .0) (p .propagate .ensures .1),
-      dropped-less _ few _ _ (d .drop-unsupported .ensures) (of (listed (p .propagate .last .1 .1 .1 .0))) (not-false (d .drop-unsupported .result) (c .if1 .left)),
+    let (e, f) = p .propagate .ensures in (
+      s .pre .0,
+      s .pre .1,
+      propagated-to _ (few p) (sets p) (sized-coloured _ _) e f .good .propagated,
+      dropped-above _ (few p) _ _ (d .drop-unsupported .ensures),
     )
 
-loop-again : tie.Need-loop-again Inv-loop μ-loop
-loop-again c =
-    let d = c .before in
-    let p = before-it d in
-    closes-dropped _ (good-few (start-good (entry p) .0)) _ _ (d .drop-unsupported .ensures) (of (listed (p .propagate .last .1 .1 .1 .0))) (propagated p)
+close-propagated-requires : tie.Need-close-propagated-requires
+close-propagated-requires c κs =
+    let q = c .before .before in
+    let p = before-it q in
+    let s = entry p in
+    let (e, f) = q .propagate-dropped .ensures in (
+      s .pre .0,
+      s .pre .1,
+      propagated-to _ (few p) (less-them q) (sized-coloured _ _) e f .good .propagated,
+      dropped-settled _ (few p) (of (listed (p .propagate .last .1 .1 .1 .1 .0))) _ (dropped q .drop-unsupported .ensures),
+      propagated-off _ (few p) (less-them q) (sized-coloured _ _) e f,
+    )
+
+returns : tie.Need-returns
+returns c =
+    let k = c .before in
+    let q = k .before .before .before in
+    let p = before-it q in
+    let s = entry p in
+    let n = shape-count _ _ (s .pre .0) in
+    let z = closes-end _ (few p) (written (s .args .c)) (start-good s .1) (k .close-propagated .last .1 .1 .1 .1 .0) (k .close-propagated .last .1 .1 .1 .1 .1 .0)
+    (closed-behind _ (followed q) (k .close-propagated .ensures)) n (c .ended .ensures .0) in
+    (z, clash-end _ _ n z _ _ (ap pair (c .ended .ensures .0)) (c .ended .ensures .1))
 
 pub close-spec : {M : Type 1} → statement M
 close-spec =
-    tie.close (tie.spec Inv-loop μ-loop loop-holds propagate-requires drop-unsupported-requires (λ c κs. search needs) returns loop-less loop-again)
+    tie.close (tie.spec propagate-requires drop-unsupported-requires propagate-dropped-requires close-propagated-requires (λ c κs. search needs) returns)

@@ -3,11 +3,10 @@ use mathlib.Core.Path.{sym, _∙_}
 use native.Mathlib.Omega.{arith}
 use borrow.Author.Tests.{not-true, not-false}
 use borrow.Author.Needs.{needs}
-use Rattle.book.proofs.RuleRows.{headed-by}
 use Rattle.meaning.specs.Bits.{listed}
 use Rattle.meaning.specs.Written.{of}
 use Rattle.closing.specs.News.{atomSet, passed}
-use Rattle.closing.proofs.Good.{Good, good-in, head-low}
+use Rattle.closing.proofs.Good.{Good}
 use Rattle.closing.proofs.Raising.{looked-risen}
 use Rattle.closing.proofs.propagation.look_at.Statement.{statement}
 use Rattle.closing.proofs.propagation.look_at.Tie as tie
@@ -21,20 +20,12 @@ returns c = passed (sym (c .before .may-go-on .ensures) ∙ not-true _ (c .if1 .
 
 returns-2 : tie.Need-returns-2
 returns-2 c =
-    let n = c .before .before in
-    let q = n .before .before in
-    let h = q .before .before in
-    let m = h .before .before in
+    let l = c .before .before .before in
+    let m = l .before in
     let s = m .before .before .before in
     let g = good s in
-    let i = good-in g (s .args .r) (s .pre .1) in
-    let low = head-low g (s .args .r) i (h .head .result) (h .head .ensures) in
-    looked-risen _ (of (listed (s .args .off .now))) (s .args .r) (s .args .on .now) (c .put .last .0) (n .note .last .1 .1 .0) (atomSet (s .args .nt .now)) (h .head .result) (q .is-headed .result) (omega (arith, g .rules, s .pre .1))
-    (sym (m .may-go-on .ensures) ∙ not-false _ (h .before .if1 .left)) (h .head .ensures)
-    (q .is-headed .ensures ∙ headed-by _ (s .args .rows .now) (s .pre .2) (s .args .on .now) (h .head .result) (omega arith))
-    (n .note .ensures) (c .put .ensures)
+    looked-risen _ (of (listed (s .args .off .now))) (s .args .r) (s .args .on .now) (c .rise .last .1 .1 .1 .1 .0) (atomSet (s .args .nt .now))
+    (omega (arith, g .rules, s .pre .1)) (sym (m .may-go-on .ensures) ∙ not-false _ (l .if1 .left)) (c .rise .ensures .0) (c .rise .ensures .1)
 
 pub look-at-spec : {M : Type 1} → statement M
-look-at-spec =
-    tie.close (tie.spec (λ c κs. search needs) returns (λ c κs. search needs) (λ c κs. search needs) (λ c κs. search needs)
-    (λ c κs. search needs) returns-2)
+look-at-spec = tie.close (tie.spec (λ c κs. search needs) returns (λ c κs. search needs) returns-2)

@@ -23,6 +23,7 @@ own-requires c κs =
       s .pre .0,
       room-start _ (a .k - 1) 1 0 _ (omega arith) (one-row _ _ (s .pre .0) (a .answer .now) (s .pre .2)),
       made q .make-rows .ensures,
+      tt,
     )
 
 returns : tie.Need-returns

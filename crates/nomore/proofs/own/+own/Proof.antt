@@ -1,8 +1,6 @@
 -- The noMoRe walk meets its contract: each return is one way of the laws in Walking, with what the calls on that way said. The measure is
 -- the number of rules without a colour: each side of a fork has fewer.
 use mathlib.Core.Path.{_≡_, ap}
-use mathlib.Core.Bool.{Bool}
-use mathlib.Core.List.{List}
 use Prim.Native.Nat.{ℕ, _<_}
 use borrow.Author.Needs.{needs}
 use borrow.Fn.Kinds.{In}
@@ -13,16 +11,16 @@ use Rattle.meaning.specs.Written.{Tables, coloured, pair}
 use Rattle.meaning.specs.Lowest.{none, clashed}
 use Rattle.book.specs.Format.{bookIn}
 use Rattle.closing.specs.Left.{left}
+use Rattle.closing.specs.Taken.{puts}
 use Rattle.walk.specs.declared.tally.Halt.the-variants.{Going}
 use Rattle.walk.specs.declared.tally.Tally.{Tally}
 use Rattle.walk.proofs.Walking.{few, halted-told, room-tried, room-run}
 use Rattle.nomore.proofs.Events.{Propagates, Forks, Leaf}
-use Rattle.nomore.proofs.Walking.{sized-coloured, rest-coloured, clash-told, lowest-told, side-falls}
+use Rattle.nomore.proofs.Walking.{sized-puts, rest-coloured, clash-told, lowest-told, side-falls, side-grows}
 use Rattle.nomore.proofs.Walking.{walk-ended, walk-stops, walk-clash, walk-leaf, walk-fork}
 use Rattle.nomore.proofs.own.own.Reads as own
 use Rattle.nomore.proofs.own.own.Kinds as kinds
 use Rattle.nomore.proofs.own.+own.Lts-own as lts
-use Rattle.meaning.proofs.put.Reads as put-reads
 use Rattle.nomore.proofs.choose.lowest_supported.Reads as lowest-supported-reads
 use Rattle.nomore.proofs.choose.rest_off.Reads as rest-off-reads
 use Rattle.nomore.proofs.own.grow.Reads as grow-reads
@@ -34,7 +32,8 @@ use Rattle.nomore.proofs.own.+own.{statement}
 use Rattle.nomore.proofs.own.+own.Tie.{close}
 
 abbrev μ-own : Measures 3 kinds.ps ℕ
-μ-own κs a = let (book, (shape, (rows, (on, (off, more))))) = a in left (bookIn (book .now)) (coloured (listed (on .w)) (listed (off .w)))
+μ-own κs a = let (book, (shape, (rows, (on, (off, (choice, more)))))) = a in
+    left (bookIn (book .now)) (puts choice (coloured (listed (on .w)) (listed (off .w))))
 
 module _ (t : ℕ) where
   -- this call's measure is t, that of the calls below is less
@@ -60,8 +59,6 @@ module _ (t : ℕ) where
     rest-off-reads.Learnt,
     test-reads.Asked,
     test-reads.Learnt,
-    put-reads.Asked,
-    put-reads.Learnt,
     below,
     own.Post,
   )
@@ -73,11 +70,14 @@ module _ (t : ℕ) where
     abbrev start : lts.Start calls here own.Post
     start = c .before .before .before .before .before .before .before
 
+    abbrev from : Tables
+    from = puts (start .args .choice) (coloured (listed (start .args .on .w)) (listed (start .args .off .w)))
+
     abbrev grown : Tables
     grown = coloured (listed (c .grow .result .on .w)) (listed (c .grow .result .off .w))
 
-    propagates : Propagates (bookIn (start .args .book .now)) (coloured (listed (start .args .on .w)) (listed (start .args .off .w))) grown
-    propagates = record { few = few _ _ (start .pre .1 .0) (search needs); sized = sized-coloured _ _; propagated = c .grow .ensures .0 }
+    propagates : Propagates (bookIn (start .args .book .now)) from grown
+    propagates = record { few = few _ _ (start .pre .1 .0) (search needs); sized = sized-puts (start .args .choice) _ _; propagated = c .grow .ensures .0 }
 
     going : start .args .t .halt ≡ Going
     going = c .before .before .before .enum-told .given .1
@@ -101,8 +101,7 @@ module _ (t : ℕ) where
     abbrev sought : lts.After-lowest-supported calls here own.Post
     sought = c .before .before .before
 
-    leaf : Leaf (bookIn (start (grew sought) .args .book .now))
-        (coloured (listed (start (grew sought) .args .on .w)) (listed (start (grew sought) .args .off .w))) (grown (grew sought))
+    leaf : Leaf (bookIn (start (grew sought) .args .book .now)) (from (grew sought)) (grown (grew sought))
     leaf = record {
       propagates = propagates (grew sought);
       calm = calm sought;
@@ -117,8 +116,7 @@ module _ (t : ℕ) where
     abbrev first : lts.Start calls here own.Post
     first = start (grew searched)
 
-    forks : Forks (bookIn (first .args .book .now)) (coloured (listed (first .args .on .w)) (listed (first .args .off .w)))
-        (grown (grew searched)) (c .before .r .given .0 .0)
+    forks : Forks (bookIn (first .args .book .now)) (from (grew searched)) (grown (grew searched)) (c .before .r .given .0 .0)
     forks = record {
       propagates = propagates (grew searched);
       calm = calm searched;
@@ -132,6 +130,9 @@ module _ (t : ℕ) where
 
   returns-2 : lts.Need-returns-2 calls here own.Post
   returns-2 c = walk-stops _ _ _ (c .before .before .before .enum-told .given .1) _ (c .before .if1 .taken) (c .stopped .ensures)
+
+  grow-requires : lts.Need-grow-requires calls here own.Post
+  grow-requires c κs = let s = c .before .before .before .before .before .before .pre .1 in (s .0, s .2, s .3)
 
   returns-3 : lts.Need-returns-3 calls here own.Post
   returns-3 c =
@@ -156,56 +157,42 @@ module _ (t : ℕ) where
       (rest-coloured _ _ (start k .pre .1 .0) (propagates k .few) _ _ _ (q .rest-off .ensures)) (m .test .ensures)
 
   -- after the walk with the rule on
-  module _ (c : lts.After-own calls here own.Post) where
-    abbrev put-on : lts.After-put calls here own.Post
-    put-on = c .before .before
-
-    abbrev forked : lts.After-known-told2 calls here own.Post
-    forked = put-on .before .before .before
-
-  -- the two sides, written out
-  module _ (c : lts.After-known-told2 calls here own.Post) where
-    abbrev with-on : List Bool → Tables
-    with-on l = coloured l (listed (grew (searched c) .grow .result .off .w))
-
-    abbrev with-off : List Bool → Tables
-    with-off l = coloured (listed (grew (searched c) .grow .result .on .w)) l
+  abbrev forked : lts.After-own calls here own.Post → lts.After-known-told2 calls here own.Post
+  forked c = c .before .before
 
   own-requires : lts.Need-own-requires calls here own.Post
   own-requires c κs =
-      let u = c .before in
-      let f = u .before .before .before in
+      let f = c .before in
       let s = first f .pre .1 in (
-        side-falls (forks f) (first f .pre .0) onSide (ap (with-on f) (u .put .ensures)),
-        (s .0, room-tried (s .1) (going (grew (searched f))) (counted (searched f) .tried .ensures), s .2),
+        side-falls (forks f) (first f .pre .0) onSide,
+        (s .0, room-tried (s .1) (going (grew (searched f))) (counted (searched f) .tried .ensures), s .2, side-grows (forks f)),
       )
 
   own-requires-2 : lts.Need-own-requires-2 calls here own.Post
   own-requires-2 c κs =
-      let v = c .before in
-      let w = v .before .before .before .before .before in
+      let w = c .before .before .before in
       let f = forked w in
       let s = first f .pre .1 in (
-        side-falls (forks f) (first f .pre .0) offSide (ap (with-off f) (v .put2 .ensures)),
+        side-falls (forks f) (first f .pre .0) offSide,
         (
           s .0,
           room-run (room-tried (s .1) (going (grew (searched f))) (counted (searched f) .tried .ensures)) _ _ (w .own .ensures),
           s .2,
+          side-grows (forks f),
         ),
       )
 
   returns-5 : lts.Need-returns-5 calls here own.Post
   returns-5 c =
-      let v = c .before .before .before .before in
-      let w = v .before .before .before .before .before in
+      let v = c .before .before in
+      let w = v .before .before .before .before in
       let f = forked w in
       let k = grew (searched f) in
-      walk-fork _ _ _ (going k) (k .before .if1 .left) (forks f) (counted (searched f) .tried .ensures) (ap (with-on f) (put-on w .put .ensures))
-      (w .own .ensures) (ap (with-off f) (v .put2 .ensures)) (c .before .before .own2 .ensures)
+      walk-fork _ _ _ (going k) (k .before .if1 .left) (forks f) (counted (searched f) .tried .ensures) (w .own .ensures) (v .own2 .ensures)
 
 pub +own-spec : {M : Type 1} → statement M
 +own-spec = close μ-own λ t. lts.spec (calls t) (here t) own.Post
-    (λ c. search needs) (returns t) (λ c κs. search needs) (returns-2 t) (λ c κs. search needs) (λ c. search needs) (λ c κs. search needs)
+    (λ c. search needs) (returns t) (λ c κs. search needs) (returns-2 t) (grow-requires t) (λ c. search needs) (λ c κs. search needs)
     (returns-3 t) (λ c. search needs) (λ c κs. search needs) (λ c κs. search needs) (λ c. search needs) (λ c. search needs)
-    (λ c κs. search needs) (test-requires t) (λ c. search needs) (returns-4 t) (λ c κs. search needs) (own-requires t)
-    (λ c κs. search needs) (own-requires-2 t) (λ c. search needs) (returns-5 t)
+    (λ c κs. search needs) (test-requires t) (λ c. search needs) (returns-4 t) (own-requires t)
+    (own-requires-2 t) (λ c. search needs) (returns-5 t)

@@ -13,7 +13,7 @@ returns : tie.Need-returns
 returns c =
     let p = c .before in
     let s = p .before .before .before .before .before .before in (
-      grown _ (few _ _ (s .pre .0) (few-rules s)) _ _ _ _ (p .propagate .ensures .0) (p .propagate .ensures .1),
+      grown _ (few _ _ (s .pre .0) (few-rules s)) (s .args .choice) _ _ _ _ (p .propagate-chosen .ensures .0) (p .propagate-chosen .ensures .1),
       grown-clash _ _ (s .pre .0) _ _ (c .lowest-clash .result) (c .lowest-clash .ensures),
     )
 

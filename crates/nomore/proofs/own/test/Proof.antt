@@ -9,6 +9,9 @@ module _ (c : tie.After-grow) where
   abbrev start : tie.Start
   start = c .before .before .before .before .before
 
+grow-requires : tie.Need-grow-requires
+grow-requires c κs = let s = c .before .before .before .before in (s .pre .0, s .pre .3, tt)
+
 returns : tie.Need-returns
 returns c =
     let s = c .before .before .before .before .before in
@@ -30,5 +33,5 @@ returns-3 c =
 
 pub test-spec : {M : Type 1} → statement M
 test-spec =
-    tie.close (tie.spec (λ c κs. search needs) returns (λ c κs. search needs) (λ c. search needs) (λ c κs. search needs)
+    tie.close (tie.spec (λ c κs. search needs) returns grow-requires (λ c. search needs) (λ c κs. search needs)
     returns-2 (λ c. search needs) (λ c κs. search needs) (λ c. search needs) returns-3)

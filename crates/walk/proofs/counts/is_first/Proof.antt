@@ -36,6 +36,7 @@ first-alike-requires c κs =
       start-shallow (s .pre .1) _ _ _ (s .pre .3) _ _ (outside c) (c .before .before .before .rules-with .ensures) (fits c)
           (c .before .before .empty .ensures) refl,
       s .pre .1,
+      tt,
     )
 
 returns : tie.Need-returns

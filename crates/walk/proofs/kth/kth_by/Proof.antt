@@ -18,6 +18,7 @@ walk-requires c κs =
       room-start _ (a .k - 1) 1 0 _ (omega arith) (one-row _ _ (s .pre .0) (a .answer .now) (s .pre .2)),
       shallow-start _ _ (s .pre .0) (few-rules s) (c .before .empty .ensures),
       s .pre .3,
+      tt,
     )
 
 returns : tie.Need-returns

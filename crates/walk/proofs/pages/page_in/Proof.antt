@@ -22,7 +22,7 @@ walk-requires c κs =
     let r = m .before .before in
     let (read, room, shallow) =
     page-room _ _ (start r .pre) _ _ (r .before .if1 .left) (r .rows-in .ensures) (few-rules (start r)) (c .before .empty .ensures) in
-    (read, room, shallow, m .make-rows .ensures)
+    (read, room, shallow, m .make-rows .ensures, tt)
 
 returns-2 : tie.Need-returns-2
 returns-2 c =
@@ -38,7 +38,7 @@ resume-requires c κs =
     let r = m .before .before in
     let (read, room, shallow) =
     page-room _ _ (start r .pre) _ _ (r .before .if1 .left) (r .rows-in .ensures) (few-rules (start r)) (c .before .empty2 .ensures) in
-    (read, room, shallow, m .make-rows .ensures)
+    (read, room, shallow, m .make-rows .ensures, tt)
 
 returns-3 : tie.Need-returns-3
 returns-3 c =

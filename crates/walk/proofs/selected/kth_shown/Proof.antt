@@ -19,6 +19,7 @@ walk-shown-requires c κs =
       shallow-start _ _ (s .pre .0) (few-rules s) (c .before .before .before .empty .ensures),
       c .before .before .before .before .before .before .before .before .make-rows .ensures,
       record { kept = λ e k h l. absurd (omega arith) },
+      tt,
     )
 
 returns : tie.Need-returns

@@ -15,19 +15,18 @@ use Rattle.meaning.proofs.Written.{Sized}
 use Rattle.meaning.proofs.Listed.{sized-written}
 use Rattle.book.specs.Format.{bookIn}
 use Rattle.closing.specs.Left.{left}
+use Rattle.closing.specs.Taken.{taken}
 use Rattle.walk.specs.declared.tally.Tally.{Tally}
 use Rattle.walk.specs.declared.tally.Halt.the-variants.{Going}
-use Rattle.walk.proofs.Events.{Closes, Forks, fork-low, fork-level}
+use Rattle.walk.proofs.Events.{Closes, Forks, fork-shallow}
 use Rattle.walk.proofs.Forks.{reading-generated}
 use Rattle.walk.proofs.Remembering.{remembers-at}
-use Rattle.walk.proofs.Walking.{few, clash-told, lowest-told, forks-told, side-falls, side-shallow, room-tried, room-run, met-sets}
-use Rattle.walk.proofs.Walking.{halted-told, walk-ended, walk-stops, walk-clash, walk-reading, walk-quiet, walk-fork}
+use Rattle.walk.proofs.Walking.{few, clash-told, lowest-told, forks-told, side-falls, side-ready, sized-taken}
+use Rattle.walk.proofs.Walking.{room-tried, room-run, met-sets, halted-told, walk-ended, walk-stops, walk-clash, walk-reading, walk-quiet, walk-fork}
 use Rattle.walk.proofs.walk.walk_shown.Reads as walk
 use Rattle.walk.proofs.walk.walk_shown.Kinds as kinds
 use Rattle.walk.proofs.walk.+walk_shown.Lts-walk_shown as lts
-use Rattle.closing.proofs.close.Reads as close-reads
-use Rattle.meaning.proofs.colouring.Colouring.choose_off.Reads as choose-off-reads
-use Rattle.meaning.proofs.colouring.Colouring.choose_on.Reads as choose-on-reads
+use Rattle.closing.proofs.close_chosen.Reads as close-chosen-reads
 use Rattle.walk.proofs.colours.lowest_uncoloured.Reads as lowest-uncoloured-reads
 use Rattle.walk.proofs.counts.does_count.Reads as does-count-reads
 use Rattle.walk.proofs.met.meet.Reads as meet-reads
@@ -37,7 +36,7 @@ use Rattle.walk.proofs.walk.+walk_shown.{statement}
 use Rattle.walk.proofs.walk.+walk_shown.Tie.{close}
 
 abbrev μ-walk : Measures 5 kinds.ps ℕ
-μ-walk κs a = let (book, (shape, (rows, (c, more)))) = a in left (bookIn (book .now)) (written c)
+μ-walk κs a = let (book, (shape, (rows, (c, (choice, more))))) = a in left (bookIn (book .now)) (taken choice (written c))
 
 module _ (t : ℕ) where
   -- this call's measure is t, that of the calls below is less
@@ -49,8 +48,8 @@ module _ (t : ℕ) where
 
   abbrev calls : lts.Claims
   calls = (
-    close-reads.Asked,
-    close-reads.Learnt,
+    close-chosen-reads.Asked,
+    close-chosen-reads.Learnt,
     clashed-reads.Asked,
     clashed-reads.Learnt,
     lowest-uncoloured-reads.Asked,
@@ -61,18 +60,14 @@ module _ (t : ℕ) where
     tried-reads.Learnt,
     meet-reads.Asked,
     meet-reads.Learnt,
-    choose-on-reads.Asked,
-    choose-on-reads.Learnt,
     below,
     walk.Post,
-    choose-off-reads.Asked,
-    choose-off-reads.Learnt,
   )
 
   -- ---- the places on the way, with what is known there
 
-  sized : (c : lts.Start calls here walk.Post) → Sized (written (c .args .c))
-  sized c = sized-written (c .args .c) (search needs)
+  sized : (c : lts.Start calls here walk.Post) → Sized (taken (c .args .choice) (written (c .args .c)))
+  sized c = sized-taken (c .args .choice) (sized-written (c .args .c) (search needs))
 
   small : (c : lts.Start calls here walk.Post) → c .args .shape .rules < 256
   small c = search needs
@@ -81,12 +76,12 @@ module _ (t : ℕ) where
   limit-small c = search needs
 
   -- behind the closing
-  module _ (c : lts.After-close calls here walk.Post) where
+  module _ (c : lts.After-close-chosen calls here walk.Post) where
     abbrev start : lts.Start calls here walk.Post
     start = c .before .before .before .before .before .before .before .before
 
-    closes : Closes (bookIn (start .args .book .now)) (written (start .args .c)) (written (c .close .result .colours))
-    closes = record { few = few _ _ (start .pre .1 .0) (small start); sized = sized start; closed = c .close .ensures .0 }
+    closes : Closes (bookIn (start .args .book .now)) (taken (start .args .choice) (written (start .args .c))) (written (c .close-chosen .result .colours))
+    closes = record { few = few _ _ (start .pre .1 .0) (small start); sized = sized start; closed = c .close-chosen .ensures .0 }
 
     going : start .args .t .halt ≡ Going
     going = c .before .before .before .enum-told .given .1
@@ -102,21 +97,21 @@ module _ (t : ℕ) where
     abbrev quiet : lts.After-enum-told2 calls here walk.Post
     quiet = c .before .before
 
-    abbrev closing : lts.After-close calls here walk.Post
+    abbrev closing : lts.After-close-chosen calls here walk.Post
     closing = quiet .before .before
 
-    calm : clashed (bookIn (start closing .args .book .now)) (pair (written (closing .close .result .colours))) ≡ none
-    calm = clash-told (closes closing) (closing .close .ensures .1) (quiet .enum-told2 .given .1)
+    calm : clashed (bookIn (start closing .args .book .now)) (pair (written (closing .close-chosen .result .colours))) ≡ none
+    calm = clash-told (closes closing) (closing .close-chosen .ensures .1) (quiet .enum-told2 .given .1)
 
   -- where there is none
   module _ (c : lts.After-enum-told3 calls here walk.Post) where
     abbrev asked : lts.After-lowest-uncoloured calls here walk.Post
     asked = c .before .before
 
-    abbrev full : lts.After-close calls here walk.Post
+    abbrev full : lts.After-close-chosen calls here walk.Post
     full = closing asked
 
-    all : lowest (bookIn (start full .args .book .now)) (uncoloured (pair (written (full .close .result .colours)))) ≡ none
+    all : lowest (bookIn (start full .args .book .now)) (uncoloured (pair (written (full .close-chosen .result .colours)))) ≡ none
     all = lowest-told _ _ (start full .pre .1 .0) _ _ (asked .lowest-uncoloured .ensures) (c .enum-told3 .given .1)
 
   -- where there is such a rule
@@ -124,13 +119,13 @@ module _ (t : ℕ) where
     abbrev searched : lts.After-lowest-uncoloured calls here walk.Post
     searched = c .before .before .before
 
-    abbrev closed : lts.After-close calls here walk.Post
+    abbrev closed : lts.After-close-chosen calls here walk.Post
     closed = closing searched
 
     abbrev first : lts.Start calls here walk.Post
     first = start closed
 
-    forks : Forks (bookIn (first .args .book .now)) (written (first .args .c)) (written (closed .close .result .colours)) (c .before .r .given .0 .0)
+    forks : Forks (bookIn (first .args .book .now)) (taken (first .args .choice) (written (first .args .c))) (written (closed .close-chosen .result .colours)) (c .before .r .given .0 .0)
     forks =
         forks-told _ _ (first .pre .1 .0) (closes closed) (calm searched) (searched .lowest-uncoloured .ensures) (c .before .r .given .1)
 
@@ -142,11 +137,14 @@ module _ (t : ℕ) where
   returns-2 : lts.Need-returns-2 calls here walk.Post
   returns-2 c = (walk-stops _ _ _ _ _ (c .before .before .before .enum-told .given .1) (c .before .if1 .taken), c .before .before .before .before .before .before .before .before .pre .1 .4)
 
+  close-chosen-requires : lts.Need-close-chosen-requires calls here walk.Post
+  close-chosen-requires c κs = let s = c .before .before .before .before .before .before .before .pre .1 in (s .0, s .3, s .5)
+
   returns-3 : lts.Need-returns-3 calls here walk.Post
   returns-3 c =
       let k = c .before .before .before .before in (
         walk-clash _ _ _ _ _ (going k) (within k) (closes k)
-            (clash-told (closes k) (k .close .ensures .1) (c .before .before .clash2 .given .1)) (c .clashed .ensures),
+            (clash-told (closes k) (k .close-chosen .ensures .1) (c .before .before .clash2 .given .1)) (c .clashed .ensures),
         remembers-at (ap (λ (u : Tally). u .sets) (c .clashed .ensures)) (start k .pre .1 .4),
       )
 
@@ -190,62 +188,54 @@ module _ (t : ℕ) where
   tried-requires-2 : lts.Need-tried-requires-2 calls here walk.Post
   tried-requires-2 c κs = more (closed c)
 
-  choose-on-requires : lts.Need-choose-on-requires calls here walk.Post
-  choose-on-requires c κs = let f = c .before in (fork-low (forks f), fork-level (forks f) (first f .pre .1 .2))
-
   requires-on : lts.Need-walk-shown-requires calls here walk.Post
   requires-on c κs =
-      let u = c .before .before .before in
+      let u = c .before .before in
       let f = u .before in
-      let s = first f .pre .1 in
-      let e = c .before .before .choose-on .ensures in (
-        side-falls (forks f) (first f .pre .0) onSide e,
+      let s = first f .pre .1 in (
+        side-falls (forks f) (first f .pre .0) onSide,
         (
           s .0,
           room-tried (s .1) (going (closed f)) (u .tried2 .ensures),
-          side-shallow (forks f) (s .2) onSide e,
+          fork-shallow (forks f) (s .2) onSide,
           s .3,
           remembers-at (ap (λ (u : Tally). u .sets) (u .tried2 .ensures)) (s .4),
+          side-ready (forks f) (s .2),
         ),
       )
 
-  choose-off-requires : lts.Need-choose-off-requires calls here walk.Post
-  choose-off-requires c κs = let f = c .before .before .before .before .before .before .before .before .before in (fork-low (forks f), fork-level (forks f) (first f .pre .1 .2))
-
   requires-off : lts.Need-walk-shown-requires-2 calls here walk.Post
   requires-off c κs =
-      let v = c .before .before .before .before .before .before .before in
-      let u = v .before .before .before .before in
+      let v = c .before .before .before .before .before .before in
+      let u = v .before .before .before in
       let f = u .before in
-      let s = first f .pre .1 in
-      let e = c .before .before .choose-off .ensures in (
-        side-falls (forks f) (first f .pre .0) offSide e,
+      let s = first f .pre .1 in (
+        side-falls (forks f) (first f .pre .0) offSide,
         (
           s .0,
           room-run (room-tried (s .1) (going (closed f)) (u .tried2 .ensures)) _ _ (v .walk-shown .ensures .0),
-          side-shallow (forks f) (s .2) offSide e,
+          fork-shallow (forks f) (s .2) offSide,
           s .3,
           v .walk-shown .ensures .1,
+          side-ready (forks f) (s .2),
         ),
       )
 
   returns-6 : lts.Need-returns-6 calls here walk.Post
   returns-6 c =
       let w = c .before .before .before .before in
-      let v = c .before .before .before .before .before .before .before .before .before .before .before .before in
-      let y = v .before .before .before in
-      let u = y .before in
+      let v = w .before .before .before .before .before .before .before in
+      let u = v .before .before .before in
       let f = u .before in
       let k = closed f in (
-        walk-fork _ _ _ _ _ (going k) (within k) (forks f) (u .tried2 .ensures) (y .choose-on .ensures) (v .walk-shown .ensures .0)
-            (c .before .before .before .before .before .before .before .choose-off .ensures) (w .walk-shown2 .ensures .0),
+        walk-fork _ _ _ _ _ (going k) (within k) (forks f) (u .tried2 .ensures) (v .walk-shown .ensures .0) (w .walk-shown2 .ensures .0),
         w .walk-shown2 .ensures .1,
       )
 
 pub +walk-shown-spec : {M : Type 1} → statement M
 +walk-shown-spec = close μ-walk λ t. lts.spec (calls t) (here t) walk.Post
-    (λ c. search needs) (returns t) (returns-2 t) (λ c κs. search needs) (λ c. search needs) (λ c κs. search needs)
+    (λ c. search needs) (returns t) (returns-2 t) (close-chosen-requires t) (λ c. search needs) (λ c κs. search needs)
     (returns-3 t) (λ c. search needs) (λ c κs. search needs) (λ c. search needs) (λ c. search needs) (does-count-requires t)
     (tried-requires t) (λ c. search needs) (returns-4 t) (meet-requires t) (λ c. search needs) (λ c. search needs) (returns-5 t)
-    (tried-requires-2 t) (choose-on-requires t) (requires-on t) (choose-off-requires t) (requires-off t)
+    (tried-requires-2 t) (requires-on t) (requires-off t)
     (λ c. search needs) (λ c. search needs) (returns-6 t)

@@ -8,8 +8,8 @@ use borrow.Author.Needs.{needs}
 use Rattle.book.specs.RuleRows.{headedBy, lostBy}
 use Rattle.closing.specs.News.{atomSet}
 use Rattle.closing.proofs.Noting.{no-atoms, count-start, count-turn, count-end}
-use Rattle.closing.proofs.propagation.begin.Statement.{statement}
-use Rattle.closing.proofs.propagation.begin.Tie as tie
+use Rattle.closing.proofs.starting.begin.Statement.{statement}
+use Rattle.closing.proofs.starting.begin.Tie as tie
 
 abbrev Inv-loop : tie.InvT-loop
 Inv-loop atoms rows on off nt₀ nl₀ a₀ nt nl a =

@@ -4,8 +4,8 @@ use borrow.Author.Needs.{needs}
 use Rattle.book.specs.RuleRows.{headedBy, lostBy}
 use Rattle.closing.specs.News.{atomSet}
 use Rattle.closing.proofs.Noting.{noted}
-use Rattle.closing.proofs.propagation.note_atom.Statement.{statement}
-use Rattle.closing.proofs.propagation.note_atom.Tie as tie
+use Rattle.closing.proofs.starting.note_atom.Statement.{statement}
+use Rattle.closing.proofs.starting.note_atom.Tie as tie
 
 returns : tie.Need-returns
 returns c =

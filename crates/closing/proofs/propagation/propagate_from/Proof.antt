@@ -12,8 +12,8 @@ use Rattle.closing.proofs.Good.{Good, good-few}
 use Rattle.closing.proofs.Falling.{at-rule, hit-inside}
 use Rattle.closing.proofs.Propagating.{Propagating, propagating-start, propagating-fall, fall-no-more, fall-less, propagating-rise}
 use Rattle.closing.proofs.Propagating.{rise-less, none-in, one-in, propagating-end}
-use Rattle.closing.proofs.propagation.propagate.Statement.{statement}
-use Rattle.closing.proofs.propagation.propagate.Tie as tie
+use Rattle.closing.proofs.propagation.propagate_from.Statement.{statement}
+use Rattle.closing.proofs.propagation.propagate_from.Tie as tie
 
 abbrev Inv-loop : tie.InvT-loop
 Inv-loop book shape rows on₀ off₀ nt₀ nl₀ cand₀ on off nt nl cand =
@@ -29,7 +29,7 @@ good s = search needs
 
 -- where the loop begins
 abbrev start : tie.After-cand Inv-loop μ-loop → tie.Start Inv-loop μ-loop
-start c = c .before .before .before .before .before .before .before .before
+start c = c .before .before .before .before
 
 -- behind step 1: the turn, the start, and what is reached and pending
 module _ (f : tie.After-fall Inv-loop μ-loop) where
@@ -60,17 +60,13 @@ module _ (r : tie.After-raise Inv-loop μ-loop) where
 -- ---- the needs
 
 loop-holds : tie.Need-loop-holds Inv-loop μ-loop
-loop-holds c =
-    let s = start c in
-    let n = c .before .before in
-    propagating-start (s .args .book .now) (s .args .shape) (s .pre .0) (good s .atoms) (s .args .rows .now) (s .pre .1) (s .args .on .now) (s .args .off .now)
-    (n .begin .last .1 .1 .1 .1 .0) (n .begin .last .1 .1 .1 .1 .1 .0) (c .before .below .result .w) (n .begin .ensures .0) (n .begin .ensures .1) (c .before .below .ensures)
+loop-holds c = propagating-start _ _ (start c .pre .2)
 
 fall-requires : tie.Need-fall-requires Inv-loop μ-loop
-fall-requires c κs = start (c .before .before .before .before .before) .pre
+fall-requires c κs = let s = start (c .before .before .before .before .before) in (s .pre .0, s .pre .1)
 
 raise-requires : tie.Need-raise-requires Inv-loop μ-loop
-raise-requires c κs = entry (c .before .before .before .before .before .before .before .before .before) .pre
+raise-requires c κs = let s = entry (c .before .before .before .before .before .before .before .before .before) in (s .pre .0, s .pre .1)
 
 returns : tie.Need-returns Inv-loop μ-loop
 returns c =
@@ -109,8 +105,8 @@ loop-less-2 c =
 loop-again-2 : tie.Need-loop-again-2 Inv-loop μ-loop
 loop-again-2 c = fell (c .before .before .before .before .before)
 
-pub propagate-spec : {M : Type 1} → statement M
-propagate-spec =
-    tie.close (tie.spec Inv-loop μ-loop (λ c κs. search needs) (λ c κs. search needs) loop-holds fall-requires (λ c κs. search needs)
+pub propagate-from-spec : {M : Type 1} → statement M
+propagate-from-spec =
+    tie.close (tie.spec Inv-loop μ-loop loop-holds fall-requires (λ c κs. search needs)
     (λ c κs. search needs) (λ c κs. search needs) raise-requires (λ c κs. search needs) (λ c κs. search needs) (λ c κs. search needs) returns
     loop-less loop-again loop-less-2 loop-again-2)
