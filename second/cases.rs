@@ -6,8 +6,8 @@ use crate::desk::{answer, hex, BAD_LINE};
 use crate::random::Random;
 use crate::worked::{worked_lines, Worked};
 use crate::{
-    cases_aspif, cases_books, cases_choices, cases_clash, cases_clearing, cases_crews,
-    cases_damage, cases_levels, cases_lines, cases_lparse, cases_naming, cases_nomore,
+    cases_aspif, cases_books, cases_choices, cases_clash, cases_clearing, cases_contradicting,
+    cases_crews, cases_damage, cases_levels, cases_lines, cases_lparse, cases_naming, cases_nomore,
     cases_papers, cases_shown, cases_table,
 };
 use std::collections::{BTreeMap, BTreeSet};
@@ -18,7 +18,7 @@ const MOST_TRIES: u64 = 300_000;
 
 const COMMANDS: &[&str] = &[
     "find", "readings", "check", "name", "clear", "levels", "levelsk", "shown", "nomore", "join",
-    "log", "table", "lparse", "aspif", "unaspif",
+    "log", "table", "lparse", "aspif", "unaspif", "contradict",
 ];
 
 /// What a request adds, written here before the proved engine has it.
@@ -30,7 +30,7 @@ struct Later {
     add: fn(&mut Cases),
 }
 
-const LATER: [Later; 7] = [
+const LATER: [Later; 8] = [
     Later { commands: &["levels", "levelsk"], numbers: &[], add: cases_levels::add },
     Later { commands: &["shown"], numbers: &[16], add: cases_shown::add },
     Later { commands: &["nomore"], numbers: &[], add: cases_nomore::add },
@@ -38,6 +38,7 @@ const LATER: [Later; 7] = [
     Later { commands: &["table"], numbers: &[36], add: cases_table::add },
     Later { commands: &["lparse"], numbers: &[30, 31, 32], add: cases_lparse::add },
     Later { commands: &["aspif", "unaspif"], numbers: &[33, 34, 35], add: cases_aspif::add },
+    Later { commands: &["contradict"], numbers: &[38], add: cases_contradicting::add },
 ];
 
 /// What these commands bring, in the order in which they are named, so that a later one's cases
@@ -107,8 +108,11 @@ impl Cases {
     }
 
     pub fn paper(&mut self, claim: Claim, limit: u64, room: usize, book: &[u8]) -> String {
-        let (command, atom) = (claim.command(), claim.byte());
-        self.ask(&format!("{} {} {} {} {}", command, atom, limit, room, hex(book)))
+        let about = match claim {
+            Claim::NoReading => String::new(),
+            _ => format!(" {}", claim.byte()),
+        };
+        self.ask(&format!("{}{} {} {} {}", claim.command(), about, limit, room, hex(book)))
     }
 
     pub fn check(&mut self, book: &[u8], paper: &[u8]) -> String {

@@ -64,7 +64,7 @@ fn marks(cases: &mut Cases, book: &Book, claim: Claim) {
     };
     let last = paper.len() - 1;
     cases.check(&bytes, &paper);
-    paper[last] = claim.opposite().mark()[1];
+    paper[last] = claim.others()[0].mark()[1];
     assert!(cases.check(&bytes, &paper).starts_with("refused 25 "), "both kinds of one atom");
     paper[last] = 0x44;
     assert_eq!(cases.check(&bytes, &paper), format!("refused 21 {}", last - 1));

@@ -62,10 +62,9 @@ pub fn papers_of(cases: &mut Cases, book: &Book, claim: Claim, random: &mut Rand
         Some(paper) => paper,
         None => return drop(cases.check(&bytes, &drawn)),
     };
-    let accepted = format!("{} {}", claim.word(), claim.byte());
     for paper in [&drawn, &own] {
         if paper.len() < CUT {
-            assert_eq!(cases.check(&bytes, paper), accepted);
+            assert_eq!(cases.check(&bytes, paper), claim.told());
         }
         let kinds = random.below(KINDS.len());
         for turn in 0..3 {
@@ -117,7 +116,7 @@ fn shown_books() -> Vec<(Book, u8)> {
     ]
 }
 
-fn every_byte(cases: &mut Cases, book: &Book, paper: &[u8]) {
+pub fn every_byte(cases: &mut Cases, book: &Book, paper: &[u8]) {
     let bytes = book.write();
     for place in 0..paper.len() {
         let was = paper[place];
@@ -131,7 +130,7 @@ fn every_byte(cases: &mut Cases, book: &Book, paper: &[u8]) {
 }
 
 /// 24 and 25 at each step, 26 after the last.
-fn every_step(cases: &mut Cases, book: &Book, paper: &[u8]) {
+pub fn every_step(cases: &mut Cases, book: &Book, paper: &[u8]) {
     let bytes = book.write();
     let good = Parts::of(paper);
     let mut place = 0;
@@ -232,7 +231,7 @@ fn every_witness(cases: &mut Cases, book: &Book, paper: &[u8]) {
 }
 
 /// 20 to 23, alone and two at once: the earlier number is the one given; the book comes first.
-fn trailers(cases: &mut Cases, book: &Book, paper: &[u8]) {
+pub fn trailers(cases: &mut Cases, book: &Book, paper: &[u8]) {
     let bytes = book.write();
     let length = paper.len();
     for cut in 0..length {

@@ -45,6 +45,7 @@ pub fn check_paper(book: &Book, paper: &[u8]) -> Result<Claim, Refusal> {
     let claim = match paper[length - 2..] {
         [0x50, 0x46] => certain(paper[length - 6]),
         [0x50, 0x43] => clear(paper[length - 6]),
+        [0x50, 0x4e] => Claim::NoReading,
         _ => return Err(Refusal::at(21, length - 2)),
     };
     let witness_count = paper[length - 5] as usize;
@@ -52,7 +53,11 @@ pub fn check_paper(book: &Book, paper: &[u8]) -> Result<Claim, Refusal> {
     if witness_start + witness_count + TRAILER != length {
         return Err(Refusal::at(22, length - 4));
     }
-    if claim.byte() as usize >= book.atoms {
+    let is_claimed = match claim {
+        Claim::Certain(atom) | Claim::Clear(atom) => (atom.byte() as usize) < book.atoms,
+        Claim::NoReading => paper[length - 6] == 0,
+    };
+    if !is_claimed {
         return Err(Refusal::at(23, length - 6));
     }
     let checker = Checker { book, paper, claim, witness_start };
@@ -61,7 +66,11 @@ pub fn check_paper(book: &Book, paper: &[u8]) -> Result<Claim, Refusal> {
     if end != witness_start {
         return Err(Refusal::at(26, end));
     }
-    checker.witness()?;
+    match claim {
+        Claim::NoReading if witness_count > 0 => return Err(Refusal::at(27, witness_start)),
+        Claim::NoReading => (),
+        _ => checker.witness()?,
+    }
     Ok(claim)
 }
 
@@ -152,6 +161,7 @@ impl Checker<'_> {
         match self.claim {
             Claim::Certain(atom) => self.is_derived(atom, colours),
             Claim::Clear(atom) => self.all_rules_off(atom, colours, &[]),
+            Claim::NoReading => false,
         }
     }
 

@@ -1,6 +1,7 @@
-// What a paper claims of an atom: that it is in every answer set, or that it is in none. Either
-// way the book has an answer set. The two kinds differ in their mark, in what ends a branch and in
-// the number that says that the claim does not hold.
+// What a paper claims: of an atom that it is in every answer set, or that it is in none, where
+// either way the book has an answer set; or of no atom, that the book has no answer set. The kinds
+// differ in their mark, in what ends a branch and in the number that says that the claim does not
+// hold.
 
 use crate::numbers::{Atom, Numbered};
 
@@ -8,6 +9,7 @@ use crate::numbers::{Atom, Numbered};
 pub enum Claim {
     Certain(Atom),
     Clear(Atom),
+    NoReading,
 }
 
 pub fn certain(atom: u8) -> Claim {
@@ -24,34 +26,38 @@ impl Claim {
         match self {
             Claim::Certain(_) => [0x50, 0x46],
             Claim::Clear(_) => [0x50, 0x43],
+            Claim::NoReading => [0x50, 0x4e],
         }
     }
 
-    /// The claim that a paper with this mark makes of this atom.
+    /// The claim that a paper with this mark makes of this atom, or of none.
     pub fn by_mark(mark: &[u8], atom: u8) -> Option<Claim> {
-        [certain(atom), clear(atom)].iter().copied().find(|claim| claim.mark() == mark)
+        let claims = [certain(atom), clear(atom), Claim::NoReading];
+        claims.iter().copied().find(|claim| claim.mark() == mark)
     }
 
     /// The first byte of a paper's trailer.
     pub fn byte(self) -> u8 {
         match self {
             Claim::Certain(atom) | Claim::Clear(atom) => atom.byte(),
+            Claim::NoReading => 0,
         }
     }
 
-    /// The same kind of claim of another atom.
+    /// The same kind of claim of another atom; the one without an atom becomes one of this atom.
     pub fn of(self, atom: u8) -> Claim {
         match self {
-            Claim::Certain(_) => certain(atom),
+            Claim::Certain(_) | Claim::NoReading => certain(atom),
             Claim::Clear(_) => clear(atom),
         }
     }
 
-    /// The other kind of claim of the same atom.
-    pub fn opposite(self) -> Claim {
+    /// The kinds of claim that this is not, of the same atom; the opposite one first.
+    pub fn others(self) -> [Claim; 2] {
         match self {
-            Claim::Certain(atom) => Claim::Clear(atom),
-            Claim::Clear(atom) => Claim::Certain(atom),
+            Claim::Certain(atom) => [Claim::Clear(atom), Claim::NoReading],
+            Claim::Clear(atom) => [Claim::Certain(atom), Claim::NoReading],
+            Claim::NoReading => [certain(0), clear(0)],
         }
     }
 
@@ -60,6 +66,7 @@ impl Claim {
         match self {
             Claim::Certain(_) => 12,
             Claim::Clear(_) => 18,
+            Claim::NoReading => 38,
         }
     }
 
@@ -68,14 +75,16 @@ impl Claim {
         match self {
             Claim::Certain(_) => "name",
             Claim::Clear(_) => "clear",
+            Claim::NoReading => "contradict",
         }
     }
 
     /// What `desk` calls an accepted claim.
-    pub fn word(self) -> &'static str {
+    pub fn told(self) -> String {
         match self {
-            Claim::Certain(_) => "certain",
-            Claim::Clear(_) => "clear",
+            Claim::Certain(_) => format!("certain {}", self.byte()),
+            Claim::Clear(_) => format!("clear {}", self.byte()),
+            Claim::NoReading => "none".to_string(),
         }
     }
 }

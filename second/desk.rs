@@ -61,6 +61,7 @@ pub fn answer(line: &[u8]) -> Answer {
         (b"nomore", 5) => answer_find(find_nomore, &words),
         (b"name", 5) => answer_paper(certain, &words),
         (b"clear", 5) => answer_paper(clear, &words),
+        (b"contradict", 4) => answer_claim(Claim::NoReading, &words[1..]),
         (b"check", 3) => answer_check(&words),
         (b"readings", 2) => answer_readings(&words),
         (b"shown", 6) => answer_shown(&words),
@@ -122,9 +123,14 @@ fn found_answer(finding: Finding, limit: u64, tell: &dyn Fn(&Found) -> String) -
 
 fn answer_paper(kind: fn(u8) -> Claim, words: &[&[u8]]) -> Option<Answer> {
     let claim = kind(decimal(words[1], 255)? as u8);
-    let limit = decimal(words[2], MOST_NUMBER)?;
-    let room = decimal(words[3], MOST_ROOM)? as usize;
-    let bytes = hexadecimal(words[4], MOST_BOOK)?;
+    answer_claim(claim, &words[2..])
+}
+
+/// A paper for the claim; the words are L, the room and the book.
+fn answer_claim(claim: Claim, words: &[&[u8]]) -> Option<Answer> {
+    let limit = decimal(words[0], MOST_NUMBER)?;
+    let room = decimal(words[1], MOST_ROOM)? as usize;
+    let bytes = hexadecimal(words[2], MOST_BOOK)?;
     let (written, spent) = match Book::read(&bytes) {
         Ok(book) => write_paper(&book, claim, limit, room),
         Err(refusal) => (Written::Refused(refusal), 0),
@@ -144,7 +150,7 @@ fn answer_check(words: &[&[u8]]) -> Option<Answer> {
     let book = hexadecimal(words[1], MOST_BOOK)?;
     let paper = hexadecimal(words[2], MOST_PAPER)?;
     Some(match check(&book, &paper) {
-        Ok(claim) => Answer { text: format!("{} {}", claim.word(), claim.byte()), tries: 0 },
+        Ok(claim) => Answer { text: claim.told(), tries: 0 },
         Err(refusal) => refused(refusal, 0),
     })
 }

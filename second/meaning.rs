@@ -60,13 +60,13 @@ pub fn answer_sets(book: &Book) -> Vec<AtomSet> {
 }
 
 /// Whether a claim is true of the book with these answer sets: there is one, and the atom is in
-/// each, or in none.
+/// each, or in none; or there is none.
 pub fn holds(sets: &[AtomSet], claim: Claim) -> bool {
-    !sets.is_empty()
-        && match claim {
-            Claim::Certain(atom) => sets.iter().all(|set| set.has(atom)),
-            Claim::Clear(atom) => !sets.iter().any(|set| set.has(atom)),
-        }
+    match claim {
+        Claim::Certain(atom) => !sets.is_empty() && sets.iter().all(|set| set.has(atom)),
+        Claim::Clear(atom) => !sets.is_empty() && !sets.iter().any(|set| set.has(atom)),
+        Claim::NoReading => sets.is_empty(),
+    }
 }
 
 /// The generating rules of a set: those whose body holds in it.

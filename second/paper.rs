@@ -1,4 +1,5 @@
-// Naming and clearing: the engine's own paper that an atom is in every answer set, or in none.
+// Naming, clearing and contradicting: the engine's own paper that an atom is in every answer set, or
+// in none, or that the book has no answer set.
 
 use crate::book::{Book, Refusal};
 use crate::claim::Claim;
@@ -38,13 +39,14 @@ struct Writer<'a> {
 }
 
 /// 45's condition: a contradiction, or what is claimed shows: an on rule has the atom as head, or
-/// all rules with that head are off.
+/// all rules with that head are off. That there is no answer set shows by a contradiction alone.
 pub fn may_end(book: &Book, claim: Claim, colouring: &Colouring) -> bool {
     let said = atoms_said(book, colouring);
     colouring.contradicts()
         || match claim {
             Claim::Certain(atom) => said.derived.has(atom),
             Claim::Clear(atom) => said.given_up.has(atom),
+            Claim::NoReading => false,
         }
 }
 
@@ -148,8 +150,12 @@ pub fn assemble(steps: &[u8], witness: &[u8], claim: Claim) -> Vec<u8> {
     bytes
 }
 
-/// Naming or clearing as a caller sees it, and the tries of both walks together.
+/// Naming, clearing or contradicting as a caller sees it, and the tries of all walks together. That
+/// there is no answer set has no witness, and no walk to answer set 1 before the paper's.
 pub fn write_paper(book: &Book, claim: Claim, limit: u64, room: usize) -> (Written, u64) {
+    if claim == Claim::NoReading {
+        return write_walk(book, claim, limit, room, &[]);
+    }
     if claim.byte() as usize >= book.atoms {
         return (Written::Refused(Refusal::placeless(13)), 0);
     }
@@ -158,21 +164,31 @@ pub fn write_paper(book: &Book, claim: Claim, limit: u64, room: usize) -> (Writt
         Finding::Fewer { tries, clash, .. } => return (Written::NoReading { tries, clash }, tries),
         Finding::Limit => return (Written::Limit, limit),
     };
+    let witness = witness(book, &first.colouring.on);
+    let (written, spent) = write_walk(book, claim, limit, room, &witness);
+    (written, first.tries + spent)
+}
+
+/// The paper's walk, what it came to, and its tries.
+fn write_walk(
+    book: &Book,
+    claim: Claim,
+    limit: u64,
+    room: usize,
+    witness: &[u8],
+) -> (Written, u64) {
     let mut writer = Writer { book, claim, limit, tries: 0, steps: Vec::new(), length: 0 };
     let outcome = writer.branch(&Colouring::empty());
-    let spent = first.tries + writer.tries;
+    let tries = writer.tries;
+    let refused = |number: u8| (Written::Refused(Refusal::placeless(number)), tries);
     match outcome {
-        Err(Stop::Limit) => return (Written::Limit, spent),
-        Err(Stop::Refuted) => {
-            return (Written::Refused(Refusal::placeless(claim.refuted())), spent)
-        }
+        Err(Stop::Limit) => return (Written::Limit, tries),
+        Err(Stop::Refuted) => return refused(claim.refuted()),
         Ok(()) => (),
     }
-    let witness = witness(book, &first.colouring.on);
     let length = writer.length + witness.len() as u64 + 6;
     if length > room as u64 || length > LONGEST_PAPER as u64 {
-        return (Written::Refused(Refusal::placeless(14)), spent);
+        return refused(14);
     }
-    let bytes = assemble(&writer.steps, &witness, claim);
-    (Written::Paper { tries: writer.tries, bytes }, spent)
+    (Written::Paper { tries, bytes: assemble(&writer.steps, witness, claim) }, tries)
 }

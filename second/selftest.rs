@@ -10,6 +10,7 @@ use crate::numbers::AtomSet;
 use crate::random::Random;
 use crate::selftest_aspif::round_trips;
 use crate::selftest_closing::{closings, ClosingCounts};
+use crate::selftest_contradicting::{contradiction, every_small_book, NoneCounts};
 use crate::selftest_crews::crews;
 use crate::selftest_levels::{levels, LevelCounts};
 use crate::selftest_lparse::texts;
@@ -21,6 +22,7 @@ use crate::selftest_words::{steps_back, words_back};
 use crate::shapes::{random_book, SHAPES};
 use crate::walk::{all_readings, find, Finding};
 use crate::worked::{assert_worked, worked_lines};
+use crate::worked_contradicting::contradicting_lines;
 use crate::worked_requests::{
     aspif_lines, choice_lines, clash_lines, clearing_lines, crew_lines, level_lines, lparse_lines,
     nomore_lines, shown_lines, table_lines,
@@ -54,6 +56,7 @@ pub fn run() -> Result<(), String> {
     println!("worked texts: {} lines", assert_worked(&lparse_lines()));
     println!("worked choices: {} lines", assert_worked(&choice_lines()));
     println!("worked aspif: {} lines", assert_worked(&aspif_lines()));
+    println!("worked contradicting: {} lines", assert_worked(&contradicting_lines()));
     let mut random = Random::new(SEED);
     let mut counts = BookCounts::default();
     let mut closing_counts = ClosingCounts::default();
@@ -61,6 +64,7 @@ pub fn run() -> Result<(), String> {
     let mut shown_counts = ShownCounts::default();
     let mut nomore_counts = NomoreCounts::default();
     let mut paper_counts: [PaperCounts; 2] = Default::default();
+    let mut none_counts = NoneCounts::default();
     for number in 0..BOOKS {
         let book = drawn_book(&mut random, number);
         let sets = compare(&book, &mut counts);
@@ -69,7 +73,9 @@ pub fn run() -> Result<(), String> {
         shown(&book, &sets, &mut Random::new(number as u64), &mut shown_counts);
         nomore(&book, &sets, &mut nomore_counts);
         papers(&book, &sets, &mut random, &mut paper_counts);
+        contradiction(&book, &sets, &mut Random::new(number as u64), &mut none_counts);
     }
+    every_small_book(&mut none_counts);
     report(&counts);
     closing_counts.report();
     level_counts.report();
@@ -77,6 +83,7 @@ pub fn run() -> Result<(), String> {
     nomore_counts.report();
     paper_counts[0].report(certain);
     paper_counts[1].report(clear);
+    none_counts.report();
     println!("two crews: {} pairs of books, joined and logged", crews(&mut random));
     println!("tables: {} of up to 6 books", tables(&mut random));
     println!("Lparse: {} texts, whose books have their answer sets", texts(&mut random));
@@ -173,7 +180,7 @@ fn damaged(random: &mut Random) -> usize {
         }
         bytes.truncate(random.from_to(bytes.len() / 2, 2 * bytes.len()));
         let mut paper: Vec<u8> = (0..random.below(40)).map(|_| random.byte()).collect();
-        let mark = *random.pick(&[0x46, 0x43]);
+        let mark = *random.pick(&[0x46, 0x43, 0x4e]);
         paper.extend(&[random.below(7) as u8, 0, paper.len() as u8, 0, 0x50, mark]);
         let _ = crate::checker::check(&bytes, &paper);
         let _ = crate::checker::check(&good, &paper);

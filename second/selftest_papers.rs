@@ -127,7 +127,7 @@ fn without_reading(book: &Book, claim: Claim, random: &mut Random, counts: &mut 
     }
 }
 
-/// Changed papers, each under both marks: whatever is accepted claims what holds.
+/// Changed papers, each under every mark: whatever is accepted claims what holds.
 fn change(
     book: &Book,
     sets: &[AtomSet],
@@ -147,16 +147,21 @@ fn change(
         counts.changed[kind] += 1;
         counts.doubtful += !holds(sets, claim) as usize;
         counts.accepted[kind] += is_accepted(book, sets, claim, &changed) as usize;
-        is_accepted(book, sets, claim.opposite(), &other_mark(&changed, claim));
+        under_other_marks(book, sets, &changed, claim);
     }
 }
 
-fn other_mark(paper: &[u8], claim: Claim) -> Vec<u8> {
-    [&paper[..paper.len() - 2], &claim.opposite().mark()].concat()
+/// The paper under the marks of the other kinds: whatever is accepted claims what holds.
+pub fn under_other_marks(book: &Book, sets: &[AtomSet], paper: &[u8], claim: Claim) {
+    let (bytes, atom) = (&paper[..paper.len() - 2], paper[paper.len() - 6]);
+    for mark in claim.others().map(Claim::mark) {
+        let other = Claim::by_mark(&mark, atom).expect("a mark");
+        is_accepted(book, sets, other, &[bytes, &mark].concat());
+    }
 }
 
 /// Whether the checker takes a paper with this claim, which must hold then.
-fn is_accepted(book: &Book, sets: &[AtomSet], claim: Claim, paper: &[u8]) -> bool {
+pub fn is_accepted(book: &Book, sets: &[AtomSet], claim: Claim, paper: &[u8]) -> bool {
     match check_paper(book, paper) {
         Ok(told) => {
             assert_eq!(told, claim);

@@ -3,7 +3,7 @@
 // refused by their number.
 
 use crate::book::{Book, Rule};
-use crate::claim::{certain, clear};
+use crate::claim::{certain, clear, Claim};
 use crate::numbers::{Atom, AtomSet};
 use crate::paper::{write_paper, Written, LONGEST_PAPER};
 use crate::random::Random;
@@ -81,7 +81,8 @@ pub fn steps_back(random: &mut Random, drawn: fn(&mut Random, usize) -> Book) ->
     let mut count = 0;
     for number in 0..1_000 {
         let book = drawn(random, number);
-        for claim in (0..book.atoms as u8).flat_map(|atom| [certain(atom), clear(atom)]) {
+        let about = (0..book.atoms as u8).flat_map(|atom| [certain(atom), clear(atom)]);
+        for claim in about.chain([Claim::NoReading]) {
             let (written, _) = write_paper(&book, claim, 1_000, LONGEST_PAPER);
             if let Written::Paper { bytes, .. } = written {
                 let text = write_steps(&bytes).expect("its own paper");
@@ -99,6 +100,7 @@ fn assert_no_steps() {
     assert_eq!(read_steps(by_hand), Ok(b"\x41\0\x45\0\0\x01\x03\0PF".to_vec()));
     let clearing = "unfounded 0 1\nend\nwitness\nclear 0\n";
     assert_eq!(read_steps(clearing), Ok(b"\x55\x02\0\x01\x45\0\0\x05\0PC".to_vec()));
+    assert_eq!(read_steps("end\nwitness\nnone"), Ok(b"\x45\0\0\x01\0PN".to_vec()));
     for (text, line) in [
         ("on", 1),
         ("on 0 1", 1),
@@ -114,6 +116,9 @@ fn assert_no_steps() {
         ("witness\nclear 0 1", 2),
         ("witness\nclaim 0\nclaim 0", 3),
         ("witness\nclear 0\nclaim 0", 3),
+        ("none", 1),
+        ("witness\nnone 0", 2),
+        ("witness\nnone\nnone", 3),
     ] {
         let trouble = read_steps(text).expect_err("meant to be refused");
         assert!(trouble.starts_with(&format!("line {}: ", line)), "{}", trouble);
@@ -125,7 +130,8 @@ fn assert_no_steps() {
     let no_witness: &[u8] = b"\0\x01\0\0PF";
     let cut_short: &[u8] = b"\x41\0\0\x01\0PF";
     let empty_list: &[u8] = b"\x55\0\0\0\x02\0PF";
-    for bytes in [&[], no_mark, no_witness, cut_short, empty_list] {
+    let of_an_atom: &[u8] = b"\x45\x01\0\x01\0PN";
+    for bytes in [&[], no_mark, no_witness, cut_short, empty_list, of_an_atom] {
         assert!(write_steps(bytes).is_err());
     }
 }

@@ -1,6 +1,6 @@
 // Papers in words, one step a line, and the way back.
 // What is indented under a split holds with its rule on; what follows it at its own depth, with
-// its rule off. The lines `witness` and `claim`, or `clear`, come last.
+// its rule off. The lines `witness` and `claim`, or `clear`, or `none`, come last.
 
 use crate::book::two_bytes;
 use crate::claim::{certain, clear, Claim};
@@ -9,7 +9,7 @@ use crate::paper::{assemble, END, GO_OFF, GO_ON, LONGEST_PAPER, SPLIT, STARVE};
 
 const TRAILER: usize = 6;
 const INDENT: &str = "    ";
-const CLAIMS: [&str; 2] = ["claim", "clear"];
+const CLAIMS: [&str; 3] = ["claim", "clear", "none"];
 
 /// What has been read of a paper, in the order of its bytes.
 #[derive(Default)]
@@ -30,7 +30,7 @@ pub fn read_steps(text: &str) -> Result<Vec<u8>, String> {
         read_line(line, &mut draft).map_err(|why| format!("line {}: {}", number + 1, why))?;
     }
     let witness = draft.witness.ok_or("the line `witness` is missing")?;
-    let claim = draft.claim.ok_or("the line `claim` or `clear` is missing")?;
+    let claim = draft.claim.ok_or("the line `claim`, `clear` or `none` is missing")?;
     let paper = assemble(&draft.steps, &witness, claim);
     if paper.len() > LONGEST_PAPER {
         return Err(format!("the paper has more than {} bytes", LONGEST_PAPER));
@@ -49,7 +49,8 @@ fn read_line(line: &str, draft: &mut Draft) -> Result<(), String> {
         return Err("nothing comes after the claim".to_string());
     }
     if draft.witness.is_some() != CLAIMS.contains(&words[0]) {
-        return Err("`claim` or `clear`, and nothing else, comes after `witness`".to_string());
+        let why = "`claim`, `clear` or `none`, and nothing else, comes after `witness`";
+        return Err(why.to_string());
     }
     match (words[0], numbers.as_slice()) {
         ("on", [r]) => draft.steps.extend([GO_ON, *r]),
@@ -63,6 +64,7 @@ fn read_line(line: &str, draft: &mut Draft) -> Result<(), String> {
         ("witness", rules) => draft.witness = Some(rules.to_vec()),
         ("claim", [atom]) => draft.claim = Some(certain(*atom)),
         ("clear", [atom]) => draft.claim = Some(clear(*atom)),
+        ("none", []) => draft.claim = Some(Claim::NoReading),
         _ => return Err(format!("`{}` is no step", line)),
     }
     Ok(())
@@ -87,11 +89,12 @@ pub fn write_steps(paper: &[u8]) -> Result<String, String> {
     }
     let mut text = write_branches(&paper[..start])?;
     text.push_str(&format!("witness{}\n", spaced(&paper[start..trailer])));
-    let word = match claim {
-        Claim::Certain(_) => "claim",
-        Claim::Clear(_) => "clear",
-    };
-    text.push_str(&format!("{} {}\n", word, claim.byte()));
+    match claim {
+        Claim::Certain(_) => text.push_str(&format!("claim {}\n", claim.byte())),
+        Claim::Clear(_) => text.push_str(&format!("clear {}\n", claim.byte())),
+        Claim::NoReading if paper[trailer] == 0 => text.push_str("none\n"),
+        Claim::NoReading => return Err("this is no paper: it names an atom".to_string()),
+    }
     Ok(text)
 }
 

@@ -7,7 +7,7 @@ use crate::worked::{
 };
 
 /// 0 if 0; 0 if not 0.
-const LATE_CLASH: &str = "00010000 00000100 0000 0400 01020800 5242";
+pub const LATE_CLASH: &str = "00010000 00000100 0000 0400 01020800 5242";
 
 /// 0 if not 1; 1 if 1.
 pub const HELD_BY_ITSELF: &str = "000001010101000100000400020208005242";

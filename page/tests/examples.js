@@ -6,7 +6,8 @@ const wrong = [];
 const same = (what, due, came) => { if (due !== came) wrong.push(`${what}: "${String(due).slice(0, 200)}" is due, "${String(came).slice(0, 200)}" came`); };
 const bytesOf = name => page.bytesOfText(files[name]).bytes;
 const lines = text => text.split("\n").filter(line => line !== "" && !line.startsWith("#"));
-const bookOf = paper => paper.replace(/-[^-]*$/, "") + ".book";
+// A paper about an atom has the book's name and a word more, one that there is no reading the book's name alone.
+const bookOf = paper => [paper.replace(/\.paper$/, ".book"), paper.replace(/-[^-]*$/, ".book")].find(name => files[name] !== undefined);
 
 for (const [name, text] of Object.entries(page.FILES)) {
   const due = files[name];
@@ -19,8 +20,9 @@ function stepLines({ steps, branches, witness, claim }) {
   for (const branch of branches) indents.push(branch.number === 0 ? 0 : indents[branch.parent] + (branch.side === "on" ? 1 : 0));
   const words = { 0x41: "on", 0x42: "off", 0x55: "unfounded", 0x53: "split", 0x45: "end" };
   const told = steps.map(step => "    ".repeat(indents[step.branch]) + [words[step.code], ...step.rules].join(" "));
-  const last = `${claim.kind.word === "certain" ? "claim" : "clear"} ${claim.atom}`;
-  return [...told, ["witness", ...witness.rows.map(row => row.rule)].join(" "), last];
+  const last = claim.kind.bare ? "none" : `${claim.kind.word === "certain" ? "claim" : "clear"} ${claim.atom}`;
+  const listed = witness ? witness.rows.map(row => row.rule) : [];
+  return [...told, ["witness", ...listed].join(" "), last];
 }
 
 // The parts of a body are a set; a book has them in the order of their numbers.
@@ -34,7 +36,7 @@ for (const name of Object.keys(files).filter(name => name.endsWith(".paper"))) {
   papers++;
   const found = page.check(bytesOf(bookOf(name)), bytesOf(name));
   const due = lines(files[name.replace(".paper", ".steps")]);
-  same(name, due.join("\n"), found.witness ? stepLines(found).join("\n") : page.tell(found.told));
+  same(name, due.join("\n"), found.told.word === "refused" ? page.tell(found.told) : stepLines(found).join("\n"));
   same(`${name}, told`, due[due.length - 1].replace("claim", "certain"), page.answer(found.told));
 }
 const isImported = name => files[name.replace(".book", ".text")] !== undefined;

@@ -20,7 +20,7 @@ page: failed: $test: came: $(grep -F -- "${fact%%: *}: " "$work/seen" | cut -c 1
 make_files() {
     local hex
     mkdir "$files" "$files/folder.paper"
-    cp examples/two-readings.* examples/two-readings-carl.paper examples/either-way-2.paper examples/either-way.book examples/deepest-paper* "$files"
+    cp examples/two-readings.* examples/two-readings-carl.paper examples/either-way-2.paper examples/either-way.book examples/deepest-paper* examples/contradiction.* "$files"
     head -c 9442 /dev/zero >"$files/long.book"
     head -c 60001 /dev/zero >"$files/long.paper"
     : >"$files/empty"
@@ -179,7 +179,7 @@ test_looks() {
     tells "320 px" "refused 25 at 2: the step's condition does not hold"
     look_closely "refused at a step"
     show two-readings.book two-readings.book
-    tells "320 px" "refused 21 at 28: the paper's last two bytes are neither 50 46 nor 50 43" "means: Its last two bytes are 52 42. These are a book's: is it the book?"
+    tells "320 px" "refused 21 at 28: the paper's last two bytes are none of 50 46, 50 43 and 50 4e" "means: Its last two bytes are 52 42. These are a book's: is it the book?"
     look_closely "refused in the trailer"
     show two-readings-carl.paper two-readings.book
     tells "320 px" "refused 2 at 16: the book's last two bytes are not 52 42" "means: Its last two bytes are 50 46. These are a paper's: is it the paper?"
@@ -300,6 +300,20 @@ test_quiet() {
     [ ! -s "$work/messages" ] || fail "the browser's log: $(head -n 3 "$work/messages")"
     devtools Storage.getUsageAndQuota "{\"origin\": \"file://\"}"
     [ "$(jq .value.usage "$work/reply")" = 0 ] || fail "something is stored"
+}
+
+# A paper that there is no reading: no witness is shown, and of one that has an atom or a witness what is wrong.
+test_no_reading() {
+    show contradiction.book contradiction.paper contradiction.names
+    tells "no reading" "accepted: the book has no reading" "head: ✓ Accepted: no reading" "names: 0" "reading: " "steps: 2 cases: 2 cannot be." \
+        "means: This book has no reading: it contradicts itself. From it nobody is named and nobody is cleared."
+    click '#paper-paste'
+    keys "check 000001000000010104005242 530042004541004501000800504e" Tab Enter
+    tells "no reading, an atom" "refused 23 at 8: the book has no such atom as the paper claims" \
+        "means: It is a paper that the book has no reading, and claims atom 1; such a paper claims no atom: the byte is 00."
+    keys Enter "check 000001000000010104005242 53004200454100450000010800504e" Tab Enter
+    tells "no reading, a witness" "refused 27 at 8: the witness is wrong" "place: byte 8, 00, the place of the refusal" \
+        "means: It is a paper that the book has no reading, and has a witness of 1 rule; such a paper has none."
 }
 
 test_controls() {

@@ -30,6 +30,7 @@ function truths(book, colours, step) {
     "claimed on": g => on(g.rule) && rules[g.rule].head === g.atom,
     "claimed off": g => heads(g.atom, g.rules) && g.rules.every(off),
     "claimed not on": g => !rules.some((rule, q) => on(q) && (off(q) || rule.head === g.atom)),
+    "no clash": () => !rules.some((rule, q) => on(q) && off(q)),
     "claimed not off": g => rules[g.rule].head === g.atom && !off(g.rule) && !rules.some((rule, q) => on(q) && off(q)),
   };
 }

@@ -17,7 +17,7 @@ commands.forEach((command, i) => {
   if (words[0] === "check") {
     checks++;
     compare(command, page.answer(page.check(bytesOf(words[1]), bytesOf(words[2])).told), answers[i]);
-  } else if (["find", "name", "clear", "readings"].includes(words[0])) {
+  } else if (["find", "name", "clear", "contradict", "readings"].includes(words[0])) {
     books++;
     const { refusal } = page.readBook(bytesOf(words[words.length - 1]));
     const [due] = /^refused [1-7] \d+/.exec(answers[i]) || ["read"];

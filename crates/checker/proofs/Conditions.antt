@@ -12,9 +12,11 @@ use Rattle.meaning.specs.declared.RuleNo.{RuleNo}
 use Rattle.meaning.specs.Sets.{Set, every, some, someBelow}
 use Rattle.meaning.specs.Books.{Atoms, Rules, ruleNo, sameAtom, Book, count, rule, someRule}
 use Rattle.meaning.specs.Colours.{heads, allIn, plus, clashing, uncoloured}
+use Rattle.meaning.specs.declared.kind.Kind.{Kind}
 use Rattle.meaning.specs.declared.kind.Kind.the-variants.{Naming, Clearing}
 use Rattle.meaning.specs.declared.kind.Claim.{Claim}
-use Rattle.meaning.specs.Claim.{shownBy, shown, ended}
+use Rattle.meaning.specs.declared.kind.Claim.the-variants.{NoReading}
+use Rattle.meaning.specs.Claim.{claim, shownBy, shown, ended}
 use Rattle.meaning.specs.Paper.{unfounded}
 use Rattle.meaning.specs.Bits.{below, members, listed}
 use Rattle.meaning.specs.Bits.{both as both-in}
@@ -79,15 +81,20 @@ module _ (b : Book) (s : Rules) (a : AtomNo) where
 pub lost-by : (b : Book) (set : List Bool) (a : AtomNo) (v : Bool) → heads b (λ r. not (of set r)) a ≡ v → not v ≡ allIn b (of set) a
 lost-by b set a v e = sym (all-in-not-heads b (of set) a ∙ ap not e)
 
--- the claim by its kind
+-- the claim by its cases
 module _ (b : Book) (on off : List Bool) (k : Claim) where
-  pub shown-naming : k .kind ≡ Naming → shown b k (lent on off) ≡ heads b (of on) (k .atom)
-  unfolding shown shownBy
-  shown-naming e = rw e
+  module _ {q : Kind} {a : AtomNo} (e : k ≡ claim q a) where
+    pub shown-naming : q ≡ Naming → shown b k (lent on off) ≡ heads b (of on) a
+    unfolding shown shownBy
+    shown-naming f = rw (e, f)
 
-  pub shown-clearing : k .kind ≡ Clearing → shown b k (lent on off) ≡ allIn b (of off) (k .atom)
-  unfolding shown shownBy
-  shown-clearing e = rw e
+    pub shown-clearing : q ≡ Clearing → shown b k (lent on off) ≡ allIn b (of off) a
+    unfolding shown shownBy
+    shown-clearing f = rw (e, f)
+
+  pub shown-no-reading : k ≡ NoReading → shown b k (lent on off) ≡ false
+  unfolding shown
+  shown-no-reading e = rw e
 
 module _ (b : Book) (on off : List Bool) (k : Claim) (n : ℕ) (e : n ≡ count b) where
   clashing-is : someBelow n (λ r. of on (ruleNo r) && of off (ruleNo r)) ≡ clashing b (lent on off)

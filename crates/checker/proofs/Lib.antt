@@ -3,11 +3,12 @@ pub mod Steps
 pub mod Bytes
 pub mod Branches
 pub mod Witnesses
+pub mod Places
+pub mod Grounds
 pub mod Marked
 pub mod Rows
 pub mod Accepted
 pub mod Comes
-pub mod Places
 pub mod Refusals
 pub mod Told
 pub mod Cases

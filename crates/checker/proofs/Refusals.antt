@@ -3,7 +3,7 @@
 use mathlib.Core.Path.{_≡_, refl}
 use mathlib.Core.Logic.{_↔_}
 use mathlib.Core.List.{List}
-use Prim.Native.Nat.{ℕ, suc, _-_, _<_, _≤_}
+use Prim.Native.Nat.{ℕ, suc, _+_, _-_, _<_, _≤_}
 use native.Mathlib.Nat.{sub-zero}
 use native.Mathlib.Omega.{arith}
 use lib.ListN.{length, take}
@@ -17,15 +17,14 @@ use Rattle.book.specs.Rows.{GoodBook}
 use Rattle.book.proofs.Refusals.{bad-number}
 use Rattle.checker.specs.Steps.{fails}
 use Rattle.checker.specs.Branches.{done, wrongAt}
-use Rattle.checker.specs.Witness.{witnessVerdict}
 use Rattle.checker.specs.Check.{checkOf}
-use Rattle.checker.specs.Rows.{startOf, claimOf, witnessBytes, LengthGood, MarkGood, TrailerGood, AtomGood, FramedPaper}
+use Rattle.checker.specs.Rows.{countOf, startOf, claimOf, witnessBytes, LengthGood, MarkGood, TrailerGood, AtomGood, FramedPaper}
 use Rattle.checker.specs.Rows.{Malformed, Unheld, Comes, first-step}
-use Rattle.checker.specs.Places.{WrongAt}
+use Rattle.checker.specs.Places.{UngroundedAt}
 use Rattle.checker.proofs.Steps.{StepIs, malformed, unheld}
 use Rattle.checker.proofs.Branches.{done-between, done-branch, part-done}
 use Rattle.checker.proofs.Comes.{refused-comes, comes-refused}
-use Rattle.checker.proofs.Places.{list-wrong, wrong-list}
+use Rattle.checker.proofs.Grounds.{grounds-wrong, wrong-grounds}
 use Rattle.checker.proofs.Rows.{walkOf, PaperRow, at-length, at-mark, at-trailer, at-atom, at-form, at-step, at-gap}
 use Rattle.checker.proofs.Rows.{at-witness, CheckRow, at-book, at-paper, checked-row, row-checked}
 
@@ -77,7 +76,7 @@ module _ (book paper : List ℕ) where
       there : {at : ℕ} → PaperRow b paper (refusedAt 20 at) → (¬ LengthGood paper) × (at ≡ 0)
       there (at-length l) = (l, refl)
 
-  -- 21, at length - 2: the length is right, and the mark is neither 50 46 nor 50 43
+  -- 21, at length - 2: the length is right, and the mark is none of 50 46, 50 43 and 50 4e
   pub refused-mark : (at : ℕ) → (checkOf book paper ≡ refusedAt 21 at)
       ↔ (GoodBook book b × (LengthGood paper × (¬ MarkGood paper) × (at ≡ length paper - 2)))
   refused-mark at = exactly (omega arith) there (λ (l, m, p). rw p (at-mark l m))
@@ -94,7 +93,7 @@ module _ (book paper : List ℕ) where
           → LengthGood paper × MarkGood paper × (¬ TrailerGood paper) × (at ≡ length paper - 4)
       there (at-trailer l m t) = (l, m, t, refl)
 
-  -- 23, at length - 6: these are right, and the claimed atom isn't below A
+  -- 23, at length - 6: these are right, and the claimed atom isn't below A, or its byte isn't 0 where no atom is claimed
   pub refused-atom : (at : ℕ) → (checkOf book paper ≡ refusedAt 23 at)
       ↔ (GoodBook book b × (LengthGood paper × MarkGood paper × TrailerGood paper × (¬ AtomGood b paper) × (at ≡ length paper - 6)))
   refused-atom at = exactly (omega arith) there (λ (l, m, t, a, p). rw p (at-atom l m t a))
@@ -156,13 +155,17 @@ module _ (book paper : List ℕ) where
       there : PaperRow b paper (refusedAt 26 at) → FramedPaper b paper × Branch b k start (take at paper) × (at < from)
       there (at-gap f e n) = let (h, p) = done-first f e in (f, p, omega arith)
 
-  -- 27: none of these, so that the steps are one branch up to the witness, and the witness is wrong
+  -- 27: none of these, so that the steps are one branch up to the witness, and the witness is wrong, or there is one where no reading is
+  -- claimed
   pub refused-witness : (at : ℕ) → (checkOf book paper ≡ refusedAt 27 at)
-      ↔ (GoodBook book b × (FramedPaper b paper × Branch b k start (take from paper) × WrongAt b paper from (witnessBytes paper) at))
-  unfolding witnessVerdict
+      ↔ (GoodBook book b × (FramedPaper b paper × Branch b k start (take from paper) × UngroundedAt b paper from (witnessBytes paper) k at))
   refused-witness at = exactly (omega arith) there
-      (λ (f, p, w). at-witness f (first-done f (omega arith) p) (wrong-list b paper from (witnessBytes paper) w))
+      (λ (f, p, w). at-witness f (first-done f (omega arith) p) (wrong-grounds b paper from (countOf paper) (listed f) k w))
     where
+      listed : FramedPaper b paper → from + countOf paper ≤ length paper
+      listed f = let t = f .trailer in omega arith
+
       there : PaperRow b paper (refusedAt 27 at)
-          → FramedPaper b paper × Branch b k start (take from paper) × WrongAt b paper from (witnessBytes paper) at
-      there (at-witness f e w) = let (h, p) = done-first f e in (f, p, list-wrong b paper from (witnessBytes paper) w)
+          → FramedPaper b paper × Branch b k start (take from paper) × UngroundedAt b paper from (witnessBytes paper) k at
+      there (at-witness f e w) =
+          let (h, p) = done-first f e in (f, p, grounds-wrong b paper from (countOf paper) (listed f) k w)

@@ -7,19 +7,20 @@ use Prim.Native.Nat.{ℕ, suc, _-_}
 use native.Mathlib.Omega.{arith}
 use lib.ListN.{length}
 use Rattle.meaning.specs.declared.kind.Claim.{Claim}
-use Rattle.meaning.specs.Claim.{claimed}
 use Rattle.meaning.specs.Books.{Rule, Book}
 use Rattle.meaning.specs.Colours.{start}
 use Rattle.meaning.specs.Told.{Told, success, refusedAt}
-use Rattle.meaning.proofs.Choice.{lt-yes, lt-no, lt-either, eq-yes, eq-no, eq-either}
+use Rattle.meaning.proofs.Choice.{b-yes, b-either, lt-no, lt-either, eq-yes, eq-no, eq-either}
+use Rattle.meaning.proofs.Tests.{true-and-false}
 use Rattle.book.specs.Format.{BookRead, good, bad, readOf, bookOf, bookIn}
 use Rattle.book.specs.Rows.{GoodBook}
 use Rattle.book.proofs.Refusals.{good-read, read-good}
 use Rattle.checker.specs.Branches.{Walked, done, wrongAt, branchOf}
-use Rattle.checker.specs.Witness.{Check, fine, wrong, witnessVerdict}
+use Rattle.checker.specs.Witness.{Check, fine, wrong, groundsVerdict}
 use Rattle.checker.specs.Check.{witnessTold, branchTold, stepsTold, trailerTold, markedTold, paperOf, checkRead, checkOf}
 use Rattle.checker.specs.Rows.{countOf, startOf, claimOf, LengthGood, MarkGood, TrailerGood, AtomGood, FramedPaper}
-use Rattle.checker.proofs.Marked.{mark-tells, mark-either, no-mark}
+use Rattle.checker.proofs.Marked.{markedAs, claim-either, mark-tells, mark-either, no-mark}
+use Rattle.checker.proofs.Grounds.{stated-good, good-stated}
 use Rattle.checker.proofs.Branches.{refused-between}
 
 -- the branch from byte 0
@@ -34,15 +35,15 @@ pub data PaperRow (b : Book) (s : List ℕ) : Told Claim → Type 0 where
   at-form : {at : ℕ} → FramedPaper b s → walkOf b s ≡ wrongAt 24 at → PaperRow b s (refusedAt 24 at)
   at-step : {at : ℕ} → FramedPaper b s → walkOf b s ≡ wrongAt 25 at → PaperRow b s (refusedAt 25 at)
   at-gap : {at : ℕ} → FramedPaper b s → walkOf b s ≡ done at → ¬ (at ≡ startOf s) → PaperRow b s (refusedAt 26 at)
-  at-witness : {at : ℕ} → FramedPaper b s → walkOf b s ≡ done (startOf s) → witnessVerdict b s (startOf s) (countOf s) ≡ wrong at
+  at-witness : {at : ℕ} → FramedPaper b s → walkOf b s ≡ done (startOf s) → groundsVerdict (claimOf s) b s (startOf s) (countOf s) ≡ wrong at
       → PaperRow b s (refusedAt 27 at)
-  nowhere : FramedPaper b s → walkOf b s ≡ done (startOf s) → witnessVerdict b s (startOf s) (countOf s) ≡ fine
+  nowhere : FramedPaper b s → walkOf b s ≡ done (startOf s) → groundsVerdict (claimOf s) b s (startOf s) (countOf s) ≡ fine
       → PaperRow b s (success (claimOf s))
 
 module _ (b : Book) (s : List ℕ) where
   -- ---- every answer has its row
 
-  witness-row : FramedPaper b s → walkOf b s ≡ done (startOf s) → (c : Check) → witnessVerdict b s (startOf s) (countOf s) ≡ c
+  witness-row : FramedPaper b s → walkOf b s ≡ done (startOf s) → (c : Check) → groundsVerdict (claimOf s) b s (startOf s) (countOf s) ≡ c
       → PaperRow b s (witnessTold (claimOf s) c)
   unfolding witnessTold
   witness-row f e fine w = nowhere f e w
@@ -56,13 +57,18 @@ module _ (b : Book) (s : List ℕ) where
       ⊎-elim (λ (p : i ≡ 24). rw p (at-form f (rw p at e))) (λ (p : i ≡ 25). rw p (at-step f (rw p at e)))
       (refused-between b (claimOf s) s (startOf s) _ 0 start (omega arith) e .number)
 
+  -- what is told by the mark is told by the claim
+  claim-told : markedTold b s (markedAs (claimOf s)) ≡ trailerTold b (claimOf s) s (countOf s) (startOf s)
+  unfolding markedTold markedAs
+  claim-told = claim-either s (λ k. markedTold b s (markedAs k) ≡ trailerTold b k s (countOf s) (startOf s)) refl refl
+
   pub paper-row : PaperRow b s (paperOf b s)
-  unfolding paperOf markedTold trailerTold stepsTold claimed
+  unfolding paperOf markedTold trailerTold stepsTold
   paper-row =
       lt-either P _ _ _ _ (λ h. at-length (λ l. omega (arith, l .at-least)))
       λ h. lt-either P _ _ _ _ (λ k. at-length (λ l. omega (arith, l .at-most)))
       λ k. let size : LengthGood s = record { at-least = h; at-most = k } in
-      mark-either s (λ m. P (markedTold b s m)) (marked size) (at-mark size)
+      mark-either s (λ m. P (markedTold b s m)) (λ m. subst P (sym claim-told) (marked size m)) (at-mark size)
     where
       P : Told Claim → Type 0
       P = PaperRow b s
@@ -70,29 +76,32 @@ module _ (b : Book) (s : List ℕ) where
       marked : LengthGood s → MarkGood s → P (trailerTold b (claimOf s) s (countOf s) (startOf s))
       marked size mark =
           eq-either P _ _ _ _
-          (λ t. lt-either P _ _ _ _ (λ a. walk-row (record { size = size; mark = mark; trailer = t; atom = a }) _ refl)
-          (λ a. at-atom size mark t (λ h. omega arith)))
+          (λ t. b-either P _ _ _
+          (λ a. walk-row (record { size = size; mark = mark; trailer = t; atom = stated-good b _ (claimOf s) a }) _ refl)
+          (λ a. at-atom size mark t (λ h. true-and-false (good-stated b _ (claimOf s) h) a)))
           (at-trailer size mark)
 
   -- ---- and a row's own tests give its answer
 
   marked-told : LengthGood s → MarkGood s → paperOf b s ≡ trailerTold b (claimOf s) s (countOf s) (startOf s)
-  unfolding paperOf markedTold
-  marked-told l m = lt-no _ _ _ _ (l .at-least) ∙ lt-no _ _ _ _ (l .at-most) ∙ ap (markedTold b s) (mark-tells s m)
+  unfolding paperOf
+  marked-told l m = lt-no _ _ _ _ (l .at-least) ∙ lt-no _ _ _ _ (l .at-most) ∙ ap (markedTold b s) (mark-tells s m) ∙ claim-told
 
   framed-told : FramedPaper b s → {w : Walked} → walkOf b s ≡ w → paperOf b s ≡ branchTold b (claimOf s) s (countOf s) (startOf s) w
-  unfolding trailerTold stepsTold claimed
-  framed-told f e = marked-told (f .size) (f .mark) ∙ eq-yes _ _ _ _ (f .trailer) ∙ lt-yes _ _ _ _ (f .atom) ∙ rw e
+  unfolding trailerTold stepsTold
+  framed-told f e =
+      marked-told (f .size) (f .mark) ∙ eq-yes _ _ _ _ (f .trailer) ∙ b-yes _ _ _ (good-stated b _ (claimOf s) (f .atom)) ∙ rw e
 
   pub row-told : {x : Told Claim} → PaperRow b s x → paperOf b s ≡ x
-  unfolding paperOf markedTold trailerTold branchTold witnessTold claimed
+  unfolding paperOf markedTold trailerTold branchTold witnessTold
   row-told (at-length m) =
       lt-either (λ x. x ≡ refusedAt 20 0) _ _ _ _ (λ _. refl) λ h. lt-either (λ x. x ≡ refusedAt 20 0) _ _ _ _ (λ _. refl)
       λ k. absurd (m (record { at-least = h; at-most = k }))
   row-told (at-mark l m) = lt-no _ _ _ _ (l .at-least) ∙ lt-no _ _ _ _ (l .at-most) ∙ ap (markedTold b s) (no-mark s m)
   row-told (at-trailer l m t) = marked-told l m ∙ eq-no _ _ _ _ t
   row-told (at-atom l m t a) =
-      marked-told l m ∙ eq-yes _ _ _ _ t ∙ lt-either (λ x. x ≡ refusedAt 23 (length s - 6)) _ _ _ _ (λ h. absurd (a h)) (λ _. refl)
+      marked-told l m ∙ eq-yes _ _ _ _ t
+      ∙ b-either (λ x. x ≡ refusedAt 23 (length s - 6)) _ _ _ (λ h. absurd (a (stated-good b _ (claimOf s) h))) (λ _. refl)
   row-told (at-form f e) = framed-told f e
   row-told (at-step f e) = framed-told f e
   row-told (at-gap f e n) = framed-told f e ∙ eq-no _ _ _ _ n

@@ -1,16 +1,17 @@
 -- What checking tells. Document 01, "Numbers given back": "Acceptance tells the claimed atom."; document 02, request 2: "the checker takes
--- both kinds and tells which it accepted".
+-- both kinds and tells which it accepted"; of a paper that the book has no reading, that.
 use Rattle.meaning.specs.declared.AtomNo.{AtomNo}
 use Rattle.meaning.specs.declared.kind.Kind.{Kind}
 use Rattle.meaning.specs.declared.kind.Kind.the-variants.{Naming, Clearing}
 use Rattle.meaning.specs.declared.kind.Claim.{Claim}
+use Rattle.meaning.specs.declared.kind.Claim.the-variants.{NoReading}
 use Rattle.meaning.specs.Claim.{claim}
 use Rattle.meaning.specs.Told.{Told, success, refusedAt}
 use Rattle.book.specs.Numbers.{numberOf, placeOf}
 use Rattle.checker.specs.declared.answer.Checked.{Checked}
 use Rattle.checker.specs.declared.answer.Checked.the-variants.{Accepted, Book, Length, Mark, Trailer, Atom, Form, Fails, Gap, Witness}
 
--- success tells the claim, its kind and its atom
+-- success tells the claim: its kind and its atom, or that there is no reading
 abbrev pub accepted : Kind → AtomNo → Told Claim
 accepted q a = success (claim q a)
 
@@ -19,6 +20,9 @@ certain a = accepted Naming a
 
 abbrev pub clear : AtomNo → Told Claim
 clear a = accepted Clearing a
+
+abbrev pub noReading : Told Claim
+noReading = success NoReading
 
 abbrev pub told : Checked → Told Claim
 told (Accepted k) = success k

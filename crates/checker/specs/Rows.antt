@@ -20,6 +20,7 @@ use Rattle.meaning.specs.Colours.{Pair, onSide, offSide, put, start, mayOn, blo
 use Rattle.meaning.specs.declared.kind.Kind.{Kind}
 use Rattle.meaning.specs.declared.kind.Kind.the-variants.{Naming, Clearing}
 use Rattle.meaning.specs.declared.kind.Claim.{Claim}
+use Rattle.meaning.specs.declared.kind.Claim.the-variants.{About, NoReading}
 use Rattle.meaning.specs.Claim.{claim, ended}
 use Rattle.meaning.specs.Choice.{ifEq}
 use Rattle.meaning.specs.Paper.{unfounded, codeOn, codeOff, codeUnfounded, codeSplit, codeEnd, Branch, paperBytes}
@@ -28,7 +29,8 @@ use Rattle.checker.specs.Steps.{Stepped, goes, parts, ends}
 
 -- ---- the trailer
 
--- "claimed atom, count w of witness rules, start of the witness (two bytes), then 50 46"; a paper that clears ends in 50 43
+-- "claimed atom, count w of witness rules, start of the witness (two bytes), then 50 46"; a paper that clears ends in 50 43, and one that
+-- the book has no reading in 50 4e
 abbrev pub atomOf : List ℕ → AtomNo
 atomOf s = atomNo (getD s (length s - 6) 0)
 
@@ -42,7 +44,7 @@ abbrev pub kindOf : List ℕ → Kind
 kindOf s = ifEq (getD s (length s - 1) 0) 0x43 Clearing Naming
 
 abbrev pub claimOf : List ℕ → Claim
-claimOf s = claim (kindOf s) (atomOf s)
+claimOf s = ifEq (getD s (length s - 1) 0) 0x4e NoReading (claim (kindOf s) (atomOf s))
 
 abbrev pub witnessBytes : List ℕ → List ℕ
 witnessBytes s = take (countOf s) (drop (startOf s) s)
@@ -52,18 +54,22 @@ pub record LengthGood (s : List ℕ) : Type 0 where
   pub at-least : 6 ≤ length s
   pub at-most : length s ≤ paperBytes
 
--- 21: "21 now means neither mark" (document 02, request 2)
+-- 21: "21 now means neither mark" (document 02, request 2), nor the third
 pub record MarkGood (s : List ℕ) : Type 0 where
   pub first : getD s (length s - 2) 0 ≡ 0x50
-  pub second : (getD s (length s - 1) 0 ≡ 0x46) ⊎ (getD s (length s - 1) 0 ≡ 0x43)
+  pub second : (getD s (length s - 1) 0 ≡ 0x46) ⊎ ((getD s (length s - 1) 0 ≡ 0x43) ⊎ (getD s (length s - 1) 0 ≡ 0x4e))
 
 -- 22: "witness start + w + 6 isn't the length"
 abbrev pub TrailerGood : List ℕ → Type 0
 TrailerGood s = startOf s + countOf s + 6 ≡ length s
 
--- 23: "claimed atom not below A"
+-- 23: "claimed atom not below A"; where no atom is claimed, its byte isn't 0
+unfoldable pub ByteGood : Book → Claim → ℕ → Type 0
+ByteGood b (About q a) n = a .0 < b .atoms
+ByteGood b NoReading n = n ≡ 0
+
 abbrev pub AtomGood : Book → List ℕ → Type 0
-AtomGood b s = atomOf s .0 < b .atoms
+AtomGood b s = ByteGood b (claimOf s) (getD s (length s - 6) 0)
 
 pub record FramedPaper (b : Book) (s : List ℕ) : Type 0 where
   pub size : LengthGood s

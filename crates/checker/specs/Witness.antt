@@ -4,6 +4,7 @@
 --   orderOf b at before l        the bytes l from place `at` on, where the rules `before` are listed before them
 --   blockedOf b x at l           the same bytes once more: none of these rules has a negative atom in x
 --   witnessVerdict b s from w    the whole witness: w bytes from place `from` of the paper s
+--   groundsVerdict k b s from w  what the claim asks there: a witness; where it is that there is no answer set, that nothing is listed
 use mathlib.Core.Bool.{Bool, not, _&&_, _||_}
 use mathlib.Core.List.{List, [], _∷_, map}
 use Prim.Native.Nat.{ℕ, _+_, _-_}
@@ -14,7 +15,9 @@ use Rattle.meaning.specs.Sets.{every, some}
 use Rattle.meaning.specs.Books.{Atoms, ruleNo, among, Book, count, rule, everyRule}
 use Rattle.meaning.specs.Colours.{heads}
 use Rattle.meaning.specs.Paper.{fails}
-use Rattle.meaning.specs.Choice.{ifb}
+use Rattle.meaning.specs.declared.kind.Claim.{Claim}
+use Rattle.meaning.specs.declared.kind.Claim.the-variants.{About, NoReading}
+use Rattle.meaning.specs.Choice.{ifb, ifEq}
 
 -- nothing wrong, or the place of what is
 pub data Check : Type 0 where
@@ -50,3 +53,7 @@ listOf b from last l =
 
 unfoldable pub witnessVerdict : Book → List ℕ → ℕ → ℕ → Check
 witnessVerdict b s from w = listOf b from (length s - 6) (take w (drop from s))
+
+unfoldable pub groundsVerdict : Claim → Book → List ℕ → ℕ → ℕ → Check
+groundsVerdict (About q a) b s from w = witnessVerdict b s from w
+groundsVerdict NoReading b s from w = ifEq w 0 fine (wrong from)

@@ -110,6 +110,7 @@ fn is_lost(book: &[u8], shape: Shape, a: AtomNo, set: &[u64; 4]) -> bool
 }
 
 // The claim is shown: an on rule has the claimed atom as head, or all rules with it as head are off.
+// That the book has no reading is shown by no colouring.
 fn is_shown<'a>(
     book: &[u8],
     shape: Shape,
@@ -121,11 +122,12 @@ fn is_shown<'a>(
     ensures { λ b. ⌜ b ≡
         shown (bookIn (now (book .entry))) claim (lent (listed (now (on .entry))) (listed (now (off .entry)))) ⌝ }
 {
-    let kind = claim.kind;
-    let atom = claim.atom;
-    match kind {
-        Kind::Naming => is_head(book, shape, atom, on),
-        Kind::Clearing => is_lost(book, shape, atom, off),
+    match claim {
+        Claim::About(kind, atom) => match kind {
+            Kind::Naming => is_head(book, shape, atom, on),
+            Kind::Clearing => is_lost(book, shape, atom, off),
+        },
+        Claim::NoReading => false,
     }
 }
 

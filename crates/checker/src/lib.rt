@@ -1,5 +1,6 @@
-// The checker: whoever wrote the paper, if it is accepted then the book has an answer set and the
-// claimed atom is in all of them. Stands on book and meaning only.
+// The checker: whoever wrote the paper, if it is accepted then its claim is right: the book has an
+// answer set and the claimed atom is in all of them or in none, or the book has no answer set.
+// Stands on book and meaning only.
 //
 // `check` reads the book, then the paper's trailer, its branches and its witness. A branch is run
 // step by step (`run_steps`) up to its end or its split; a step is checked against the colouring as

@@ -1,4 +1,5 @@
-// The witness: the on rules of one answer set, in a grounded order.
+// The witness: the on rules of one answer set, in a grounded order; none where the claim is that
+// there is no answer set.
 ghost use mathlib.Core.Path.{_≡_};
 ghost use mathlib.Core.Bool.{_||_};
 ghost use mathlib.Core.List.{[]};
@@ -10,7 +11,7 @@ ghost use Rattle.meaning.specs.Bits.{listed};
 ghost use Rattle.meaning.specs.Written.{of};
 ghost use Rattle.book.specs.Format.{bookIn, ReadAs};
 ghost use Rattle.book.specs.Tables.{atomsIn, Below};
-ghost use Rattle.checker.specs.Witness.{orderOf, blockedOf, witnessVerdict};
+ghost use Rattle.checker.specs.Witness.{orderOf, blockedOf, witnessVerdict, groundsVerdict};
 ghost use Rattle.checker.specs.Parts.{verdict};
 use crate::list::with_rules;
 use crate::trailer::Trailer;
@@ -24,6 +25,7 @@ use book::positives;
 use book::some_in;
 use book::wide;
 use meaning::Bits;
+use meaning::Claim;
 use meaning::Colouring;
 use meaning::RuleNo;
 use meaning::has;
@@ -119,7 +121,7 @@ fn rest_fails(book: &[u8], shape: Shape, set: &[u64; 4], headed: &[bool; Colouri
 }
 
 // The whole witness: its order, its negative atoms, then the rules that it doesn't list.
-pub fn check_witness(book: &[u8], shape: Shape, paper: &[u8], trailer: Trailer) -> Verdict
+fn check_witness(book: &[u8], shape: Shape, paper: &[u8], trailer: Trailer) -> Verdict
     requires { ⌜ ReadAs (now book) shape
         × (trailer .from + trailer .count + 6 ≡ length (now paper))
         × (length (now paper) ≤ paperBytes) ⌝ }
@@ -142,4 +144,24 @@ pub fn check_witness(book: &[u8], shape: Shape, paper: &[u8], trailer: Trailer) 
         return Verdict::Wrong(paper.len() - 6);
     }
     Verdict::Right
+}
+
+// What the claim asks behind the steps: a witness, or that nothing is listed.
+pub fn check_grounds(book: &[u8], shape: Shape, paper: &[u8], trailer: Trailer) -> Verdict
+    requires { ⌜ ReadAs (now book) shape
+        × (trailer .from + trailer .count + 6 ≡ length (now paper))
+        × (length (now paper) ≤ paperBytes) ⌝ }
+    ensures { λ v. ⌜ verdict v ≡ groundsVerdict (trailer .claim) (bookIn (now (book .entry)))
+        (now (paper .entry)) (trailer .from) (trailer .count) ⌝ }
+{
+    let claim = trailer.claim;
+    match claim {
+        Claim::About(_, _) => check_witness(book, shape, paper, trailer),
+        Claim::NoReading => {
+            if trailer.count != 0 {
+                return Verdict::Wrong(trailer.from);
+            }
+            Verdict::Right
+        }
+    }
 }

@@ -1,11 +1,13 @@
 // Checks a paper against a book. If it is accepted then, whoever wrote the paper, the book has a
-// reading and the atom is in all of them, or, by a paper that clears, in none.
+// reading and the atom is in all of them, or, by a paper that clears, in none; or, by a paper that
+// says so, the book has no reading.
 //
 //     checking BOOKFILE PAPERFILE
 
 ghost use Rattle.io.specs.Counts.{Counts};
 use checker::Checked;
 use checker::check;
+use meaning::AtomNo;
 use meaning::Claim;
 use meaning::Kind;
 use talk::BOOK_ROOM;
@@ -30,13 +32,19 @@ fn put_holds(kind: Kind, line: &mut [u8], held: usize) -> usize
     }
 }
 
-fn accept(claim: Claim) {
+fn accept_about(kind: Kind, atom: AtomNo) {
     let mut line = [0u8; 64];
     let held = put_text(b"accepted: atom ", &mut line, 0);
-    let held = put_number(claim.atom.0 as u64, &mut line, held);
-    let kind = claim.kind;
+    let held = put_number(atom.0 as u64, &mut line, held);
     let held = put_holds(kind, &mut line, held);
     print(&line[..held]);
+}
+
+fn accept(claim: Claim) {
+    match claim {
+        Claim::About(kind, atom) => accept_about(kind, atom),
+        Claim::NoReading => print(b"accepted: the book has no reading\n"),
+    }
 }
 
 // Asks the checker, and writes what it answers.

@@ -7,9 +7,7 @@ use Prim.Native.Nat.{ℕ}
 use native.Mathlib.Omega.{arith}
 use Rattle.meaning.specs.declared.AtomNo.{AtomNo}
 use Rattle.meaning.specs.Books.{Atoms, Book}
-use Rattle.meaning.specs.declared.kind.Kind.{Kind}
 use Rattle.meaning.specs.declared.kind.Claim.{Claim}
-use Rattle.meaning.specs.Claim.{claim, claimed}
 use Rattle.book.specs.Format.{bookOf}
 use Rattle.book.specs.Rows.{Bytes}
 use Rattle.book.specs.Writing.{Fits}
@@ -75,6 +73,5 @@ module _ (b : Book) where
     pub asking-counts-one : {n i m j : ℕ} → Needs b (events b nothing) 1 n → Needs b (events b nothing) 1 i → PaperNeeds b k m → PaperNeeds b k j → (n ≡ i) × (m ≡ j)
     asking-counts-one p q u v = (needs-one b p q, paper-needs-one b k u v)
 
-pub nameable : {book : List ℕ} {b : Book} {a : AtomNo} (q : Kind) → Asking book b a → Nameable b (claim q a)
-unfolding claimed
-nameable {b = b} {a = a} q c = fits-nameable b (claim q a) (book-fits (c .good-book) (c .bytes)) (c .good-number)
+pub nameable : {book : List ℕ} {b : Book} {a : AtomNo} → Asking book b a → Nameable b a
+nameable {b = b} {a = a} c = fits-nameable b a (book-fits (c .good-book) (c .bytes)) (c .good-number)

@@ -1,8 +1,8 @@
 -- Two results that meet a promise are equal: the answer, and every byte of lent memory afterwards. Document 01, "What the promises say".
 --
 -- Where a promise is an equation of the result itself, or of a buffer afterwards, there is nothing more to it than `equal-determined`. The
--- answers of read_book, find, page, settle, levels, name, clear and check are enums, and their promises speak of document 01's numbers and values; what is told
--- of an answer tells all of it, so these are determined too. In a promise, r is the result and `after` the buffer afterwards.
+-- answers of read_book, find, page, settle, levels, name, clear, contradict and check are enums, and their promises speak of document 01's
+-- numbers and values; what is told of an answer tells all of it, so these are determined too. In a promise, r is the result and `after` the buffer afterwards.
 use mathlib.Core.Path.{_≡_, sym, _∙_}
 use mathlib.Core.List.{List}
 use Prim.Native.Nat.{ℕ, suc, _-_}
@@ -75,7 +75,7 @@ module _ (book : List ℕ) (k limit : ℕ) (out : List ℕ) where
       → (r ≡ q) × (after ≡ other)
   levels-determined r q after other p s = answered-one findTold found-one r q after other (equal-determined p s)
 
--- name is the promise for the claim `named atom`, clear that for `cleared atom`
+-- name is the promise for the claim `named atom`, clear that for `cleared atom`, contradict that for NoReading
 module _ (book : List ℕ) (k : Claim) (limit : ℕ) (paper : List ℕ) where
   abbrev WritePromise : NamedAnswer → List ℕ → Type 0
   WritePromise r after = _≡_ {A = Answered Handed} (record { told = writeTold r; buffer = after }) (writeOf book k limit paper)

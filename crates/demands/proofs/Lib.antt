@@ -7,6 +7,7 @@ pub mod Ours1
 pub mod Ours2
 pub mod Once
 pub mod Ours3
+pub mod OursNone
 pub mod Only
 pub mod Own
 pub mod Worked
@@ -26,3 +27,5 @@ pub mod UselessImports
 pub mod WorkedImports
 pub mod Shown
 pub mod UselessShown
+pub mod NoneBeside
+pub mod UselessNone

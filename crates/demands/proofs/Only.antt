@@ -10,10 +10,12 @@ use Rattle.meaning.specs.declared.AtomNo.{AtomNo}
 use Rattle.meaning.specs.Books.{Atoms, Book}
 use Rattle.meaning.specs.AnswerSet.{AnswerSet}
 use Rattle.meaning.specs.declared.kind.Kind.{Kind}
+use Rattle.meaning.specs.declared.kind.Claim.{Claim}
+use Rattle.meaning.specs.declared.kind.Claim.the-variants.{About, NoReading}
 use Rattle.meaning.specs.Claim.{claim, Holding}
 use Rattle.meaning.specs.Told.{Told, refusedAt, refused, fewer, stopped, Answered}
 use Rattle.meaning.proofs.Tests.{lt-or-le, apart}
-use Rattle.meaning.specs.Paper.{paperBytes}
+use Rattle.meaning.specs.Paper.{Keeps, paperBytes}
 use Rattle.book.specs.Rows.{Bytes}
 use Rattle.meaning.specs.Written.{nothing}
 use Rattle.walk.specs.Events.{events}
@@ -31,12 +33,14 @@ use Rattle.demands.specs.Demand1.{Demand1}
 use Rattle.demands.specs.Demand2.{Asking, Demand2}
 use Rattle.demands.specs.Demand3.{InLimit, Papers}
 use Rattle.demands.specs.FindsBy.{FindsBy}
+use Rattle.demands.specs.DemandNone.{CompleteNone}
 use Rattle.demands.proofs.Damaged.{every-book, every-paper}
 use Rattle.demands.proofs.Calls.{readings-there, nameable}
 use Rattle.demands.proofs.Found.{finds-only}
 use Rattle.demands.proofs.Ours1.{ours-1}
 use Rattle.demands.proofs.Ours2.{ours-2}
 use Rattle.demands.proofs.Ours3.{holds-or-not, our-papers}
+use Rattle.demands.proofs.OursNone.{our-complete}
 
 -- ---- finding
 
@@ -109,14 +113,14 @@ module _ (q : Kind) (book : List ℕ) (bytes : Bytes book) (a : AtomNo) (limit :
         by : {n : ℕ} → Needs b (events b nothing) 1 n → (r : Answered Handed) × Writes r
         by {n} (to-reading {x = x} first) = ⊎-elim (λ h. (_, stops (to-reading first) (inl h)))
             (λ h. let (m, needs) = paper-needs-some b (claim q a) in ⊎-elim
-            (λ l. (_, stops (to-reading first) (inr (h, (x, kth-answer b (nameable q c .few-rules) first), l))))
+            (λ l. (_, stops (to-reading first) (inr (h, (x, kth-answer b (nameable c .few-rules) first), l))))
             (λ l. within-written x m (record { tries = n; first = first; first-within = h; needs = needs; paper-within = l }))
             (lt-or-le limit m)) (lt-or-le limit n)
         by {n} (to-end f) = ⊎-elim (λ h. (_, stops (to-end f) (inl h)))
             (λ h. (
               _,
               leaves (fewer n 0 (lastClash (events b nothing))) (λ u m z. apart (cc))
-                  (λ e p s r. s .asking-fewer q book b a limit buffer c n (to-end f) h .1 (fewer-none b (nameable q c .few-rules) f)),
+                  (λ e p s r. s .asking-fewer q book b a limit buffer c n (to-end f) h .1 (fewer-none b (nameable c .few-rules) f)),
             )) (lt-or-le limit n)
 
   written-one : (r : Answered Handed) × Writes r
@@ -133,13 +137,16 @@ module _ (q : Kind) (book : List ℕ) (bytes : Bytes book) (a : AtomNo) (limit :
 
 -- ---- checking
 
--- an engine that meets the demands for both kinds of paper
-pub check-only : (book s : List ℕ) → Bytes s → (e : Engine) → Demand1 e → ((q : Kind) → Papers q e) → e .check book s ≡ checkOf book s
-check-only book s bytes e p r = ⊎-elim
-    (λ (b, g). ⊎-elim
-    (λ (k, m, h). r (k .kind) .complete book s b (k .atom) g m h ∙ sym (our-papers (k .kind) .complete book s b (k .atom) g m h))
-    (λ (i, at, d). both i at (inr (b, g, d))) (every-paper book s bytes g))
+-- an engine that meets the demands for papers of every claim
+pub check-only : (book s : List ℕ) → Bytes s → (e : Engine) → Demand1 e → ((q : Kind) → Papers q e) → CompleteNone (e .check)
+    → e .check book s ≡ checkOf book s
+check-only book s bytes e p r n = ⊎-elim
+    (λ (b, g). ⊎-elim (λ (k, m, h). kept b g k m h) (λ (i, at, d). both i at (inr (b, g, d))) (every-paper book s bytes g))
     (λ (i, at, d). both i at (inl d)) (every-book book)
   where
+    kept : (b : Book) → GoodBook book b → (k : Claim) → Keeps b k s → length s ≤ paperBytes → e .check book s ≡ checkOf book s
+    kept b g (About q a) m h = r q .complete book s b a g m h ∙ sym (our-papers q .complete book s b a g m h)
+    kept b g NoReading m h = n book s b g m h ∙ sym (our-complete book s b g m h)
+
     both : (i at : ℕ) → DamagedBook book i at ⊎ ((b : Book) × GoodBook book b × DamagedPaper b s i at) → e .check book s ≡ checkOf book s
     both i at d = p .check-bytes book s i at .1 d ∙ sym (ours-1 .check-bytes book s i at .1 d)

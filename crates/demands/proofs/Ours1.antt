@@ -9,7 +9,7 @@ use native.Mathlib.Omega.{arith}
 use Rattle.meaning.specs.declared.AtomNo.{AtomNo}
 use Rattle.meaning.specs.Books.{Book}
 use Rattle.meaning.specs.declared.kind.Kind.{Kind}
-use Rattle.meaning.specs.Claim.{claim, claimed}
+use Rattle.meaning.specs.Claim.{claim}
 use Rattle.meaning.specs.Told.{Told, refusedAt, refused, fewer, stopped, Answered}
 use Rattle.meaning.proofs.Choice.{lt-no, lt-either}
 use Rattle.meaning.proofs.Tests.{apart}
@@ -18,9 +18,9 @@ use Rattle.walk.specs.Find.{fixedWalk, findOf}
 use Rattle.walk.specs.declared.tally.Halt.{Halt}
 use Rattle.walk.specs.declared.tally.Halt.the-variants.{Going, Full, Limit}
 use Rattle.walk.proofs.Kept.{find-keeps}
-use Rattle.writer.specs.Scan.{Course, writing, limited, refuted, Progress}
+use Rattle.writer.specs.Scan.{Course, writing, limited, refuted}
 use Rattle.writer.specs.Write.{Handed, paper, lacking}
-use Rattle.writer.specs.Write.{handOver, afterPaperWalk, afterFirstWalk, writeIn, writeOf}
+use Rattle.writer.specs.Write.{failing, handOver, afterPaperWalk, afterFirstWalk, witnessed, writeIn, writeOf}
 use Rattle.writer.proofs.Claiming.{lacking-is}
 use Rattle.writer.proofs.Stages.{write-bad-book, write-keeps-buffer}
 use Rattle.demands.specs.Engine.{ours}
@@ -50,20 +50,20 @@ module _ (b : Book) (q : Kind) (a : AtomNo) (limit : ℕ) (buffer : List ℕ) wh
   unfolding handOver
   hand-tells tries whole = lt-either WriteTells _ _ _ _ (λ h. passes-room) λ h. lt-either WriteTells _ _ _ _ (λ g. passes-room) λ g. written
 
-  paper-tells : (h : Course) (p : Progress) (row : List ℕ) → WriteTells (afterPaperWalk h b (claim q a) limit p row buffer)
-  unfolding afterPaperWalk
-  paper-tells writing p row = hand-tells _ _
-  paper-tells limited p row = limit-met
-  paper-tells refuted p row = open-branch refl
+  paper-tells : (h : Course) (tries : ℕ) (whole : List ℕ) → WriteTells (afterPaperWalk h (claim q a) limit tries whole buffer)
+  unfolding afterPaperWalk failing
+  paper-tells writing tries whole = hand-tells tries whole
+  paper-tells limited tries whole = limit-met
+  paper-tells refuted tries whole = open-branch refl
 
   first-tells : (h : Halt) (s : State) → WriteTells (afterFirstWalk h b (claim q a) limit s buffer)
   unfolding afterFirstWalk
   first-tells Going s = none
-  first-tells Full s = paper-tells _ _ (s .out)
+  first-tells Full s = paper-tells _ _ _
   first-tells Limit s = limit-met
 
   write-tells : WriteTells (writeIn b (claim q a) limit buffer)
-  unfolding writeIn claimed
+  unfolding writeIn witnessed
   write-tells = lt-either WriteTells _ _ _ _ (λ h. first-tells _ _) no-atom
 
 module _ (q : Kind) (book : List ℕ) (a : AtomNo) (limit : ℕ) (buffer : List ℕ) where
@@ -89,7 +89,7 @@ module _ (q : Kind) (book : List ℕ) (a : AtomNo) (limit : ℕ) (buffer : List 
       never w = elim w [ ]
 
   write-beyond : (writeOf book (claim q a) limit buffer .told ≡ refused 13) ↔ ((b : Book) × GoodBook book b × (b .atoms ≤ a .0))
-  unfolding writeIn claimed
+  unfolding writeIn
   write-beyond = (
     λ e. write-cases ((b : Book) × GoodBook book b × (b .atoms ≤ a .0)) e (λ b g w. (b, g, there w)) (λ i at d q. apart (cc)),
     λ (b, g, h). ap (λ (m : Answered Handed). m .told) (written-as g (claim q a) limit buffer ∙ lt-no _ _ _ _ h),

@@ -28,8 +28,8 @@ ours-2 = record {
       rw (readings-same (c .good-book) (c .bytes) all) (found .tells-fewer book b k limit answer c n needs h);
   asking-stops = λ q book b a limit buffer c n m needs paper.
       along (stopped limit) (ap (λ (x : Answered Handed). x .told) (written-as (c .good-book) (claim q a) limit buffer))
-      (write-stopped b (claim q a) limit buffer (nameable q c) needs paper);
+      (write-stopped b q a limit buffer (nameable c) needs paper);
   asking-fewer = λ q book b a limit buffer c n needs h.
       along (fewer n 0 (lastClash (events b nothing))) (ap (λ (x : Answered Handed). x .told) (written-as (c .good-book) (claim q a) limit buffer))
-      (write-none b (claim q a) limit buffer (nameable q c) needs h);
+      (write-none b q a limit buffer (nameable c) needs h);
 }

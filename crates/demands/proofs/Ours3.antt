@@ -18,7 +18,7 @@ use Rattle.meaning.specs.declared.kind.Kind.the-variants.{Naming, Clearing}
 use Rattle.meaning.specs.declared.kind.Claim.{Claim}
 use Rattle.meaning.specs.Claim.{claim, meant, Holding}
 use Rattle.meaning.specs.Paper.{Keeps, paperBytes}
-use Rattle.meaning.specs.Told.{Told, refusedAt, refused, fewer, Answered}
+use Rattle.meaning.specs.Told.{Told, success, refusedAt, refused, fewer, Answered}
 use Rattle.meaning.proofs.Tests.{decided, true-and-false, lt-or-le}
 use Rattle.meaning.proofs.Claim.{claim-holds, not-both}
 use Rattle.book.specs.Format.{bookIn}
@@ -36,7 +36,8 @@ use Rattle.writer.proofs.Ways.{Nameable}
 use Rattle.writer.proofs.Claiming.{write-writes, write-written, write-lacks, write-lacking, write-too-long}
 use Rattle.checker.specs.Numbers.{accepted, certain, clear}
 use Rattle.checker.specs.Check.{checkOf}
-use Rattle.checker.specs.Rows.{atomOf, kindOf}
+use Rattle.checker.specs.Rows.{claimOf}
+use Rattle.checker.proofs.Marked.{claim-about}
 use Rattle.checker.proofs.Rows.{CheckRow, at-paper, checked-row, nowhere}
 use Rattle.checker.proofs.Accepted.{check-sound, check-complete}
 use Rattle.demands.specs.Engine.{Engine, ours}
@@ -49,12 +50,13 @@ use Rattle.demands.proofs.Ours1.{ours-1}
 
 -- ---- the checker
 
+-- what is accepted is the claim that the paper makes, of a good book
+pub accepted-row : {book s : List ℕ} {k : Claim} → CheckRow book s (success k) → (claimOf s ≡ k) × GoodBook book (bookIn book)
+accepted-row (at-paper g (nowhere f w v)) = (refl, g)
+
 check-accepts-sound : (q : Kind) → Sound q ours
 check-accepts-sound q book s a e =
-    let (p, k, g) = row (checked-row book s e) in (p, k, (bookIn book, g, check-sound book s e))
-  where
-    row : {q : Kind} {a : AtomNo} → CheckRow book s (accepted q a) → (a ≡ atomOf s) × (q ≡ kindOf s) × GoodBook book (bookIn book)
-    row (at-paper g (nowhere f w v)) = (refl, refl, g)
+    let (k, g) = accepted-row (checked-row book s e) in let (p, r) = claim-about s k in (p, r, (bookIn book, g, check-sound book s e))
 
 check-accepts-all : (q : Kind) → Complete q ours
 check-accepts-all q book s b a g k h =
@@ -66,13 +68,13 @@ check-accepts-all q book s b a g k h =
 module _ {book : List ℕ} {b : Book} {a : AtomNo} (q : Kind) (c : Asking book b a) {t : ℕ} {x : Atoms} (first : Kth b (events b nothing) 1 t x) where
   pub settled-holds : every settled (branches b (claim q a) start) ≡ true → Holding q b a
   settled-holds s =
-      let few = nameable q c .few-rules in
+      let few = nameable c .few-rules in
       claim-holds b q a .0 (record { one = (x, kth-answer b few first); each = settled-each b (claim q a) few s })
 
   pub holds-or-not : Holding q b a ⊎ (Holding q b a → ⊥)
   holds-or-not = ⊎-elim (λ s. inl (settled-holds s))
       (λ s. inr (λ t.
-      let (y, answer, n) = unsettled-one b (claim q a) (nameable q c .few-rules) s in
+      let (y, answer, n) = unsettled-one b (claim q a) (nameable c .few-rules) s in
       true-and-false (claim-holds b q a .1 t .each y answer) n))
       (decided (every settled (branches b (claim q a) start)))
 
@@ -80,8 +82,8 @@ module _ (q : Kind) (book : List ℕ) (b : Book) (a : AtomNo) (limit : ℕ) (buf
   abbrev k : Claim
   k = claim q a
 
-  abbrev good : Nameable b k
-  good = nameable q c
+  abbrev good : Nameable b a
+  good = nameable c
 
   as-written : writeOf book k limit buffer ≡ writeIn b k limit buffer
   as-written = written-as (c .good-book) k limit buffer
@@ -103,7 +105,7 @@ module _ (q : Kind) (book : List ℕ) (b : Book) (a : AtomNo) (limit : ℕ) (buf
     writes t room most =
         let n = branches-needed (certain-settled b k (good .few-rules) (throughout t)) in
         let l = w .paper-within in
-        let (e, p) = write-writes b k limit buffer good (throughout t) (w .first) (w .first-within) (omega arith) room most in (
+        let (e, p) = write-writes b q a limit buffer good (throughout t) (w .first) (w .first-within) (omega arith) room most in (
           p,
           ap (λ (r : Answered Handed). r .told) (as-written ∙ e) ∙ ap (λ (i : ℕ). paper i (length (paperFor b k x))) n,
           ap (λ (r : Answered Handed). r .buffer) (as-written ∙ e),
@@ -112,7 +114,7 @@ module _ (q : Kind) (book : List ℕ) (b : Book) (a : AtomNo) (limit : ℕ) (buf
     tells-length : Holding q b a → (writeOf book k limit buffer .told ≡ refused 14)
         ↔ ((length buffer < length (paperFor b k x)) ⊎ (paperBytes < length (paperFor b k x)))
     tells-length t = along (refused 14) (ap (λ (r : Answered Handed). r .told) as-written)
-        (write-too-long b k limit buffer good (to-reading (w .first)) (w .first-within) (x, first-answer) (w .needs)
+        (write-too-long b q a limit buffer good (to-reading (w .first)) (w .first-within) (x, first-answer) (w .needs)
         (w .paper-within) (certain-settled b k (good .few-rules) (throughout t)) (w .first))
 
     -- the claim does not hold: some branch is left unsettled
@@ -123,8 +125,8 @@ module _ (q : Kind) (book : List ℕ) (b : Book) (a : AtomNo) (limit : ℕ) (buf
 
     tells-lacking : (writeOf book k limit buffer .told ≡ refused (lacking q)) ↔ (Holding q b a → ⊥)
     tells-lacking = along (refused (lacking q)) (ap (λ (r : Answered Handed). r .told) as-written) (
-      λ e t. let (y, answer, n) = write-lacks b k limit buffer good e in true-and-false (throughout t .each y answer) n,
-      λ u. write-lacking b k limit buffer good (to-reading (w .first)) (w .first-within) (x, first-answer) (w .needs)
+      λ e t. let (y, answer, n) = write-lacks b q a limit buffer good e in true-and-false (throughout t .each y answer) n,
+      λ u. write-lacking b q a limit buffer good (to-reading (w .first)) (w .first-within) (x, first-answer) (w .needs)
           (w .paper-within) .1 (stuck-lacking u),
     )
 
@@ -158,7 +160,7 @@ writes-only q book bytes a limit buffer t n e =
     let (b, c) = asking-of q book bytes a limit buffer told-paper e in
     let same = as-written q book b a limit buffer c in
     let told = ap (λ (r : Answered Handed). r .told) (sym same) ∙ e in
-    let (x, answer, p, size, room, most, stands, k) = write-written b (claim q a) limit buffer (nameable q c) told in
+    let (x, answer, p, size, room, most, stands, k) = write-written b q a limit buffer (nameable c) told in
     let there = ap (λ (r : Answered Handed). r .buffer) same ∙ stands in
     let front : take n (writeOf book (claim q a) limit buffer .buffer) ≡ paperFor b (claim q a) x =
     ap (take n) there ∙ take-at (paperFor b (claim q a) x) _ n (sym size) in

@@ -14,7 +14,6 @@ use Rattle.meaning.specs.declared.AtomNo.{AtomNo}
 use Rattle.meaning.specs.Sets.{every}
 use Rattle.meaning.specs.Books.{Atoms, Book}
 use Rattle.meaning.specs.declared.kind.Kind.{Kind}
-use Rattle.meaning.specs.declared.kind.Claim.{Claim}
 use Rattle.meaning.specs.Claim.{claim}
 use Rattle.meaning.specs.Written.{nothing}
 use Rattle.meaning.specs.Told.{Told, refusedAt, refused, fewer, stopped, Answered}
@@ -133,10 +132,10 @@ module _ (book s : List ℕ) (bytes : Bytes s) where
 -- ---- naming and clearing
 
 -- our walks were within the limit where a paper was told, and all branches are settled
-handed : {b : Book} {k : Claim} {limit : ℕ} {buffer : List ℕ} {r : Answered Handed} → Outcome b k limit buffer r
+handed : {b : Book} {q : Kind} {a : AtomNo} {limit : ℕ} {buffer : List ℕ} {r : Answered Handed} → Outcome b q a limit buffer r
     → {t n : ℕ} → r .told ≡ paper t n
-    → (x : Atoms) × Found b limit x × Settled b k limit × (length (paperFor b k x) ≤ length buffer)
-    × (length (paperFor b k x) ≤ paperBytes)
+    → (x : Atoms) × Found b limit x × Settled b (claim q a) limit × (length (paperFor b (claim q a) x) ≤ length buffer)
+    × (length (paperFor b (claim q a) x) ≤ paperBytes)
 handed (first-stopped p h) e = apart (cc)
 handed (no-reading h l) e = apart (cc)
 handed (paper-stopped f p h) e = apart (cc)
@@ -145,7 +144,7 @@ handed (too-long f s l) e = apart (cc)
 handed (handed-over {x} f s h l) e = (x, f, s, h, l)
 
 -- where fewer was told, there is no reading, and the whole walk was within the limit
-none : {b : Book} {k : Claim} {limit : ℕ} {buffer : List ℕ} {r : Answered Handed} → Outcome b k limit buffer r
+none : {b : Book} {q : Kind} {a : AtomNo} {limit : ℕ} {buffer : List ℕ} {r : Answered Handed} → Outcome b q a limit buffer r
     → {t n c : ℕ} → r .told ≡ fewer t n c → (length (readings b) < 1) × (length (events b nothing) ≤ limit)
 none (first-stopped p h) e = apart (cc)
 none (no-reading h l) e = (h, l)
@@ -160,8 +159,8 @@ module _ (q : Kind) (book : List ℕ) (bytes : Bytes book) (a : AtomNo) (limit :
   unwritten-as-ours e tells told =
       let (b, c) = asking-of q book bytes a limit buffer told-none told in
       let in-book = ap (λ (r : Answered Handed). r .told) (sym (written-as (c .good-book) (claim q a) limit buffer)) ∙ told in
-      let (few, within) = none (write-outcome b (claim q a) limit buffer (nameable q c)) in-book in
-      let lacks = fewer-none b (nameable q c .few-rules) few in
+      let (few, within) = none (write-outcome b q a limit buffer (nameable c)) in-book in
+      let lacks = fewer-none b (nameable c .few-rules) few in
       tells q book b a limit buffer c _ (to-end few) within .1 lacks
       ∙ sym (ours-2 .asking-fewer q book b a limit buffer c _ (to-end few) within .1 lacks) ∙ told
 
@@ -170,7 +169,7 @@ module _ (q : Kind) (book : List ℕ) (bytes : Bytes book) (a : AtomNo) (limit :
   written-as-ours e writes {t} told =
       let (b, c) = asking-of q book bytes a limit buffer told-paper told in
       let in-book = ap (λ (r : Answered Handed). r .told) (sym (written-as (c .good-book) (claim q a) limit buffer)) ∙ told in
-      let (x, (i, first, h), (all, m), room, most) = handed (write-outcome b (claim q a) limit buffer (nameable q c)) in-book in
+      let (x, (i, first, h), (all, m), room, most) = handed (write-outcome b q a limit buffer (nameable c)) in-book in
       let w : InLimit b (claim q a) limit x _ =
       record { tries = i; first = first; first-within = h; needs = to-last all; paper-within = m } in
       let holds = settled-holds q c first all in

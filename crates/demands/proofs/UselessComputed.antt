@@ -27,7 +27,7 @@ use Rattle.writer.specs.Write.{Handed, paper, clearOf}
 use Rattle.checker.specs.Numbers.{certain, clear}
 use Rattle.checker.specs.Steps.{withRule, stepBy, stepOf}
 use Rattle.checker.specs.Branches.{andThen}
-use Rattle.checker.specs.Witness.{andThen as witnessThen, follows, orderOf, blockedOf, restFails, listOf, witnessVerdict}
+use Rattle.checker.specs.Witness.{andThen as witnessThen, follows, orderOf, blockedOf, restFails, listOf, witnessVerdict, groundsVerdict}
 use Rattle.checker.specs.Check.{witnessTold, branchTold, checkOf}
 use Rattle.demands.specs.Demand2.{GivesReadings}
 use Rattle.demands.specs.Demand3.{Sound, WritesOnly}
@@ -71,7 +71,7 @@ closes-once-fails gives =
 
 -- it accepts a paper whose second branch does not hold
 first-accepts : firstBranch .check choice carriedPaper ≡ certain (atomNo 0)
-unfolding formFirst branchTold witnessTold witnessVerdict listOf restFails blockedOf orderOf follows witnessThen
+unfolding formFirst branchTold witnessTold groundsVerdict witnessVerdict listOf restFails blockedOf orderOf follows witnessThen
     firstOf afterFirst skipOf andThen stepOf stepBy withRule bookIn bookOf
     readOf bodyOf ifFine recordsOf rulesOf ruleOf lengthOf recordOf bytesOf partOf recordsThen u16At
     fails ended shown shownBy clashing uncoloured blocked mayOn allIn heads put

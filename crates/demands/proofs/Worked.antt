@@ -25,13 +25,13 @@ use Rattle.writer.specs.Branches.{behind, branchBy, branchIn, branch, below, br
 use Rattle.writer.specs.Scan.{courseAt, scan}
 use Rattle.writer.specs.Scan.{met as branchMet}
 use Rattle.writer.specs.PaperNeeds.{wholePaper}
-use Rattle.writer.specs.Write.{lacking, paperWalk, handOver, afterPaperWalk, afterFirstWalk, writeIn, writeRead, writeOf}
+use Rattle.writer.specs.Write.{lacking, failing, paperWalk, handOver, afterPaperWalk, afterFirstWalk, witnessed, writeIn, writeRead, writeOf}
 use Rattle.checker.specs.Steps.{withRule, properList, withList, stepBy, stepOf}
 use Rattle.checker.specs.Branches.{afterStep, branchOf}
 use Rattle.checker.specs.Branches.{andThen as branchThen}
-use Rattle.checker.specs.Witness.{follows, orderOf, blockedOf, restFails, listOf, witnessVerdict}
+use Rattle.checker.specs.Witness.{follows, orderOf, blockedOf, restFails, listOf, witnessVerdict, groundsVerdict}
 use Rattle.checker.specs.Witness.{andThen as witnessThen}
-use Rattle.checker.specs.Check.{witnessTold, branchTold, stepsTold, trailerTold, markedTold, paperOf, checkRead, checkOf}
+use Rattle.checker.specs.Check.{witnessTold, branchTold, stepsTold, stated, trailerTold, markedTold, paperOf, checkRead, checkOf}
 use Rattle.demands.specs.Engine.{ours}
 use Rattle.demands.specs.Worked.{Holds, Each, no-more, _and_, cases}
 
@@ -42,8 +42,8 @@ unfolding Holds every some everyBelow someBelow ascending sameAtom sameRule coun
     rulesFrom rulesIn firstOf unsupported next listable listing ownWitness ifb ifLt ifEq u16At partOf andThen bytesOf recordOf lengthOf
     ruleOf recordsOf rulesOf ifFine bodyOf readOf after eventsIn events rowFrom rowOf writeAt readingMet tried met run toldBy findAlong
     findRead findBy setIn behind branchBy branchIn branch below branchesIn branches courseAt branchMet scan firstWalk paperWalk
-    wholePaper handOver afterPaperWalk afterFirstWalk lacking writeIn writeRead writeOf withRule properList withList stepBy stepOf branchThen
-    afterStep branchOf witnessThen follows orderOf blockedOf restFails listOf witnessVerdict witnessTold branchTold stepsTold trailerTold
+    wholePaper handOver afterPaperWalk afterFirstWalk witnessed lacking failing writeIn writeRead writeOf withRule properList withList stepBy stepOf branchThen
+    afterStep branchOf witnessThen follows orderOf blockedOf restFails listOf witnessVerdict groundsVerdict witnessTold branchTold stepsTold stated trailerTold
     markedTold paperOf checkRead checkOf
 worked =
     refl and refl and refl and refl and refl and refl and refl and refl and refl and

@@ -15,7 +15,7 @@ use Rattle.book.specs.Rows.{EntryWrong, RecordWrong, BytesWrong}
 pub use Rattle.book.specs.Rows.{GoodBook}
 use Rattle.checker.specs.Rows.{LengthGood as PaperLengthGood, MarkGood as PaperMarkGood, TrailerGood as PaperTrailerGood, AtomGood}
 use Rattle.checker.specs.Rows.{FramedPaper, claimOf, startOf, witnessBytes, Comes, Malformed, Unheld}
-use Rattle.checker.specs.Places.{WrongAt}
+use Rattle.checker.specs.Places.{UngroundedAt}
 
 -- "Order: the book first, with 1, 2, 3; then for each record 4, 5 and, byte by byte, 6 before 7; then the last end (4)."
 pub data DamagedBook (s : List ℕ) : ℕ → ℕ → Type 0 where
@@ -40,5 +40,5 @@ pub data DamagedPaper (b : Book) (s : List ℕ) : ℕ → ℕ → Type 0 where
       → DamagedPaper b s 25 at
   -- the steps end before the byte `at`, and that is not the witness
   row-26 : {at : ℕ} → FramedPaper b s → Branch b (claimOf s) start (take at s) → at < startOf s → DamagedPaper b s 26 at
-  row-27 : {at : ℕ} → FramedPaper b s → Branch b (claimOf s) start (take (startOf s) s) → WrongAt b s (startOf s) (witnessBytes s) at
-      → DamagedPaper b s 27 at
+  row-27 : {at : ℕ} → FramedPaper b s → Branch b (claimOf s) start (take (startOf s) s)
+      → UngroundedAt b s (startOf s) (witnessBytes s) (claimOf s) at → DamagedPaper b s 27 at

@@ -6,6 +6,7 @@ pub mod Demand2
 pub mod FindsBy
 pub mod Demand3
 pub mod DemandShown
+pub mod DemandNone
 pub mod Printed
 pub mod Worked
 pub mod Forged
@@ -17,3 +18,4 @@ pub mod Imports
 pub mod Choices
 pub mod UselessImports
 pub mod UselessShown
+pub mod UselessNone

@@ -28,6 +28,7 @@ use Rattle.meaning.specs.Written.{Tables}
 use Rattle.meaning.specs.Books.{Book}
 use Rattle.meaning.specs.Colours.{Pair, onSide, put, start, clashing}
 use Rattle.meaning.specs.declared.kind.Claim.{Claim}
+use Rattle.meaning.specs.declared.kind.Claim.the-variants.{About, NoReading}
 use Rattle.meaning.specs.Paper.{codeOn, codeOff, codeUnfounded, codeSplit, codeEnd}
 use Rattle.meaning.specs.Written.{nothing, pair}
 use Rattle.meaning.specs.Computed.{close}
@@ -191,7 +192,8 @@ clearsUncertain = record { find = findOf; write = clearsBy; check = checkOf }
 
 -- what is accepted, told as of another kind
 unfoldable pub toldAs : Kind → Told Claim → Told Claim
-toldAs q (success k) = accepted q (k .atom)
+toldAs q (success (About p a)) = accepted q a
+toldAs q (success NoReading) = success NoReading
 toldAs q (refusedWith i l) = refusedWith i l
 toldAs q (refusedAt i at) = refusedAt i at
 toldAs q (refused i) = refused i

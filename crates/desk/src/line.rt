@@ -4,6 +4,7 @@ use crate::find::Way;
 use crate::find::answer_find;
 use crate::levelsk::answer_levels;
 use crate::paper_check::answer_check;
+use crate::paper_name::answer_contradict;
 use crate::paper_name::answer_name;
 use crate::readings::answer_readings;
 use crate::settled::answer_settled;
@@ -43,6 +44,9 @@ fn answer_of_book(
     }
     if same(command, b"clear") {
         return answer_name(words, Kind::Clearing, book, room, out);
+    }
+    if same(command, b"contradict") {
+        return answer_contradict(words, book, room, out);
     }
     if same(command, b"check") {
         return answer_check(words, book, room, out);

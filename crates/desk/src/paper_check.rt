@@ -1,4 +1,4 @@
-// `check BOOK PAPER`: answers `certain ATOM`, `clear ATOM` or `refused NUMBER PLACE`.
+// `check BOOK PAPER`: answers `certain ATOM`, `clear ATOM`, `none` or `refused NUMBER PLACE`.
 ghost use Rattle.io.specs.Counts.{Counts};
 use checker::Checked;
 use checker::check;
@@ -22,13 +22,17 @@ fn put_kind(kind: Kind, out: &mut [u8]) -> usize
     }
 }
 
-// The kind of claim that holds, and its atom.
+// The kind of claim that holds, and its atom; or that there is no reading.
 fn put_claim(claim: Claim, out: &mut [u8]) -> usize
     ensures { λ r. ⌜ Counts r (now (out .exit)) ⌝ }
 {
-    let kind = claim.kind;
-    let held = put_kind(kind, out);
-    put_number(claim.atom.0 as u64, out, held)
+    match claim {
+        Claim::About(kind, atom) => {
+            let held = put_kind(kind, out);
+            put_number(atom.0 as u64, out, held)
+        }
+        Claim::NoReading => put_text(b"none", out, 0),
+    }
 }
 
 // Asks the checker, and puts what it answers at the start of out.

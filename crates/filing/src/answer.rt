@@ -1,7 +1,9 @@
-// What naming and clearing answer, in one line.
+// What naming, clearing and contradicting answer, in one line.
 ghost use Rattle.io.specs.Counts.{Counts};
 use crate::arguments::is_to_replace;
+use crate::arguments::paper_place;
 use crate::giving_way::gives_way;
+use meaning::AtomNo;
 use meaning::Claim;
 use meaning::Kind;
 use saving::look_at;
@@ -26,16 +28,16 @@ fn save_at(path: &[u8], book: &[u8], claim: Claim, paper: &[u8]) -> bool {
         return false;
     }
     let n = there.count;
-    if !gives_way(path, book, claim, &old[..n], is_to_replace()) {
+    if !gives_way(path, book, claim, &old[..n], is_to_replace(claim)) {
         return false;
     }
     save_file(path, there.is_file, paper)
 }
 
-// Saves the paper in the file that the third argument names.
+// Saves the paper in the file that its argument names.
 fn save_paper(book: &[u8], claim: Claim, paper: &[u8]) -> bool {
     let mut path = io::buffer();
-    let taken = take_path(3, &mut path);
+    let taken = take_path(paper_place(claim), &mut path);
     if !taken.good {
         return false;
     }
@@ -43,23 +45,31 @@ fn save_paper(book: &[u8], claim: Claim, paper: &[u8]) -> bool {
     save_at(&path[..n], book, claim, paper)
 }
 
-// The claim that the paper proves.
-fn put_claim(claim: Claim, line: &mut [u8]) -> usize
+// What the paper proves of the atom.
+fn put_about(kind: Kind, atom: AtomNo, line: &mut [u8]) -> usize
     ensures { λ r. ⌜ Counts r (now (line .exit)) ⌝ }
 {
-    let kind = claim.kind;
-    let atom = claim.atom.0 as u64;
     match kind {
         Kind::Naming => {
             let held = put_text(b"named: atom ", line, 0);
-            let held = put_number(atom, line, held);
+            let held = put_number(atom.0 as u64, line, held);
             put_text(b" is certain", line, held)
         }
         Kind::Clearing => {
             let held = put_text(b"cleared: atom ", line, 0);
-            let held = put_number(atom, line, held);
+            let held = put_number(atom.0 as u64, line, held);
             put_text(b" is in no reading", line, held)
         }
+    }
+}
+
+// The claim that the paper proves.
+fn put_claim(claim: Claim, line: &mut [u8]) -> usize
+    ensures { λ r. ⌜ Counts r (now (line .exit)) ⌝ }
+{
+    match claim {
+        Claim::About(kind, atom) => put_about(kind, atom, line),
+        Claim::NoReading => put_text(b"shown: the book has no reading", line, 0),
     }
 }
 
@@ -78,15 +88,23 @@ fn tell_paper(book: &[u8], claim: Claim, tries: u32, paper: &[u8]) {
     print(&line[..held]);
 }
 
+// The kind whose words a refusal has; where the claim is about no atom, none of them says a kind.
+fn kind_of(claim: Claim) -> Kind {
+    match claim {
+        Claim::About(kind, _) => kind,
+        Claim::NoReading => Kind::Naming,
+    }
+}
+
 // Asks the engine, and writes what it answers.
 pub fn tell_named(book: &[u8], claim: Claim, limit: u32, paper: &mut [u8]) {
-    let kind = claim.kind;
+    let kind = kind_of(claim);
     let answer = write_claim(book, claim, limit, paper);
     match answer {
         Named::Paper(tries, length) => tell_paper(book, claim, tries, first_bytes(paper, length)),
         Named::Book(why) => explain_book(why, book),
         Named::Fewer(_, rule) => explain(refused_name(answer), kind, rule.0 as u64),
         Named::Stopped(tries) => explain(refused_name(answer), kind, tries as u64),
-        _ => explain(refused_name(answer), kind, claim.atom.0 as u64),
+        _ => explain(refused_name(answer), kind, claim.byte() as u64),
     }
 }

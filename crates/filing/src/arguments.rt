@@ -1,4 +1,6 @@
-// The arguments: BOOKFILE ATOM PAPERFILE [LIMIT] [--replace].
+// The arguments: BOOKFILE ATOM PAPERFILE [LIMIT] [--replace], or without ATOM where the paper is about
+// none.
+use meaning::Claim;
 use saving::is_replacing;
 use talk::Number;
 use talk::read_number;
@@ -6,18 +8,43 @@ use talk::read_number;
 // The tries of each walk where no limit is given.
 const LIMIT: u32 = 1000000;
 
-// Whether the call says `--replace`, behind the three that must be there.
-pub fn is_to_replace() -> bool {
-    is_replacing(4)
+// How many arguments must be there, the program's own name among them.
+pub const WITH_ATOM: usize = 4;
+
+pub const WITHOUT_ATOM: usize = 3;
+
+// Where PAPERFILE stands, in a call for a paper with this claim.
+pub fn paper_place(claim: Claim) -> usize {
+    match claim {
+        Claim::About(_, _) => 3,
+        Claim::NoReading => 2,
+    }
+}
+
+// Whether such a call says `--replace`.
+pub fn is_to_replace(claim: Claim) -> bool {
+    match claim {
+        Claim::About(_, _) => is_replacing(WITH_ATOM),
+        Claim::NoReading => is_replacing(WITHOUT_ATOM),
+    }
+}
+
+// How many arguments stand behind those that must be there.
+fn more_than(must: usize) -> usize {
+    let count = os::arg_count();
+    if count < must {
+        return 0;
+    }
+    count - must
 }
 
 // Whether there are as many arguments as there may be.
-pub fn is_right() -> bool {
-    let count = os::arg_count();
-    if is_to_replace() {
-        return count < 7;
+pub fn is_right(must: usize) -> bool {
+    if os::arg_count() < must {
+        return false;
     }
-    3 < count && count < 6
+    let more = more_than(must);
+    more < 2 || (more == 2 && is_replacing(must))
 }
 
 // The number that an argument says.
@@ -31,14 +58,14 @@ pub fn read_atom() -> Number {
     number_argument(2)
 }
 
-// The limit that the arguments give.
-pub fn read_limit() -> Number {
-    let count = os::arg_count();
-    if count == 4 {
+// The limit that the arguments give, behind those that must be there.
+pub fn read_limit(must: usize) -> Number {
+    let more = more_than(must);
+    if more == 0 {
         return Number::Value(LIMIT);
     }
-    if count == 5 && is_to_replace() {
+    if more == 1 && is_replacing(must) {
         return Number::Value(LIMIT);
     }
-    number_argument(4)
+    number_argument(must)
 }

@@ -40,14 +40,24 @@ fn is_same(kind: Kind, other: Kind) -> bool {
     }
 }
 
+// Whether the two claims are one.
+fn is_same_claim(claim: Claim, other: Claim) -> bool {
+    match claim {
+        Claim::About(kind, atom) => match other {
+            Claim::About(theirs, of) => is_same(kind, theirs) && atom.0 == of.0,
+            Claim::NoReading => false,
+        },
+        Claim::NoReading => match other {
+            Claim::About(_, _) => false,
+            Claim::NoReading => true,
+        },
+    }
+}
+
 // Whether the answer accepts a paper for the claim.
 fn is_for(answer: Checked, claim: Claim) -> bool {
     match answer {
-        Checked::Accepted(other) => {
-            let kind = claim.kind;
-            let theirs = other.kind;
-            is_same(theirs, kind) && other.atom.0 == claim.atom.0
-        }
+        Checked::Accepted(other) => is_same_claim(claim, other),
         _ => false,
     }
 }

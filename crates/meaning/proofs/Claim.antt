@@ -1,7 +1,7 @@
 -- The laws of a claim: what a pair shows holds of every answer set that stands above it, and what holds of an answer set is shown by the
 -- pair that stands for it (blueprint, section 6). The first two laws, and the law that says what a right claim is, are the only ones that
--- go by the kind of claim.
-use mathlib.Core.Path.{_≡_, sym, _∙_}
+-- go by the claim.
+use mathlib.Core.Path.{_≡_, refl, sym, _∙_}
 use mathlib.Core.Logic.{⊎-elim, _↔_}
 use mathlib.Core.Bool.{true, false}
 use borrow.Author.Tests.{not-true}
@@ -9,6 +9,7 @@ use Rattle.meaning.specs.declared.AtomNo.{AtomNo}
 use Rattle.meaning.specs.declared.kind.Kind.{Kind}
 use Rattle.meaning.specs.declared.kind.Kind.the-variants.{Naming, Clearing}
 use Rattle.meaning.specs.declared.kind.Claim.{Claim}
+use Rattle.meaning.specs.declared.kind.Claim.the-variants.{About, NoReading}
 use Rattle.meaning.specs.Sets.{_∈_, _∉_, _⊆_}
 use Rattle.meaning.specs.Books.{Atoms, Book}
 use Rattle.meaning.specs.AnswerSet.{AnswerSet, Throughout, Certain, Clear}
@@ -27,7 +28,8 @@ module _ (b : Book) where
   -- what is shown stays shown as the pair grows; so it depends on the rules of the book only
   pub shown-mono : (k : Claim) {c d : Pair} → Within b c d → shown b k c ≡ true → shown b k d ≡ true
   unfolding shown
-  shown-mono k w e = by-kind-mono (k .kind) w (k .atom) e
+  shown-mono (About q a) w e = by-kind-mono q w a e
+  shown-mono NoReading w e = e
 
   module _ (x : Atoms) (answer : AnswerSet b x) where
     by-kind-meant : (q : Kind) (a : AtomNo) → shownBy q b (colouringOf b x) a ≡ meantBy q (x a)
@@ -38,7 +40,8 @@ module _ (b : Book) where
     -- the pair that stands for an answer set shows just the claims that hold of it
     pub shown-meant : (k : Claim) → shown b k (colouringOf b x) ≡ meant k x
     unfolding shown meant
-    shown-meant k = by-kind-meant (k .kind) (k .atom)
+    shown-meant (About q a) = by-kind-meant q a
+    shown-meant NoReading = refl
 
     pub claim-shown : (k : Claim) → x ∈ meant k → shown b k (colouringOf b x) ≡ true
     claim-shown k m = shown-meant k ∙ m

@@ -31,7 +31,7 @@ use Rattle.meaning.proofs.Lowest.{lowest-one, lowest-none, lowest-total
 use Rattle.meaning.proofs.RulesIn.{rules-in, in-rules, rules-ascending, rules-none}
 use Rattle.meaning.proofs.Support.{support-is}
 use Rattle.meaning.proofs.Answers.{total-answer}
-use Rattle.meaning.proofs.Additions.{ClosedBut, closed-without-starved}
+use Rattle.meaning.proofs.Additions.{closed-without-starved}
 use Rattle.meaning.proofs.Claim.{unshown-fails}
 
 -- ---- which of the five it is
@@ -42,7 +42,7 @@ Chosen t p q l u ends = t ≡ true
 Chosen t p q l u (puts-on r) = p ≡ one r
 Chosen t p q l u (puts-off r) = q ≡ one r
 Chosen t p q l u (drops w) = (0 < length w) × (l ≡ w)
-Chosen t p q l u (splits r) = u ≡ one r
+Chosen t p q l u (splits r) = (t ≡ false) × (p ≡ none) × (q ≡ none) × (l ≡ []) × (u ≡ one r)
 Chosen t p q l u stuck = (t ≡ false) × (p ≡ none) × (q ≡ none) × (l ≡ []) × (u ≡ none)
 
 chosen : (t : Bool) (p q : Pick) (l : List RuleNo) (u : Pick) → Chosen t p q l u (firstOf t p q l u)
@@ -51,7 +51,7 @@ chosen true p q l u = refl
 chosen false (one r) q l u = refl
 chosen false none (one r) l u = refl
 chosen false none none (r ∷ l) u = (omega arith, refl)
-chosen false none none [] (one r) = refl
+chosen false none none [] (one r) = (refl, refl, refl, refl, refl)
 chosen false none none [] none = (refl, refl, refl, refl, refl)
 
 module _ (b : Book) where
@@ -125,7 +125,7 @@ module _ (b : Book) where
     pub next-splits : (r : RuleNo) → next b k c ≡ splits r
         → InBook b r × (r ∈ uncoloured c) × ((q : RuleNo) → q .0 < r .0 → q ∉ uncoloured c)
     unfolding Chosen
-    next-splits r e = lowest-one b _ r (said (splits r) e)
+    next-splits r e = let (n, p, q, l, u) = said (splits r) e in lowest-one b _ r u
 
     pub next-drops : count b ≤ 255 → (l : List RuleNo) → next b k c ≡ drops l → Dropped c l
     unfolding Chosen
@@ -143,12 +143,32 @@ module _ (b : Book) where
           all-of-them = λ r h o p. in-rules b _ r h (unsupported-of c r o p);
         }
 
+    -- where no 41, 42 or 55 is left the pair is closed
+    no-step-closed : count b ≤ 255 → lowest b (less (mayOn b c) (c .on)) ≡ none → lowest b (less (blocked b c) (c .off)) ≡ none
+        → rulesIn b (unsupported b c) ≡ [] → Closed b c
+    no-step-closed fits p q l = closed-without-starved b (record {
+      goes-on = none-new _ _ p;
+      goes-off-blocked = none-new _ _ q;
+      goes-off-unsupported = λ v s r h o.
+          let out = absent (support-is b (c .off) fits .least v (s .good) r h) o in
+          proved (λ n. true-and-false (unsupported-of c r out n) (rules-none b _ l r h));
+    })
+
+    -- so at a split, and there 45 is not allowed
+    pub next-splits-closed : count b ≤ 255 → (r : RuleNo) → next b k c ≡ splits r → Closed b c × (ended b k c ≡ false)
+    unfolding Chosen
+    next-splits-closed fits r e = let (n, p, q, l, u) = said (splits r) e in (no-step-closed fits p q l, n)
+
+    pub next-stuck-none : next b k c ≡ stuck → lowest b (uncoloured c) ≡ none
+    unfolding Chosen
+    next-stuck-none e = let (n, p, q, l, u) = said stuck e in u
+
     pub next-stuck : count b ≤ 255 → next b k c ≡ stuck
         → Closed b c × Total b c × Consistent b c × AnswerSet b (heads b (c .on)) × (heads b (c .on) ∉ meant k)
     unfolding Chosen ended
     next-stuck fits e =
         let (n, p, q, l, u) = said stuck e in
-        let closed = closed-without-starved b (no-more p q l) in
+        let closed = no-step-closed fits p q l in
         let total = lowest-total b c u in
         let consistent = clashing-no b c (neither-left (clashing b c) _ n) in (
           closed,
@@ -157,16 +177,6 @@ module _ (b : Book) where
           total-answer b c closed total consistent,
           unshown-fails b c closed total consistent k (neither-right (clashing b c) _ n),
         )
-      where
-        no-more : lowest b (less (mayOn b c) (c .on)) ≡ none → lowest b (less (blocked b c) (c .off)) ≡ none
-            → rulesIn b (unsupported b c) ≡ [] → ClosedBut b c
-        no-more p q l = record {
-          goes-on = none-new _ _ p;
-          goes-off-blocked = none-new _ _ q;
-          goes-off-unsupported = λ v s r h o.
-              let out = absent (support-is b (c .off) fits .least v (s .good) r h) o in
-              proved (λ n. true-and-false (unsupported-of c r out n) (rules-none b _ l r h));
-        }
 
     -- where the claim holds throughout, the engine is never stuck
     pub next-certain : count b ≤ 255 → Throughout b (meant k) → next b k c ≡ stuck → ⊥

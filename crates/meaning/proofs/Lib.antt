@@ -38,6 +38,9 @@ pub mod Papers
 pub mod Alternates
 pub mod WellFounded
 pub mod Engine
+pub mod Alike
+pub mod OnWay
+pub mod Contrary
 pub mod Listing
 pub mod PaperCases
 pub mod Parts

@@ -1,9 +1,10 @@
 -- Small facts by computation, so that a reader sees the definitions work: the engine's first steps on three worked books of document 01,
--- a witness, and the two papers printed there.
+-- a witness, the two papers printed there, and the paper that "0 if not 0" has no reading.
 use mathlib.Core.Path.{_≡_, refl}
 use mathlib.Core.Logic.{⊎-elim}
 use mathlib.Core.Bool.{true, not, _||_}
 use mathlib.Core.List.{List, [], _∷_, _++_, map}
+use Prim.{tt}
 use Prim.Native.Nat.{ℕ}
 use native.Mathlib.Omega.{arith}
 use lib.Dec.{ltb}
@@ -13,8 +14,9 @@ use Rattle.meaning.specs.Sets.{every, some, everyBelow, someBelow}
 use Rattle.meaning.specs.Books.{Atoms, atomNo, ruleNo, sameAtom, sameRule, Rule, Book, count, rule, among, everyRule, someRule}
 use Rattle.meaning.specs.AnswerSet.{generates, generating}
 use Rattle.meaning.specs.Colours.{onSide, put, start, heads, allIn, mayOn, blocked, uncoloured, clashing}
+use Rattle.meaning.specs.declared.kind.Claim.the-variants.{NoReading}
 use Rattle.meaning.specs.Claim.{named, claimed, markOf, mark, shownBy, shown, ended}
-use Rattle.meaning.specs.Paper.{step-41, step-53, step-45, grounded, once, fails, Witness, trailer, Keeps}
+use Rattle.meaning.specs.Paper.{step-41, step-42, step-53, step-45, grounded, once, fails, Witness, trailer, Stated, Grounds, Keeps}
 use Rattle.meaning.specs.Written.{of, addFrom, added}
 use Rattle.meaning.specs.Computed.{iterate, upheld, supportMore, support}
 use Rattle.meaning.specs.Lowest.{onPick, oneOr, lowestFrom, lowest, listedIf, rulesFrom, rulesIn}
@@ -42,6 +44,10 @@ either-way = record {
   rules = ruleOf 2 (0 ∷ []) [] ∷ (ruleOf 2 (1 ∷ []) [] ∷ (ruleOf 0 [] (1 ∷ []) ∷ (ruleOf 1 [] (0 ∷ []) ∷ [])));
 }
 
+-- "0 if not 0"
+abbrev contrary : Book
+contrary = record { atoms = 1; rules = ruleOf 0 [] (0 ∷ []) ∷ [] }
+
 -- "{0,2}"
 abbrev one-way : Atoms
 one-way a = sameAtom a (atomNo 0) || sameAtom a (atomNo 2)
@@ -65,7 +71,7 @@ unfolding witnessOf listing listable onPick lowest lowestFrom oneOr generating g
     sameAtom sameRule
 first-witness = refl
 
--- ---- two worked papers
+-- ---- three worked papers
 
 -- a witness by tests that can be computed
 module _ (b : Book) (w : List RuleNo) where
@@ -85,13 +91,13 @@ module _ (b : Book) (w : List RuleNo) where
 
 -- "41 00 45 | 00 | 00 01 03 00 50 46"
 pub fact-paper : Keeps fact (named (atomNo 0)) (0x41 ∷ (0 ∷ (0x45 ∷ (0 ∷ (0 ∷ (1 ∷ (3 ∷ (0 ∷ (0x50 ∷ (0x46 ∷ []))))))))))
-unfolding trailer claimed mark markOf ended clashing shown shownBy heads mayOn put grounded once fails everyRule someRule everyBelow someBelow every some
+unfolding trailer claimed mark markOf Stated Grounds ended clashing shown shownBy heads mayOn put grounded once fails everyRule someRule everyBelow someBelow every some
     count rule sameAtom sameRule
 fact-paper = record {
   steps = 0x41 ∷ (0 ∷ (0x45 ∷ []));
   witness = ruleNo 0 ∷ [];
   bytes = refl;
-  atom-in-book = omega arith;
+  stated = omega arith;
   branch = step-41 (ruleNo 0) (omega arith) refl (step-45 refl);
   grounds = tested fact (ruleNo 0 ∷ []) refl refl refl refl refl;
 }
@@ -103,16 +109,32 @@ either-way-steps =
 
 pub either-way-paper : Keeps either-way (named (atomNo 2))
     (either-way-steps ++ (2 ∷ (0 ∷ (2 ∷ (2 ∷ (0x10 ∷ (0 ∷ (0x50 ∷ (0x46 ∷ [])))))))))
-unfolding trailer claimed mark markOf ended clashing shown shownBy heads allIn mayOn uncoloured put grounded once fails everyRule someRule everyBelow
+unfolding trailer claimed mark markOf Stated Grounds ended clashing shown shownBy heads allIn mayOn uncoloured put grounded once fails everyRule someRule everyBelow
     someBelow every some count rule sameAtom sameRule
 either-way-paper = record {
   steps = either-way-steps;
   witness = ruleNo 2 ∷ (ruleNo 0 ∷ []);
   bytes = refl;
-  atom-in-book = omega arith;
+  stated = omega arith;
   branch =
       step-53 (ruleNo 0) (omega arith) refl (step-45 refl) (step-53 (ruleNo 1) (omega arith) refl (step-45 refl)
       (step-53 (ruleNo 2) (omega arith) refl (step-41 (ruleNo 0) (omega arith) refl (step-45 refl))
       (step-41 (ruleNo 3) (omega arith) refl (step-41 (ruleNo 1) (omega arith) refl (step-45 refl)))));
   grounds = tested either-way (ruleNo 2 ∷ (ruleNo 0 ∷ [])) refl refl refl refl refl;
+}
+
+-- "53 00 42 00 45 41 00 45 | | 00 00 08 00 50 4e": with the rule on its own head blocks it; with it off nothing does
+pub contrary-paper : Keeps contrary NoReading
+    (0x53 ∷ (0 ∷ (0x42 ∷ (0 ∷ (0x45 ∷ (0x41 ∷ (0 ∷ (0x45 ∷ (0 ∷ (0 ∷ (8 ∷ (0 ∷ (0x50 ∷ (0x4e ∷ []))))))))))))))
+unfolding trailer claimed mark Stated Grounds ended clashing heads allIn mayOn blocked uncoloured put everyRule someRule everyBelow someBelow
+    every some count rule sameAtom sameRule
+contrary-paper = record {
+  steps = 0x53 ∷ (0 ∷ (0x42 ∷ (0 ∷ (0x45 ∷ (0x41 ∷ (0 ∷ (0x45 ∷ [])))))));
+  witness = [];
+  bytes = refl;
+  stated = tt;
+  branch =
+      step-53 (ruleNo 0) (omega arith) refl (step-42 (ruleNo 0) (omega arith) refl (step-45 refl))
+      (step-41 (ruleNo 0) (omega arith) refl (step-45 refl));
+  grounds = refl;
 }

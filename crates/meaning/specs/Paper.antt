@@ -8,6 +8,9 @@
 --   fails x r            the rule "has a positive atom outside X or a negative atom in X"
 --   Witness b w          the list w meets all that is printed of the witness, with X the set of its heads
 --   trailer k w start    "claimed atom, count w of witness rules, start of the witness (two bytes), then 50 46"
+--   paperWith k steps w  the paper of these steps and this witness
+--   Stated b k           the claim can be made of the book: its atom is below A
+--   Grounds b k w        what the claim asks of the list w: to be a witness, or to be empty where the claim is that there is no answer set
 --   Keeps b k paper      the bytes are steps, witness and trailer, and keep the printed rules
 use mathlib.Core.Path.{_≡_}
 use mathlib.Core.Bool.{Bool, true, false, not, _&&_, _||_}
@@ -19,6 +22,7 @@ use Rattle.meaning.specs.Sets.{_∈_, _∉_, every, some, ascending}
 use Rattle.meaning.specs.Books.{Atoms, Rules, among, Rule, Book, rule, InBook}
 use Rattle.meaning.specs.Colours.{Pair, onSide, offSide, put, plus, start, heads, allIn, mayOn, blocked, uncoloured}
 use Rattle.meaning.specs.declared.kind.Claim.{Claim}
+use Rattle.meaning.specs.declared.kind.Claim.the-variants.{About, NoReading}
 use Rattle.meaning.specs.Claim.{claimed, mark, ended}
 
 abbrev pub numbers : List RuleNo → List ℕ
@@ -84,12 +88,24 @@ pub record Witness (b : Book) (w : List RuleNo) : Type 0 where
   pub unlisted : (r : RuleNo) → InBook b r → r ∉ among w → fails (heads b (among w)) (rule b r) ≡ true
 
 unfoldable pub trailer : Claim → ℕ → ℕ → List ℕ
-trailer k w from = claimed k .0 ∷ (w ∷ (from % 256 ∷ (from / 256 ∷ mark k)))
+trailer k w from = claimed k ∷ (w ∷ (from % 256 ∷ (from / 256 ∷ mark k)))
+
+-- "Steps from byte 0, then the witness, then a trailer"
+abbrev pub paperWith : Claim → List ℕ → List RuleNo → List ℕ
+paperWith k steps w = steps ++ (numbers w ++ trailer k (length w) (length steps))
+
+unfoldable pub Stated : Book → Claim → Type 0
+Stated b (About q a) = a .0 < b .atoms
+Stated b NoReading = Unit {0}
+
+unfoldable pub Grounds : Book → Claim → List RuleNo → Type 0
+Grounds b (About q a) w = Witness b w
+Grounds b NoReading w = w ≡ []
 
 pub record Keeps (b : Book) (k : Claim) (paper : List ℕ) : Type 0 where
   pub steps : List ℕ
   pub witness : List RuleNo
-  pub bytes : paper ≡ steps ++ (numbers witness ++ trailer k (length witness) (length steps))
-  pub atom-in-book : claimed k .0 < b .atoms
+  pub bytes : paper ≡ paperWith k steps witness
+  pub stated : Stated b k
   pub branch : Branch b k start steps
-  pub grounds : Witness b witness
+  pub grounds : Grounds b k witness

@@ -15,6 +15,7 @@ pub use kind::Claim;
 pub use kind::Kind;
 pub use kind::Marked;
 pub use kind::NAMING_MARK;
+pub use kind::NO_READING_MARK;
 pub use lent::has;
 pub use lent::join;
 pub use lent::next_in;

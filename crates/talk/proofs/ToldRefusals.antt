@@ -1,10 +1,10 @@
--- The numbers and places that people and software are told are those that the answers of checking, naming and clearing tell.
+-- The numbers and places that people and software are told are those that the answers of checking and of a call for a paper tell.
 use mathlib.Core.Path.{_≡_, refl}
 use Rattle.meaning.specs.Told.{Told, success, refusedWith, refusedAt, refused}
 use Rattle.checker.specs.declared.answer.Checked.{Checked}
 use Rattle.checker.specs.declared.answer.Checked.the-variants.{Accepted, Book, Length, Mark, Trailer, Atom, Form, Fails, Gap, Witness}
 use Rattle.writer.specs.declared.answer.Named.{Named}
-use Rattle.writer.specs.declared.answer.Named.the-variants.{Paper, Fewer, Stopped, NotCertain, NotClear, NoAtom, TooLong}
+use Rattle.writer.specs.declared.answer.Named.the-variants.{Paper, Fewer, Stopped, NotCertain, NotClear, HasReading, NoAtom, TooLong}
 use Rattle.writer.specs.declared.answer.Named.the-variants.{Book as BadBook}
 use Rattle.checker.specs.Numbers as Checking
 use Rattle.writer.specs.Write as Naming
@@ -38,5 +38,6 @@ name-refusal-told (Stopped limit) = refl
 name-refusal-told (BadBook f) = refl
 name-refusal-told NotCertain = refl
 name-refusal-told NotClear = refl
+name-refusal-told HasReading = refl
 name-refusal-told NoAtom = refl
 name-refusal-told TooLong = refl

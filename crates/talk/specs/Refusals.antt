@@ -1,10 +1,10 @@
--- The number and the place of what checking, naming and clearing refuse, case by case; what refuses nothing has number 0. That they are those which
+-- The number and the place of what checking and a call for a paper refuse, case by case; what refuses nothing has number 0. That they are those which
 -- the answers tell is a law (proofs/ToldRefusals.antt).
 use Rattle.book.specs.Numbers.{numberOf, placeOf}
 use Rattle.checker.specs.declared.answer.Checked.{Checked}
 use Rattle.checker.specs.declared.answer.Checked.the-variants.{Accepted, Book, Length, Mark, Trailer, Atom, Form, Fails, Gap, Witness}
 use Rattle.writer.specs.declared.answer.Named.{Named}
-use Rattle.writer.specs.declared.answer.Named.the-variants.{Paper, Fewer, Stopped, NotCertain, NotClear, NoAtom, TooLong}
+use Rattle.writer.specs.declared.answer.Named.the-variants.{Paper, Fewer, Stopped, NotCertain, NotClear, HasReading, NoAtom, TooLong}
 use Rattle.writer.specs.declared.answer.Named.the-variants.{Book as BadBook}
 use Rattle.talk.specs.declared.refusals.Refused.{Refused}
 use Rattle.talk.specs.declared.refusals.Refused.the-variants.{At, Plain}
@@ -28,5 +28,6 @@ ofName (Stopped limit) = Plain 9
 ofName (BadBook f) = At (numberOf f) (placeOf f)
 ofName NotCertain = Plain 12
 ofName NotClear = Plain 18
+ofName HasReading = Plain 38
 ofName NoAtom = Plain 13
 ofName TooLong = Plain 14

@@ -51,6 +51,7 @@ pub fn refused_name(answer: Named) -> Refused
         Named::NotCertain => Refused::Plain(12),
         Named::NotClear => Refused::Plain(18),
         Named::NoAtom => Refused::Plain(13),
+        Named::HasReading => Refused::Plain(38),
         Named::TooLong => Refused::Plain(14),
     }
 }

@@ -50,7 +50,7 @@ fn put_text_sentence(number: u8, line: &mut [u8], held: usize) -> usize
     }
 }
 
-// What is wrong with a paper, or with the call for one of this kind: 9 to 27. `about` is the atom,
+// What is wrong with a paper, or with the call for one of this kind: 9 to 27, and 38. `about` is the atom,
 // the rule or the number of tries that the sentence speaks of.
 fn put_paper_sentence(number: u8, kind: Kind, about: u64, line: &mut [u8], held: usize) -> usize
     requires { ⌜ Counts held (now line) ⌝ }
@@ -58,9 +58,10 @@ fn put_paper_sentence(number: u8, kind: Kind, about: u64, line: &mut [u8], held:
 {
     let nothing = b" tries: this says nothing about anyone";
     let long = b"the paper has over 60,000 bytes: this says nothing about anyone";
-    let mark = b"the paper's last two bytes are neither 50 46 nor 50 43";
+    let mark = b"the paper's last two bytes are none of 50 46, 50 43 and 50 4e";
     let form = b"the step is malformed, or it passes into the witness";
     let gap = b"bytes stand between the last step and the witness";
+    let reading = b"the book has a reading: it does not contradict itself";
     match number {
         9 => put_about(b"stopped after ", about, nothing, line, held),
         11 => put_no_reading(kind, about, line, held),
@@ -92,6 +93,7 @@ fn put_paper_sentence(number: u8, kind: Kind, about: u64, line: &mut [u8], held:
         25 => put_text(b"the step's condition does not hold", line, held),
         26 => put_text(gap, line, held),
         27 => put_text(b"the witness is wrong", line, held),
+        38 => put_text(reading, line, held),
         _ => put_text_sentence(number, line, held),
     }
 }

@@ -1,6 +1,7 @@
 -- Worked books of document 01, named through their bytes, by computation: the two papers printed there byte for byte, the limit, an atom
 -- that is in one reading only, a book without a reading, an atom that the book does not have, and a buffer that is too short. Then some of
--- them cleared: an atom that is in one reading only is neither named nor cleared.
+-- them cleared: an atom that is in one reading only is neither named nor cleared. Then papers that a book has no reading, the limits that
+-- they need, and books that have one.
 use mathlib.Core.Path.{_≡_, refl}
 use mathlib.Core.List.{List, [], _∷_, _++_}
 use Prim.Native.Nat.{ℕ}
@@ -27,7 +28,8 @@ use Rattle.writer.specs.Branches.{behind, branchBy, branchIn, branch, be
 use Rattle.writer.specs.Scan.{courseAt, met, scan}
 use Rattle.writer.specs.PaperNeeds.{wholePaper}
 use Rattle.writer.specs.Write.{paper, paperWalk, handOver, afterPaperWalk}
-use Rattle.writer.specs.Write.{lacking, afterFirstWalk, writeIn, writeRead, writeOf, nameOf, clearOf}
+use Rattle.writer.specs.Write.{lacking, failing, afterFirstWalk, witnessed, unwitnessed, writeIn, writeRead, writeOf}
+use Rattle.writer.specs.Write.{nameOf, clearOf, contradictOf}
 
 -- "Fact 0: 00 00 00 | 00 00 | 01 01 03 00 52 42"
 abbrev fact : List ℕ
@@ -63,6 +65,29 @@ circle = 0 ∷ 1 ∷ 0 ∷ 1 ∷ 1 ∷ 1 ∷ 0 ∷ 0 ∷ 0 ∷ 0 ∷ 4 ∷ 0 ∷
 abbrev circle-paper : List ℕ
 circle-paper = 0x55 ∷ 2 ∷ 0 ∷ 1 ∷ 0x45 ∷ 0 ∷ 0 ∷ 5 ∷ 0 ∷ 0x50 ∷ 0x43 ∷ []
 
+-- "0 if not 0": 53 00 42 00 45 41 00 45 | | 00 00 08 00 50 4e
+abbrev contrary-paper : List ℕ
+contrary-paper = 0x53 ∷ 0 ∷ 0x42 ∷ 0 ∷ 0x45 ∷ 0x41 ∷ 0 ∷ 0x45 ∷ 0 ∷ 0 ∷ 8 ∷ 0 ∷ 0x50 ∷ 0x4e ∷ []
+
+-- "0; 1 if 0 and not 1": 41 00 53 01 42 01 45 41 01 45 | | 00 00 0a 00 50 4e
+abbrev undone : List ℕ
+undone = 0 ∷ 0 ∷ 0 ∷ 1 ∷ 1 ∷ 1 ∷ 0 ∷ 1 ∷ 0 ∷ 0 ∷ 3 ∷ 0 ∷ 2 ∷ 2 ∷ 8 ∷ 0 ∷ 0x52 ∷ 0x42 ∷ []
+
+abbrev undone-paper : List ℕ
+undone-paper = 0x41 ∷ 0 ∷ 0x53 ∷ 1 ∷ 0x42 ∷ 1 ∷ 0x45 ∷ 0x41 ∷ 1 ∷ 0x45 ∷ 0 ∷ 0 ∷ 10 ∷ 0 ∷ 0x50 ∷ 0x4e ∷ []
+
+-- "0 if 0; 0 if not 0": 53 00 42 01 55 01 00 45 53 01 41 00 45 41 01 45 | | 00 00 10 00 50 4e
+abbrev propped : List ℕ
+propped = 0 ∷ 1 ∷ 0 ∷ 0 ∷ 0 ∷ 0 ∷ 1 ∷ 0 ∷ 0 ∷ 0 ∷ 4 ∷ 0 ∷ 1 ∷ 2 ∷ 8 ∷ 0 ∷ 0x52 ∷ 0x42 ∷ []
+
+abbrev propped-paper : List ℕ
+propped-paper =
+    0x53 ∷ 0 ∷ 0x42 ∷ 1 ∷ 0x55 ∷ 1 ∷ 0 ∷ 0x45 ∷ 0x53 ∷ 1 ∷ 0x41 ∷ 0 ∷ 0x45 ∷ 0x41 ∷ 1 ∷ 0x45 ∷ 0 ∷ 0 ∷ 0x10 ∷ 0 ∷ 0x50 ∷ 0x4e ∷ []
+
+-- the empty book
+abbrev empty : List ℕ
+empty = 0 ∷ 0 ∷ 0 ∷ 0 ∷ 0x52 ∷ 0x42 ∷ []
+
 -- a buffer of n bytes, each 7
 abbrev sevens : ℕ → List ℕ
 sevens n = replicate n 7
@@ -79,11 +104,45 @@ pub worked :
     × (clearOf fact (atomNo 0) 1000 (sevens 12) ≡ record { told = refused 18; buffer = sevens 12 })
     × (clearOf contrary (atomNo 0) 1000 (sevens 12) ≡ record { told = fewer 3 0 0; buffer = sevens 12 })
     × (clearOf choice (atomNo 0) 1000 (sevens 12) ≡ record { told = refused 18; buffer = sevens 12 })
+    × (contradictOf contrary 1000 (sevens 15) ≡ record { told = paper 3 14; buffer = contrary-paper ++ sevens 1 })
+    × (contradictOf contrary 2 (sevens 15) ≡ record { told = stopped 2; buffer = sevens 15 })
+    × (contradictOf contrary 1000 (sevens 13) ≡ record { told = refused 14; buffer = sevens 13 })
+    × (contradictOf undone 1000 (sevens 16) ≡ record { told = paper 3 16; buffer = undone-paper })
+    × (contradictOf propped 1000 (sevens 22) ≡ record { told = paper 5 22; buffer = propped-paper })
+    × (contradictOf empty 1000 (sevens 6) ≡ record { told = refused 38; buffer = sevens 6 })
+    × (contradictOf empty 0 (sevens 6) ≡ record { told = stopped 0; buffer = sevens 6 })
+    × (contradictOf fact 1000 (sevens 6) ≡ record { told = refused 38; buffer = sevens 6 })
+    × (contradictOf fact 0 (sevens 6) ≡ record { told = stopped 0; buffer = sevens 6 })
+    × (contradictOf choice 1000 (sevens 6) ≡ record { told = refused 38; buffer = sevens 6 })
+    × (contradictOf choice 1 (sevens 6) ≡ record { told = stopped 1; buffer = sevens 6 })
 unfolding every some everyBelow someBelow sameAtom sameRule count rule everyRule someRule generates generating put heads allIn
     mayOn blocked starved clashing uncoloured claimed markOf mark shownBy shown ended trailer of addFrom added iterate upheld supportMore support
     goesOff closeMore marked stamped close onPick oneOr lowestFrom lowest clashed listedIf rulesFrom rulesIn
     firstOf unsupported next listable listing witnessOf ifb ifLt ifEq u16At partOf andThen bytesOf recordOf lengthOf ruleOf
     recordsOf rulesOf ifFine bodyOf readOf after eventsIn events rowFrom rowOf writeAt readingMet tried eventMet run setIn
     behind branchBy branchIn branch below branchesIn branches courseAt met scan firstWalk paperWalk wholePaper handOver
-    afterPaperWalk afterFirstWalk writeIn writeRead writeOf lacking
-worked = (refl, refl, refl, refl, refl, refl, refl, refl, refl, refl, refl)
+    afterPaperWalk afterFirstWalk witnessed unwitnessed writeIn writeRead writeOf lacking failing
+worked = (
+  refl,
+  refl,
+  refl,
+  refl,
+  refl,
+  refl,
+  refl,
+  refl,
+  refl,
+  refl,
+  refl,
+  refl,
+  refl,
+  refl,
+  refl,
+  refl,
+  refl,
+  refl,
+  refl,
+  refl,
+  refl,
+  refl,
+)

@@ -7,13 +7,15 @@ use mathlib.Core.List.{List, [], _∷_}
 use Prim.Native.Nat.{ℕ, _<_}
 use native.Mathlib.Omega.{arith}
 use lib.ListN.{length, getD}
+use Rattle.meaning.specs.declared.AtomNo.{AtomNo}
 use Rattle.meaning.specs.declared.RuleNo.{RuleNo}
 use Rattle.meaning.specs.Books.{Rules, Book, count, InBook}
 use Rattle.meaning.specs.Colours.{Pair, heads, allIn, mayOn, blocked, uncoloured, clashing}
 use Rattle.meaning.specs.declared.kind.Kind.{Kind}
 use Rattle.meaning.specs.declared.kind.Kind.the-variants.{Naming, Clearing}
 use Rattle.meaning.specs.declared.kind.Claim.{Claim}
-use Rattle.meaning.specs.Claim.{claimed, shownBy, shown, ended}
+use Rattle.meaning.specs.declared.kind.Claim.the-variants.{About, NoReading}
+use Rattle.meaning.specs.Claim.{claim, claimed, shownBy, shown, ended}
 use Rattle.meaning.specs.Written.{of, lent}
 use Rattle.meaning.specs.Lowest.{Pick, none, one, lowestFrom, lowest, inBoth, clashed, rulesIn}
 use Rattle.meaning.specs.Engine.{Next, ends, puts-on, puts-off, drops, splits, stuck, less, firstOf, unsupported, next}
@@ -78,15 +80,25 @@ module _ (b : Book) {n : ℕ} (e : count b ≡ n) (c : Pair) {x : Picked} (f : p
   unfolding clashed
   clash-none q = sym (clashed-none b c .0 (sym (picked-none (lowest-in b e _ f) q)))
 
--- place i of a table, which is that of the claimed atom
-module _ (k : Claim) (headed lost : List Bool) (i : ℕ) (e : i ≡ k .atom .0) where
-  pub tabled-naming : k .kind ≡ Naming → getD headed i false ≡ tabled k headed lost
-  unfolding tabled tabledBy atomsIn
-  tabled-naming q = rw (q, e)
+-- the number of the claimed atom is the claim's byte
+pub claimed-at : (k : Claim) {q : Kind} {a : AtomNo} → k ≡ claim q a → {i : ℕ} → i ≡ a .0 → claimed k < 255 → i < 255
+unfolding claimed
+claimed-at k c e h = rw e (rw c at h)
 
-  pub tabled-clearing : k .kind ≡ Clearing → getD lost i false ≡ tabled k headed lost
-  unfolding tabled tabledBy atomsIn
-  tabled-clearing q = rw (q, e)
+module _ (k : Claim) (headed lost : List Bool) where
+  -- place i of a table, which is that of the claimed atom
+  module _ {q : Kind} {a : AtomNo} (c : k ≡ claim q a) (i : ℕ) (e : i ≡ a .0) where
+    pub tabled-naming : q ≡ Naming → getD headed i false ≡ tabled k headed lost
+    unfolding tabled tabledBy atomsIn
+    tabled-naming f = rw (c, f, e)
+
+    pub tabled-clearing : q ≡ Clearing → getD lost i false ≡ tabled k headed lost
+    unfolding tabled tabledBy atomsIn
+    tabled-clearing f = rw (c, f, e)
+
+  pub tabled-no-reading : k ≡ NoReading → false ≡ tabled k headed lost
+  unfolding tabled
+  tabled-no-reading c = rw c
 
 module _ (b : Book) (k : Claim) (on off : List Bool) where
   pub ended-clash : clashing b (lent on off) ≡ true → ended b k (lent on off) ≡ true
@@ -95,14 +107,15 @@ module _ (b : Book) (k : Claim) (on off : List Bool) where
 
   -- what the tables say of the claim
   module _ (headed lost : List Bool) (f : headed ≡ atomTable (heads b (of on))) (g : lost ≡ atomTable (allIn b (of off)))
-      (small : claimed k .0 < 255) {v : Bool} (e : v ≡ tabled k headed lost) where
+      (small : claimed k < 255) {v : Bool} (e : v ≡ tabled k headed lost) where
     tabled-shown : v ≡ shown b k (lent on off)
     unfolding tabled tabledBy shown shownBy claimed
-    tabled-shown = e ∙ by-kind (k .kind)
+    tabled-shown = e ∙ by-claim k small
       where
-        by-kind : (q : Kind) → tabledBy q headed lost (k .atom) ≡ shownBy q b (lent on off) (k .atom)
-        by-kind Naming = rw f (table-in (heads b (of on)) (k .atom) small)
-        by-kind Clearing = rw g (table-in (allIn b (of off)) (k .atom) small)
+        by-claim : (k : Claim) → claimed k < 255 → tabled k headed lost ≡ shown b k (lent on off)
+        by-claim (About Naming a) h = rw f (table-in (heads b (of on)) a h)
+        by-claim (About Clearing a) h = rw g (table-in (allIn b (of off)) a h)
+        by-claim NoReading h = refl
 
     pub ended-shown : v ≡ true → ended b k (lent on off) ≡ true
     unfolding ended

@@ -7,8 +7,8 @@ use native.Mathlib.Numerals.{add-one}
 use native.Mathlib.Omega.{arith}
 use lib.ListN.{getD, set, length-append, length-set}
 use lib.Seq.{take-suc-set}
-use Rattle.meaning.specs.declared.kind.Kind.{Kind}
-use Rattle.meaning.specs.Claim.{markOf}
+use Rattle.meaning.specs.declared.kind.Claim.{Claim}
+use Rattle.meaning.specs.Claim.{mark}
 use Rattle.meaning.proofs.Marks.{mark-bytes}
 use Rattle.meaning.specs.Paper.{paperBytes}
 use Rattle.writer.specs.Draft.{Stands, whole, passed, Writes}
@@ -45,6 +45,6 @@ pub writes-then : {l m : List ℕ} {i j n : ℕ} {a b c : List ℕ} → Writes l
 writes-then {l} {m} v w = record { behind = λ k s. rw append-assoc at (w .behind (k ++ l) (v .behind k s)) }
 
 -- a mark, written byte by byte
-pub writes-mark : (q : Kind) {m : List ℕ} {i j n : ℕ} {a b c : List ℕ} → m ≡ markOf q → Writes (getD m 0 0 ∷ []) i a j b
-    → Writes (getD m 1 0 ∷ []) j b n c → Writes (markOf q) i a n c
-writes-mark q e v w = rw (mark-bytes q) at (rw e at (writes-then v w))
+pub writes-mark : (k : Claim) {m : List ℕ} {i j n : ℕ} {a b c : List ℕ} → m ≡ mark k → Writes (getD m 0 0 ∷ []) i a j b
+    → Writes (getD m 1 0 ∷ []) j b n c → Writes (mark k) i a n c
+writes-mark k e v w = rw (mark-bytes k) at (rw e at (writes-then v w))

@@ -1,22 +1,24 @@
 -- The draft handed over (specs/Write, handOver; document 01, "14: engine's paper longer than the buffer or 60,000"): a copy byte by byte,
 -- and what the draft's length says of the paper's. And the paper put together: the steps that stand in the draft, the witness, the trailer.
-use mathlib.Core.Path.{_≡_, sym}
-use mathlib.Core.List.{List, _++_, append-assoc}
+use mathlib.Core.Path.{_≡_, refl, sym}
+use mathlib.Core.List.{List, [], _++_, append-assoc}
 use Prim.Native.Nat.{ℕ, _+_, _≤_, _<_}
 use native.Mathlib.Nat.{zero-add}
 use native.Mathlib.Numerals.{add-one}
 use native.Mathlib.Omega.{arith}
 use lib.ListN.{length, getD, take, drop, set, length-append}
 use lib.Seq.{paste-suc, length-take-le}
+use Rattle.meaning.specs.declared.RuleNo.{RuleNo}
 use Rattle.meaning.specs.Books.{Atoms, Book}
 use Rattle.meaning.specs.declared.kind.Claim.{Claim}
-use Rattle.meaning.specs.Paper.{numbers, trailer, paperBytes}
+use Rattle.meaning.specs.Paper.{numbers, trailer, paperWith, paperBytes}
 use Rattle.meaning.specs.Engine.{witnessOf}
 use Rattle.meaning.specs.Told.{refused}
 use Rattle.meaning.specs.Buffers.{writeAt}
 use Rattle.writer.specs.PaperNeeds.{wholePaper}
 use Rattle.writer.specs.Write.{paper, handOver}
 use Rattle.writer.specs.Draft.{Stands, whole, passed, Writes}
+use Rattle.writer.proofs.Drafts.{writes-nil}
 use Rattle.writer.proofs.Stages.{only, hand-no-room, hand-long, hand-over}
 
 -- ---- a copy
@@ -61,14 +63,23 @@ module _ (tries : ℕ) (buffer : List ℕ) {w : List ℕ} {n : ℕ} {draft : Lis
 
 -- ---- the paper put together
 
-module _ (b : Book) (k : Claim) (x : Atoms) (steps : List ℕ) {from m n count : ℕ} {before draft out : List ℕ} where
-  pub paper-whole : Stands steps from before → count ≡ length (witnessOf b x)
+module _ (k : Claim) (steps : List ℕ) (w : List RuleNo) {from m n count : ℕ} {before draft out : List ℕ} where
+  paper-listed : Stands steps from before → count ≡ length w → Writes (numbers w) from before m draft
+      → Writes (trailer k count from) m draft n out → Stands (paperWith k steps w) n out
+  paper-listed (whole g e h f) c l v = rw (← c, ← e, ← append-assoc) (v .behind _ (l .behind steps (whole g e h f)))
+  paper-listed (passed g e h) c l v =
+      passed (stands-long s) (stands-counted s (simp length-append (omega arith))) (simp length-append (omega arith))
+    where
+      s : Stands ((steps ++ numbers w) ++ trailer k count from) n out
+      s = v .behind _ (l .behind steps (passed g e h))
+
+module _ (k : Claim) (steps : List ℕ) {from n : ℕ} {before out : List ℕ} (s : Stands steps from before) where
+  pub paper-whole : (b : Book) (x : Atoms) {m count : ℕ} {draft : List ℕ} → count ≡ length (witnessOf b x)
       → Writes (numbers (witnessOf b x)) from before m draft → Writes (trailer k count from) m draft n out
       → Stands (wholePaper b k steps x) n out
   unfolding wholePaper
-  paper-whole (whole g e h f) c w v = rw (← c, ← e, ← append-assoc) (v .behind _ (w .behind steps (whole g e h f)))
-  paper-whole (passed g e h) c w v =
-      passed (stands-long s) (stands-counted s (simp length-append (omega arith))) (simp length-append (omega arith))
-    where
-      s : Stands ((steps ++ numbers (witnessOf b x)) ++ trailer k count from) n out
-      s = v .behind _ (w .behind steps (passed g e h))
+  paper-whole b x c l v = paper-listed k steps (witnessOf b x) s c l v
+
+  -- no witness: the trailer stands just behind the steps
+  pub paper-bare : Writes (trailer k 0 from) from before n out → Stands (paperWith k steps []) n out
+  paper-bare v = paper-listed k steps [] s refl (writes-nil from before) v

@@ -6,6 +6,9 @@ pub mod Papers
 pub mod Stages
 pub mod Ways
 pub mod Claiming
+pub mod Alongside
+pub mod SameWalk
+pub mod Contradicting
 pub mod Told
 pub mod Cases
 pub mod Drafts

@@ -4,15 +4,19 @@ use mathlib.Core.Path.{_≡_, refl, sym, _∙_}
 use mathlib.Core.Logic.{⊎-elim}
 use mathlib.Core.Bool.{true, false, _&&_}
 use mathlib.Core.List.{List, [], _∷_, _++_, append-assoc}
+use Prim.{tt}
 use Prim.Native.Nat.{ℕ, _≤_, _<_}
 use Rattle.meaning.specs.declared.RuleNo.{RuleNo}
 use Rattle.meaning.specs.Sets.{_∈_, _∉_, every}
 use Rattle.meaning.specs.Books.{Atoms, Book, count}
 use Rattle.meaning.specs.AnswerSet.{AnswerSet, Throughout}
 use Rattle.meaning.specs.Colours.{Pair, onSide, offSide, put, start, heads}
+use Rattle.meaning.specs.declared.AtomNo.{AtomNo}
+use Rattle.meaning.specs.declared.kind.Kind.{Kind}
 use Rattle.meaning.specs.declared.kind.Claim.{Claim}
-use Rattle.meaning.specs.Claim.{claimed, meant}
-use Rattle.meaning.specs.Paper.{numbers, Keeps, step-41, step-42, step-55, step-53, step-45}
+use Rattle.meaning.specs.declared.kind.Claim.the-variants.{NoReading}
+use Rattle.meaning.specs.Claim.{claim, meant}
+use Rattle.meaning.specs.Paper.{numbers, paperWith, Stated, Grounds, Keeps, step-41, step-42, step-55, step-53, step-45}
 use Rattle.meaning.specs.Paper.{Branch as Derives}
 use Rattle.meaning.specs.Engine.{stuck, next, witnessOf}
 use Rattle.meaning.proofs.Tests.{both, and-left, and-right, true-and-false, decided, absent, proved}
@@ -21,7 +25,7 @@ use Rattle.meaning.proofs.Engine.{next-ends, next-puts-on, next-puts-off, next-
 use Rattle.meaning.proofs.Papers.{branch-each}
 use Rattle.meaning.proofs.Listing.{witness-of}
 use Rattle.writer.specs.Branches.{Tip, ended, parted, unsettled, Branch, behind, branch, branches}
-use Rattle.writer.specs.PaperNeeds.{settles, settled, stepsOf, wholePaper, paperFor}
+use Rattle.writer.specs.PaperNeeds.{settles, settled, stepsOf, wholePaper, paperFor, bareFor}
 use Rattle.writer.proofs.Branches.{Steps, at-end, at-split, step-on, step-off, step-all, branch-steps}
 use Rattle.writer.proofs.Branches.{Reached, reached-stuck, branch-reached, Parts, no-more, left-open, two-more, branches-parts}
 
@@ -90,14 +94,26 @@ module _ (b : Book) (k : Claim) (fits : count b ≤ 255) where
   pub certain-settled : Throughout b (meant k) → every settled (branches b k start) ≡ true
   certain-settled c = proved (λ n. let (x, answer, m) = unsettled-one n in true-and-false (c .each x answer) m)
 
-  pub paper-keeps : every settled (branches b k start) ≡ true → claimed k .0 < b .atoms → (x : Atoms) → AnswerSet b x
-      → Keeps b k (paperFor b k x)
-  unfolding paperFor wholePaper
-  paper-keeps s h x answer = record {
+  -- with whatever list the claim asks for behind the steps
+  pub settled-keeps : every settled (branches b k start) ≡ true → Stated b k → (w : List RuleNo) → Grounds b k w
+      → Keeps b k (paperWith k (stepsOf (branches b k start)) w)
+  settled-keeps s h w g = record {
     steps = stepsOf (branches b k start);
-    witness = witnessOf b x;
+    witness = w;
     bytes = refl;
-    atom-in-book = h;
+    stated = h;
     branch = settled-branch start s;
-    grounds = witness-of b x answer;
+    grounds = g;
   }
+
+module _ (b : Book) (fits : count b ≤ 255) where
+  -- a claim about an atom has the witness of an answer set
+  pub paper-keeps : (q : Kind) (a : AtomNo) → every settled (branches b (claim q a) start) ≡ true → a .0 < b .atoms
+      → (x : Atoms) → AnswerSet b x → Keeps b (claim q a) (paperFor b (claim q a) x)
+  unfolding paperFor wholePaper Stated Grounds
+  paper-keeps q a s h x answer = settled-keeps b (claim q a) fits s h (witnessOf b x) (witness-of b x answer)
+
+  -- and the claim that there is no answer set has none
+  pub bare-keeps : every settled (branches b NoReading start) ≡ true → Keeps b NoReading (bareFor b NoReading)
+  unfolding bareFor Stated Grounds
+  bare-keeps s = settled-keeps b NoReading fits s tt [] refl

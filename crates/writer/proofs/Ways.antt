@@ -10,8 +10,10 @@ use lib.ListN.{length, drop}
 use Rattle.meaning.specs.Sets.{every}
 use Rattle.meaning.specs.Books.{Atoms, Book, count, rule}
 use Rattle.meaning.specs.Colours.{start}
+use Rattle.meaning.specs.declared.AtomNo.{AtomNo}
+use Rattle.meaning.specs.declared.kind.Kind.{Kind}
 use Rattle.meaning.specs.declared.kind.Claim.{Claim}
-use Rattle.meaning.specs.Claim.{claimed}
+use Rattle.meaning.specs.Claim.{claim}
 use Rattle.meaning.specs.Told.{refused, fewer, stopped, Answered}
 use Rattle.meaning.specs.Written.{nothing}
 use Rattle.meaning.proofs.Tests.{decided, lt-or-le}
@@ -29,22 +31,22 @@ use Rattle.walk.specs.declared.tally.Halt.the-variants.{Full}
 use Rattle.walk.proofs.Needs.{kth-or-fewer}
 use Rattle.walk.specs.Find.{firstWalk}
 use Rattle.writer.specs.Branches.{branches}
-use Rattle.writer.specs.PaperNeeds.{settled, Stuck, PaperNeeds, to-stuck, paperFor, to-last}
+use Rattle.writer.specs.PaperNeeds.{settled, Stuck, PaperNeeds, to-stuck, wholePaper, paperFor, to-last}
 use Rattle.writer.specs.Write.{Handed, paper, paperWalk, handOver}
-use Rattle.writer.specs.Write.{lacking, afterPaperWalk, afterFirstWalk, writeIn}
+use Rattle.writer.specs.Write.{lacking, failing, afterPaperWalk, afterFirstWalk, witnessed, writeIn}
 use Rattle.writer.proofs.PaperNeeds.{stuck-some, paper-limited, paper-stuck, paper-written}
 use Rattle.writer.proofs.Stages.{only, hand-no-room, hand-long, hand-over}
 use Rattle.walk.proofs.FirstWalk.{set-in-first, kth-answer, first-limited, first-none, first-found}
 
 -- a book within the bounds of the format whose heads are its atoms, and a claim of one of its atoms
-pub record Nameable (b : Book) (k : Claim) : Type 0 where
+pub record Nameable (b : Book) (atom : AtomNo) : Type 0 where
   pub few-atoms : b .atoms ≤ 255
   pub few-rules : count b ≤ 255
   pub heads-below : Proper b
-  pub atom-below : claimed k .0 < b .atoms
+  pub atom-below : atom .0 < b .atoms
 
-pub fits-nameable : (b : Book) (k : Claim) → Fits b → claimed k .0 < b .atoms → Nameable b k
-fits-nameable b k fits h = record {
+pub fits-nameable : (b : Book) (atom : AtomNo) → Fits b → atom .0 < b .atoms → Nameable b atom
+fits-nameable b atom fits h = record {
   few-atoms = fits .atoms;
   few-rules = fits .rules;
   heads-below = λ r g. fits .each (rule b r) (rule-member b r g) .head;
@@ -70,29 +72,32 @@ Settled b k limit = (every settled (branches b k start) ≡ true) × (length (br
 abbrev pub TooLong : Book → Claim → List ℕ → Atoms → Type 0
 TooLong b k buffer x = (length buffer < length (paperFor b k x)) ⊎ (paperBytes < length (paperFor b k x))
 
-module _ (b : Book) (k : Claim) (limit : ℕ) (buffer : List ℕ) where
+module _ (b : Book) (kind : Kind) (atom : AtomNo) (limit : ℕ) (buffer : List ℕ) where
+  abbrev k : Claim
+  k = claim kind atom
+
   pub data Outcome : Answered Handed → Type 0 where
     first-stopped : {n : ℕ} → Needs b (events b nothing) 1 n → limit < n → Outcome (only buffer (stopped limit))
     no-reading : length (readings b) < 1 → length (events b nothing) ≤ limit → Outcome (only buffer (fewer (length (events b nothing)) 0 (lastClash (events b nothing))))
     paper-stopped : {x : Atoms} {n : ℕ} → Found b limit x → PaperNeeds b k n → limit < n → Outcome (only buffer (stopped limit))
-    got-stuck : {x : Atoms} {n : ℕ} → Found b limit x → Stuck b k n → n ≤ limit → Outcome (only buffer (refused (lacking (k .kind))))
+    got-stuck : {x : Atoms} {n : ℕ} → Found b limit x → Stuck b k n → n ≤ limit → Outcome (only buffer (refused (lacking kind)))
     too-long : {x : Atoms} → Found b limit x → Settled b k limit → TooLong b k buffer x → Outcome (only buffer (refused 14))
     handed-over : {x : Atoms} → Found b limit x → Settled b k limit → length (paperFor b k x) ≤ length buffer
         → length (paperFor b k x) ≤ paperBytes → Outcome (written b k buffer x)
 
-  module _ (good : Nameable b k) where
+  module _ (good : Nameable b atom) where
     abbrev answer : Answered Handed
     answer = writeIn b k limit buffer
 
     -- ---- what each way answers
 
     pub way-first-stopped : {n : ℕ} → Needs b (events b nothing) 1 n → limit < n → writeIn b k limit buffer ≡ only buffer (stopped limit)
-    unfolding writeIn afterFirstWalk
+    unfolding writeIn witnessed afterFirstWalk
     way-first-stopped p h = lt-yes _ _ _ _ (good .atom-below) ∙ rw (first-limited b limit (good .few-atoms) p h)
 
     pub way-no-reading : length (readings b) < 1 → length (events b nothing) ≤ limit
         → writeIn b k limit buffer ≡ only buffer (fewer (length (events b nothing)) 0 (lastClash (events b nothing)))
-    unfolding writeIn afterFirstWalk
+    unfolding writeIn witnessed afterFirstWalk
     way-no-reading p h =
         let (e, t, c) = first-none b limit (good .few-atoms) p h in lt-yes _ _ _ _ (good .atom-below) ∙ rw (e, t, c)
 
@@ -103,16 +108,17 @@ module _ (b : Book) (k : Claim) (limit : ℕ) (buffer : List ℕ) where
           let inside = answer-inside b (good .few-rules) x (good .heads-below) (kth-answer b (good .few-rules) first) in
           (e, ap setIn o ∙ set-in-first b x inside)
 
-      after-first : answer ≡ afterPaperWalk (paperWalk b k limit .course) b k limit (paperWalk b k limit) (firstWalk b limit .out) buffer
-      unfolding writeIn afterFirstWalk
+      after-first : answer ≡ afterPaperWalk (paperWalk b k limit .course) k limit (paperWalk b k limit .tries)
+          (wholePaper b k (paperWalk b k limit .bytes) (setIn (firstWalk b limit .out))) buffer
+      unfolding writeIn witnessed afterFirstWalk
       after-first = lt-yes _ _ _ _ (good .atom-below) ∙ rw (ended .0)
 
       pub way-paper-stopped : {n : ℕ} → PaperNeeds b k n → limit < n → writeIn b k limit buffer ≡ only buffer (stopped limit)
       unfolding afterPaperWalk
       way-paper-stopped p g = after-first ∙ rw (paper-limited b k limit p g)
 
-      pub way-stuck : {n : ℕ} → Stuck b k n → n ≤ limit → writeIn b k limit buffer ≡ only buffer (refused (lacking (k .kind)))
-      unfolding afterPaperWalk
+      pub way-stuck : {n : ℕ} → Stuck b k n → n ≤ limit → writeIn b k limit buffer ≡ only buffer (refused (lacking kind))
+      unfolding afterPaperWalk failing
       way-stuck p g = after-first ∙ rw (paper-stuck b k limit p g)
 
       module _ (all : Settled b k limit) where

@@ -8,6 +8,7 @@
 --   stepsOf l                the bytes of the branches, one after the other
 --   wholePaper b k steps x   the paper of these steps with the witness of the answer set x
 --   paperFor b k x           the engine's own paper with that witness
+--   bareFor b k              the engine's own paper without a witness
 use mathlib.Core.Path.{_≡_}
 use mathlib.Core.Bool.{true, false}
 use mathlib.Core.List.{List, [], _∷_, _++_}
@@ -17,7 +18,7 @@ use Rattle.meaning.specs.Sets.{Set, _∉_, every}
 use Rattle.meaning.specs.Books.{Atoms, Book}
 use Rattle.meaning.specs.Colours.{start}
 use Rattle.meaning.specs.declared.kind.Claim.{Claim}
-use Rattle.meaning.specs.Paper.{numbers, trailer}
+use Rattle.meaning.specs.Paper.{paperWith}
 use Rattle.meaning.specs.Engine.{witnessOf}
 use Rattle.writer.specs.Branches.{Tip, ended, parted, unsettled, Branch, branches}
 
@@ -46,9 +47,11 @@ unfoldable pub stepsOf : List Branch → List ℕ
 stepsOf [] = []
 stepsOf (t ∷ l) = t .bytes ++ stepsOf l
 
--- "Steps from byte 0, then the witness, then a trailer"
 unfoldable pub wholePaper : Book → Claim → List ℕ → Atoms → List ℕ
-wholePaper b k steps x = steps ++ (numbers (witnessOf b x) ++ trailer k (length (witnessOf b x)) (length steps))
+wholePaper b k steps x = paperWith k steps (witnessOf b x)
 
 unfoldable pub paperFor : Book → Claim → Atoms → List ℕ
 paperFor b k x = wholePaper b k (stepsOf (branches b k start)) x
+
+unfoldable pub bareFor : Book → Claim → List ℕ
+bareFor b k = paperWith k (stepsOf (branches b k start)) []

@@ -10,7 +10,7 @@
 --   Listed b m l w       the array l holds the m rules of the list w
 --   Does b l x n         the code's step x, with the array l beside it, is the step n
 use mathlib.Core.Path.{_≡_}
-use mathlib.Core.Bool.{Bool, not, _&&_}
+use mathlib.Core.Bool.{Bool, false, not, _&&_}
 use mathlib.Core.List.{List}
 use Prim.Native.Nat.{ℕ}
 use lib.ListN.{length}
@@ -18,6 +18,7 @@ use Rattle.meaning.specs.declared.RuleNo.{RuleNo}
 use Rattle.meaning.specs.declared.kind.Kind.{Kind}
 use Rattle.meaning.specs.declared.kind.Kind.the-variants.{Naming, Clearing}
 use Rattle.meaning.specs.declared.kind.Claim.{Claim}
+use Rattle.meaning.specs.declared.kind.Claim.the-variants.{About, NoReading}
 use Rattle.meaning.specs.Sets.{every, some}
 use Rattle.meaning.specs.Books.{Atoms, Rules, Book, rule}
 use Rattle.meaning.specs.Colours.{heads}
@@ -34,7 +35,8 @@ tabledBy Naming headed lost = atomsIn headed
 tabledBy Clearing headed lost = atomsIn lost
 
 unfoldable pub tabled : Claim → List Bool → List Bool → Bool
-tabled k headed lost = tabledBy (k .kind) headed lost (k .atom)
+tabled (About q a) headed lost = tabledBy q headed lost a
+tabled NoReading headed lost = false
 
 unfoldable pub newOn : Book → List Bool → List Bool → List Bool → Rules
 newOn b headed lost on =

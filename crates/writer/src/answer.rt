@@ -1,8 +1,9 @@
-// What naming and clearing answer: that the paper stands in the buffer, or why there is none.
+// What a call for a paper answers: that the paper stands in the buffer, or why there is none.
 ghost use mathlib.Core.Path.{_≡_};
 ghost use Rattle.meaning.specs.Told.{refused};
-ghost use Rattle.writer.specs.Write.{told, lacking};
+ghost use Rattle.writer.specs.Write.{told, failing};
 use book::Refusal;
+use meaning::Claim;
 use meaning::Kind;
 use meaning::RuleNo;
 
@@ -22,16 +23,21 @@ pub enum Named {
     NotClear,
     // 13: the atom isn't below A.
     NoAtom,
+    // 38: the book has a reading.
+    HasReading,
     // 14: the paper is longer than the buffer or 60,000 bytes.
     TooLong,
 }
 
-// What is told of a claim of this kind that fails of a reading.
-pub fn unproved(kind: Kind) -> Named
-    ensures { λ r. ⌜ told r ≡ refused (lacking kind) ⌝ }
+// What is told of a claim that fails of a reading.
+pub fn unproved(claim: Claim) -> Named
+    ensures { λ r. ⌜ told r ≡ refused (failing claim) ⌝ }
 {
-    match kind {
-        Kind::Naming => Named::NotCertain,
-        Kind::Clearing => Named::NotClear,
+    match claim {
+        Claim::About(kind, _) => match kind {
+            Kind::Naming => Named::NotCertain,
+            Kind::Clearing => Named::NotClear,
+        },
+        Claim::NoReading => Named::HasReading,
     }
 }

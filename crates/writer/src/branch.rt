@@ -50,7 +50,7 @@ pub fn write_branch(
     draft: &mut [u8; PAPER_BYTES],
     at: usize,
 ) -> Written
-    requires { ⌜ ReadAs (now book) shape × (claimed claim .0 < shape .atoms) ⌝ }
+    requires { ⌜ ReadAs (now book) shape × (claimed claim < 255) ⌝ }
     ensures { λ w. ⌜ Wrote (branch (bookIn (now (book .entry))) claim (pair (written c)))
         at (now (draft .entry)) w (now (draft .exit)) ⌝ }
 {

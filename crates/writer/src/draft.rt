@@ -28,7 +28,7 @@ pub fn write_step(draft: &mut [u8; PAPER_BYTES], at: usize, code: u8, r: RuleNo)
     write(draft, coded, r.0)
 }
 
-// The trailer: the claimed atom, the count of witness rules, where the witness starts, the mark.
+// The trailer: the claimed atom or 0, the count of witness rules, where the witness starts, the mark.
 pub fn write_trailer(
     draft: &mut [u8; PAPER_BYTES],
     at: usize,
@@ -40,9 +40,8 @@ pub fn write_trailer(
     ensures { λ n. ⌜ Writes (trailer claim count from) at
         (now (draft .entry)) n (now (draft .exit)) ⌝ }
 {
-    let kind = claim.kind;
-    let mark = kind.mark();
-    let claimed = write(draft, at, claim.atom.0);
+    let mark = claim.mark();
+    let claimed = write(draft, at, claim.byte());
     let counted = write(draft, claimed, count);
     let low = write(draft, counted, (from % 256) as u8);
     let high = write(draft, low, (from / 256) as u8);

@@ -1,12 +1,16 @@
 // The paper's walk: a branch and, behind its split, the branches with the rule on and those with
 // the rule off. Each branch is one try.
+ghost use mathlib.Core.Path.{_≡_};
 ghost use Prim.Native.Nat.{_<_, _≤_};
+ghost use lib.ListN.{length};
+ghost use Rattle.meaning.specs.Paper.{paperBytes};
 ghost use Rattle.meaning.specs.Claim.{claimed};
 ghost use Rattle.meaning.specs.Written.{written, pair};
 ghost use Rattle.book.specs.Format.{bookIn, ReadAs};
 ghost use Rattle.writer.specs.Branches.{branches};
 ghost use Rattle.writer.specs.Scan.{Progress, scan};
 ghost use Rattle.writer.specs.Draft.{Stage};
+ghost use Rattle.writer.specs.Write.{paperWalk};
 use crate::branch::write_branch;
 use crate::step::Tip;
 use book::Shape;
@@ -40,7 +44,7 @@ pub fn write_branches(
     p: Drafted,
     draft: &mut [u8; PAPER_BYTES],
 ) -> Drafted
-    requires { ⌜ ReadAs (now book) shape × (claimed claim .0 < shape .atoms) ⌝ }
+    requires { ⌜ ReadAs (now book) shape × (claimed claim < 255) ⌝ }
     ensures { λ q. ⌜ ((s : Progress) → Stage p (now (draft .entry)) s → s .tries ≤ limit →
         Stage q (now (draft .exit))
         (scan limit s (branches (bookIn (now (book .entry))) claim (pair (written c))))) ⌝ }
@@ -83,4 +87,25 @@ pub fn write_branches(
             write_branches(book, shape, claim, d.with_off(r), limit, first, draft)
         }
     }
+}
+
+// The paper's walk: all branches from the empty colouring, from the front of the draft.
+pub fn write_steps(
+    book: &[u8],
+    shape: Shape,
+    claim: Claim,
+    limit: u32,
+    draft: &mut [u8; PAPER_BYTES],
+) -> Drafted
+    requires { ⌜ ReadAs (now book) shape × (claimed claim < 255)
+        × (length (now draft) ≡ paperBytes) ⌝ }
+    ensures { λ q. ⌜ Stage q (now (draft .exit))
+        (paperWalk (bookIn (now (book .entry))) claim limit) ⌝ }
+{
+    let start = Drafted {
+        tries: 0,
+        length: 0,
+        course: Course::Writing,
+    };
+    write_branches(book, shape, claim, Colouring::empty(), limit, start, draft)
 }

@@ -55,20 +55,25 @@ fn is_clashing<'a>(book: &[u8], shape: Shape, on: &'a [u64; 4], off: &'a [u64; 4
     }
 }
 
-// What the tables say of the claimed atom: the head of an on rule, or of off rules only.
+// What the tables say of the claimed atom: the head of an on rule, or of off rules only. That the
+// book has no reading is shown by no colouring.
 fn is_shown<'a>(
     claim: Claim,
     headed: &'a [bool; Colouring::ATOMS],
     lost: &'a [bool; Colouring::ATOMS],
 ) -> bool
-    requires { ⌜ claim .atom .0 < 255 ⌝ }
+    requires { ⌜ claimed claim < 255 ⌝ }
     ensures { λ v. ⌜ v ≡ tabled claim (now (headed .entry)) (now (lost .entry)) ⌝ }
 {
-    let kind = claim.kind;
-    let a = wide(claim.atom.0);
-    match kind {
-        Kind::Naming => headed[a],
-        Kind::Clearing => lost[a],
+    match claim {
+        Claim::About(kind, atom) => {
+            let a = wide(atom.0);
+            match kind {
+                Kind::Naming => headed[a],
+                Kind::Clearing => lost[a],
+            }
+        }
+        Claim::NoReading => false,
     }
 }
 
@@ -82,7 +87,7 @@ pub fn next_step<'a>(
     off: &'a [u64; 4],
     dropped: &mut [u64; 4],
 ) -> Step
-    requires { ⌜ ReadAs (now book) shape × (claimed claim .0 < shape .atoms) ⌝ }
+    requires { ⌜ ReadAs (now book) shape × (claimed claim < 255) ⌝ }
     ensures { λ x. ⌜ Does (bookIn (now (book .entry))) (listed (now (dropped .exit))) x
         (next (bookIn (now (book .entry))) claim
         (lent (listed (now (on .entry))) (listed (now (off .entry))))) ⌝ }

@@ -12,7 +12,7 @@ use Rattle.checker.proofs.paper.check_steps.Tie as tie
 -- behind the first branch, which has come to x
 module _ (c : tie.After-branch) where
   abbrev start : tie.Start
-  start = c .before .before .before .before .before
+  start = c .before .before .before .before
 
   came : (x : Walked) → walked (c .branch .result) ≡ x → let s = start .args in let t = s .trailer in
       branchTold (bookIn (s .book .now)) (t .claim) (s .paper .now) (t .count) (t .from) x
@@ -42,14 +42,14 @@ returns-4 c =
     let w = c .before in
     let q = w .before .before in
     let p = ended (q .before .before) in
-    told-wrong _ _ _ _ _ _ (q .before .if1 .left) _ (q .check-witness .ensures) _ (w .at3 .given .1)
+    told-wrong _ _ _ _ _ _ (q .before .if1 .left) _ (q .check-grounds .ensures) _ (w .at3 .given .1)
     ∙ came (p .before .before) _ (ap walked (p .end .given .1))
 
 returns-5 : tie.Need-returns-5
 returns-5 c =
     let q = c .before .before in
     let p = ended (q .before .before) in
-    told-fine _ _ _ _ _ _ (q .before .if1 .left) _ (q .check-witness .ensures) (c .enum-told .given .1)
+    told-fine _ _ _ _ _ _ (q .before .if1 .left) _ (q .check-grounds .ensures) (c .enum-told .given .1)
     ∙ came (p .before .before) _ (ap walked (p .end .given .1))
 
 pub check-steps-spec : {M : Type 1} → statement M

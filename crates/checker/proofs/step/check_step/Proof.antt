@@ -17,12 +17,12 @@ returns-2 c =
 
 returns-3 : tie.Need-returns-3
 returns-3 c =
-    let tested = c .before .before .before in
+    let tested = c .before .before in
     end-holds _ _ _ _ _ _ (omega arith) (tested .if3 .taken) (sym (c .before .is-ended .ensures) ∙ c .if4 .taken)
 
 returns-4 : tie.Need-returns-4
 returns-4 c =
-    let tested = c .before .before .before in
+    let tested = c .before .before in
     end-fails _ _ _ _ _ _ (omega arith) (tested .if3 .taken) (sym (c .before .is-ended .ensures) ∙ c .if4 .left)
 
 pub check-step-spec : {M : Type 1} → statement M

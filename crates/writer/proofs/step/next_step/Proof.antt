@@ -8,7 +8,7 @@ use borrow.Author.Needs.{needs}
 use Rattle.meaning.specs.Books.{Book}
 use Rattle.meaning.specs.Colours.{Pair, mayOn, blocked, uncoloured}
 use Rattle.meaning.specs.declared.kind.Claim.{Claim}
-use Rattle.meaning.specs.Claim.{claimed, ended}
+use Rattle.meaning.specs.Claim.{ended}
 use Rattle.meaning.specs.Bits.{listed}
 use Rattle.meaning.specs.Written.{lent}
 use Rattle.meaning.specs.Lowest.{Pick, lowestFrom, lowest, none}
@@ -41,12 +41,9 @@ onAt s = lowest (bookAt s) (less (mayOn (bookAt s) (pairAt s)) (pairAt s .on))
 abbrev offAt : tie.Start → Pick
 offAt s = lowest (bookAt s) (less (blocked (bookAt s) (pairAt s)) (pairAt s .off))
 
--- atoms are counted in a byte, and the claimed atom is one of the book
+-- atoms are counted in a byte
 small : (s : tie.Start) → s .args .shape .atoms < 256
 small s = search needs
-
-atom-small : (s : tie.Start) → claimed (claimAt s) .0 < 255
-atom-small s = omega (arith, small s)
 
 -- ---- what is known behind each search
 
@@ -68,7 +65,7 @@ module _ (c : tie.After-is-shown) where
 quiet : (c : tie.Else2) → let s = start (c .before) in ended (bookAt s) (claimAt s) (pairAt s) ≡ false
 quiet c =
     let asked = c .before in
-    not-ended _ _ _ _ _ _ (headed asked .heads-of .ensures) (lost asked .lost-in .ensures) (atom-small (start asked))
+    not-ended _ _ _ _ _ _ (headed asked .heads-of .ensures) (lost asked .lost-in .ensures) (start asked .pre .1)
     (asked .is-shown .ensures) (sym (calm asked .before .is-clashing .ensures) ∙ calm asked .if1 .left) (c .if2 .left)
 
 -- 41
@@ -117,12 +114,6 @@ module _ (c : tie.After-lowest-uncoloured) where
   split-lowest = let s = first (not-42 not-55) in lowest-in (bookAt s) (shape-count _ _ (s .pre .0)) _ (c .lowest-uncoloured .ensures ∙ ap₂ (λ (a b : List ℕ). lowestFrom 0 (s .args .shape .rules) (uncoloured (lent (listed a) (listed b))))
       (c .before .before .whole .ensures) (c .before .whole2 .ensures))
 
-is-shown-requires : tie.Need-is-shown-requires
-unfolding claimed
-is-shown-requires c κs =
-    let earlier = c .before .before .before .before .before .before .before .before .before in
-    atom-small earlier
-
 -- ---- the returns
 
 returns : tie.Need-returns
@@ -131,7 +122,7 @@ returns c = does-next (next-end _ _ _ (ended-clash _ _ _ _ (sym (c .before .is-c
 returns-2 : tie.Need-returns-2
 returns-2 c =
     let asked = c .before in
-    let shown = ended-shown _ _ _ _ _ _ (headed asked .heads-of .ensures) (lost asked .lost-in .ensures) (atom-small (start asked))
+    let shown = ended-shown _ _ _ _ _ _ (headed asked .heads-of .ensures) (lost asked .lost-in .ensures) (start asked .pre .1)
     (asked .is-shown .ensures) (c .if2 .taken) in
     does-next (next-end _ _ _ shown) does-end
 
@@ -173,7 +164,7 @@ returns-7 c =
 
 pub next-step-spec : {M : Type 1} → statement M
 next-step-spec =
-    tie.close (tie.spec (λ c κs. search needs) returns (λ c κs. search needs) (λ c κs. search needs) is-shown-requires returns-2
+    tie.close (tie.spec (λ c κs. search needs) returns (λ c κs. search needs) (λ c κs. search needs) (λ c κs. search needs) returns-2
     (λ c κs. search needs) (λ c. search needs) returns-3 (λ c. search needs) (λ c κs. search needs)
     (λ c. search needs) returns-4 (λ c. search needs) (λ c κs. search needs) returns-5 (λ c κs. search needs) (λ c κs. search needs) (λ c κs. search needs) (λ c. search needs)
     returns-6 (λ c. search needs) returns-7)
