@@ -25,6 +25,7 @@ pub use conditions::some_in;
 pub use making::Making;
 pub use making::add_rule;
 pub use making::copy_front;
+pub use making::count_atoms;
 pub use making::finish_book;
 pub use number::u16_at;
 pub use number::wide;

@@ -50,7 +50,7 @@ impl Making {
 }
 
 // How many atoms the table has.
-fn count_atoms(table: &[bool; Colouring::ATOMS]) -> usize
+pub fn count_atoms(table: &[bool; Colouring::ATOMS]) -> usize
     ensures { λ n. ⌜ n ≡ length (listed (now (table .entry))) ⌝ }
 {
     let mut n = 0;
