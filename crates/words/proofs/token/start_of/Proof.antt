@@ -1,0 +1,33 @@
+-- What is found from here on is what is found from `at` on.
+use mathlib.Core.Path.{_≡_, refl, sym, _∙_}
+use Prim.Native.Nat.{_-_, _≤_}
+use native.Mathlib.Omega.{arith}
+use lib.ListN.{length}
+use borrow.Author.Needs.{needs}
+use borrow.Author.Tests.{not-true, not-false}
+use Rattle.words.specs.Words.{startOf}
+use Rattle.words.proofs.Words.{start-end, start-here, start-turn}
+use Rattle.words.proofs.token.start_of.Statement.{statement}
+use Rattle.words.proofs.token.start_of.Tie as tie
+
+abbrev Inv-loop : tie.InvT-loop
+Inv-loop text at i₀ i = (i ≤ length text) × (startOf text at ≡ startOf text i)
+
+abbrev μ-loop : tie.MeasureT-loop
+μ-loop text at i₀ i = length text - i
+
+loop-holds : tie.Need-loop-holds Inv-loop μ-loop
+loop-holds c = (search needs, refl)
+
+returns : tie.Need-returns Inv-loop μ-loop
+returns c = let k = c .before .before .before .before in let s = k .before .before .args .text .now in (sym (k .loop .inv .1 ∙ start-here s (k .loop .i) (omega arith) (sym (c .before .is-blank .ensures) ∙ not-true _ (c .if1 .taken))), search needs)
+
+loop-again : tie.Need-loop-again Inv-loop μ-loop
+loop-again c = let k = c .before .before .before .before in let s = k .before .before .args .text .now in (search needs, k .loop .inv .1 ∙ start-turn s (k .loop .i) (omega arith) (sym (c .before .is-blank .ensures) ∙ not-false _ (c .if1 .left)))
+
+returns-2 : tie.Need-returns-2 Inv-loop μ-loop
+returns-2 c = let k = c .before in let s = k .before .before .args .text .now in (sym (k .loop .inv .1 ∙ start-end s (k .loop .i) (omega arith)), search needs)
+
+pub start-of-spec : {M : Type 1} → statement M
+start-of-spec =
+    tie.close (tie.spec Inv-loop μ-loop loop-holds (λ c. search needs) (λ c κs. search needs) returns (λ c. search needs) (λ c. search needs) loop-again returns-2)
