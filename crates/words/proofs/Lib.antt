@@ -16,3 +16,4 @@ pub mod Reached
 pub mod Apart
 pub mod Refusals
 pub mod Whose
+pub mod Cases
