@@ -2,35 +2,39 @@
 // paper, and their lines. Stands on writer, checker, saving and talk.
 //
 //     BOOKFILE ATOM PAPERFILE [LIMIT] [--replace]
+//     --words WORDSFILE ATOM PAPERFILE [LIMIT] [--replace]
 
 ghost use Rattle.io.specs.Counts.{Counts};
 
+mod against;
 mod answer;
 mod arguments;
+mod atom;
 mod giving_way;
 
 use answer::tell_named;
 use arguments::is_right;
-use arguments::read_atom;
 use arguments::read_limit;
+use atom::complain_of_number;
+use atom::take_atom;
+use calling::Opened;
+use calling::open_book;
 use meaning::AtomNo;
 use meaning::Claim;
 use meaning::Kind;
 use meaning::PAPER_BYTES;
 use talk::BOOK_ROOM;
+use talk::NAMES_ROOM;
 use talk::Number;
-use talk::Taken;
-use talk::open_call;
 use talk::print;
 
 // Reads the atom and the limit, and names or clears the atom.
-fn file_atom(book: &[u8], kind: Kind) {
-    let Number::Value(atom) = read_atom() else {
-        print(b"bad atom: ATOM is a number below 256\n");
+fn file_atom(book: &[u8], kind: Kind, names: &[u8], asked: u8) {
+    let Number::Value(atom) = take_atom(names, asked) else {
         return;
     };
     if 255 < atom {
-        print(b"bad atom: ATOM is a number below 256\n");
+        complain_of_number();
         return;
     }
     let Number::Value(limit) = read_limit() else {
@@ -39,18 +43,19 @@ fn file_atom(book: &[u8], kind: Kind) {
     };
     let mut paper = [0u8; PAPER_BYTES];
     let atom = AtomNo(atom as u8);
-    tell_named(book, Claim { kind, atom }, limit, &mut paper);
+    tell_named(book, Claim { kind, atom }, limit, names, &mut paper);
 }
 
 // How the program that writes papers of this kind is called.
-fn open_kind(kind: Kind, book: &mut [u8]) -> Taken
-    ensures { λ t. ⌜ Counts (t .count) (now (book .exit)) ⌝ }
+fn open_kind(kind: Kind, book: &mut [u8], names: &mut [u8]) -> Opened
+    ensures { λ t. ⌜ Counts (t .count) (now (book .exit))
+        × Counts (t .names) (now (names .exit)) ⌝ }
 {
     let naming = b"naming BOOKFILE ATOM PAPERFILE [LIMIT] [--replace]";
     let clearing = b"clearing BOOKFILE ATOM PAPERFILE [LIMIT] [--replace]";
     match kind {
-        Kind::Naming => open_call(is_right(), naming, book),
-        Kind::Clearing => open_call(is_right(), clearing, book),
+        Kind::Naming => open_book(is_right(), naming, book, names),
+        Kind::Clearing => open_book(is_right(), clearing, book, names),
     }
 }
 
@@ -58,9 +63,11 @@ fn open_kind(kind: Kind, book: &mut [u8]) -> Taken
 // it. Nothing is written on a refusal, and a paper file that was there before stays as it was.
 pub fn file_paper(kind: Kind) {
     let mut book = [0u8; BOOK_ROOM];
-    let taken = open_kind(kind, &mut book);
-    if taken.good {
-        let n = taken.count;
-        file_atom(&book[..n], kind);
+    let mut names = [0u8; NAMES_ROOM];
+    let opened = open_kind(kind, &mut book, &mut names);
+    if opened.good {
+        let n = opened.count;
+        let m = opened.names;
+        file_atom(&book[..n], kind, &names[..m], opened.asked);
     }
 }
