@@ -21,7 +21,6 @@ mod some_shown;
 mod table;
 mod text_import;
 mod two_books;
-mod words_text;
 
 fn main() {
     if os::arg_count() != 1 {
