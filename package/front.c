@@ -144,6 +144,8 @@ static mode_t mode;
 static void mask_for(const struct program *program) {
     struct stat there;
     size_t at = (size_t)program->saved;
+    if (at != 0 && count > 1 && strcmp(words[1], "--words") == 0)
+        at++;
     if (at == 0 || at >= count || stat(words[at], &there) != 0 || !S_ISREG(there.st_mode))
         return;
     saved = words[at];

@@ -8,7 +8,7 @@ use crate::worked::{worked_lines, Worked};
 use crate::{
     cases_aspif, cases_books, cases_choices, cases_clash, cases_clearing, cases_contradicting,
     cases_crews, cases_damage, cases_levels, cases_lines, cases_lparse, cases_naming, cases_nomore,
-    cases_papers, cases_shown, cases_table,
+    cases_papers, cases_shown, cases_table, cases_words,
 };
 use std::collections::{BTreeMap, BTreeSet};
 
@@ -18,7 +18,7 @@ const MOST_TRIES: u64 = 300_000;
 
 const COMMANDS: &[&str] = &[
     "find", "readings", "check", "name", "clear", "levels", "levelsk", "shown", "nomore", "join",
-    "log", "table", "lparse", "aspif", "unaspif", "contradict",
+    "log", "table", "lparse", "aspif", "unaspif", "contradict", "words",
 ];
 
 /// What a request adds, written here before the proved engine has it.
@@ -30,7 +30,7 @@ struct Later {
     add: fn(&mut Cases),
 }
 
-const LATER: [Later; 8] = [
+const LATER: [Later; 9] = [
     Later { commands: &["levels", "levelsk"], numbers: &[], add: cases_levels::add },
     Later { commands: &["shown"], numbers: &[16], add: cases_shown::add },
     Later { commands: &["nomore"], numbers: &[], add: cases_nomore::add },
@@ -39,6 +39,7 @@ const LATER: [Later; 8] = [
     Later { commands: &["lparse"], numbers: &[30, 31, 32], add: cases_lparse::add },
     Later { commands: &["aspif", "unaspif"], numbers: &[33, 34, 35], add: cases_aspif::add },
     Later { commands: &["contradict"], numbers: &[38], add: cases_contradicting::add },
+    Later { commands: &["words"], numbers: &[40, 41, 42, 43], add: cases_words::add },
 ];
 
 /// What these commands bring, in the order in which they are named, so that a later one's cases
@@ -151,6 +152,10 @@ impl Cases {
 
     pub fn unaspif(&mut self, room: usize, text: &[u8]) -> String {
         self.ask(&format!("unaspif {} {}", room, hex(text)))
+    }
+
+    pub fn words(&mut self, room: usize, text: &[u8]) -> String {
+        self.ask(&format!("words {} {}", room, hex(text)))
     }
 
     pub fn levels(&mut self, book: &[u8]) -> String {

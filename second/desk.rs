@@ -14,6 +14,7 @@ use crate::paper::{write_paper, Written};
 use crate::shown::find_shown;
 use crate::table::{table, File};
 use crate::walk::{find, Finding, Found};
+use crate::words::make;
 use std::fmt::Write as _;
 use std::io::{self, BufRead, Write};
 
@@ -70,6 +71,7 @@ pub fn answer(line: &[u8]) -> Answer {
         (b"lparse", 3) => answer_made(import, &words),
         (b"aspif", 3) => answer_aspif(&words),
         (b"unaspif", 3) => answer_made(restore, &words),
+        (b"words", 3) => answer_words(&words),
         (b"log", 6) => answer_log(&words),
         (b"levelsk", 5) => answer_levels(&words),
         _ => None,
@@ -241,6 +243,18 @@ fn answer_made(reader: Reader, words: &[&[u8]]) -> Option<Answer> {
         Ok(book) => Answer { text: format!("book {}", hex(&book)), tries: 0 },
         Err(refusal) => refused(refusal, 0),
     })
+}
+
+/// The book and the names of its atoms.
+fn answer_words(words: &[&[u8]]) -> Option<Answer> {
+    let room = decimal(words[1], MOST_ROOM)? as usize;
+    let text = hexadecimal(words[2], MOST_TEXT)?;
+    let (book, names) = match make(&text, room) {
+        Ok(made) => made,
+        Err(refusal) => return Some(refused(refusal, 0)),
+    };
+    let list: String = names.iter().map(|name| format!(" {}", name)).collect();
+    Some(Answer { text: format!("book {}{}", hex(&book), list), tries: 0 })
 }
 
 fn answer_aspif(words: &[&[u8]]) -> Option<Answer> {

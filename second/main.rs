@@ -23,6 +23,7 @@ mod cases_nomore;
 mod cases_papers;
 mod cases_shown;
 mod cases_table;
+mod cases_words;
 mod checker;
 mod claim;
 mod clash;
@@ -30,11 +31,13 @@ mod closing;
 mod crews;
 mod desk;
 mod forged;
+mod layout;
 mod legal;
 mod levels;
 mod listing;
 mod lparse;
 mod lparse_meaning;
+mod making;
 mod meaning;
 mod nomore;
 mod numbers;
@@ -61,6 +64,7 @@ mod words;
 mod worked;
 mod worked_contradicting;
 mod worked_requests;
+mod worked_words;
 
 use std::fs;
 use std::io::{self, BufWriter, Read, Write};
@@ -75,6 +79,8 @@ const USAGE: &str = "usage:
   second selftest                          the engine against the definition
   second book WORDSFILE BOOKFILE NAMESFILE rules in words to a book (`-`: standard input)
   second words BOOKFILE [NAMESFILE]        a book to rules in words
+  second plain BOOKFILE [NAMESFILE]        a book to a text that gives it again, without names x0, x1 ..
+  second making WORDSFILE                  what the program making prints of rules in words
   second paper STEPSFILE PAPERFILE         steps in words to a paper (`-`: standard input)
   second steps PAPERFILE                   a paper to steps in words
   second random SEED                       a random book to standard output";
@@ -91,6 +97,9 @@ fn main() {
         ["book", text, book, names] => run_book(text, book, names),
         ["words", book] => run_words(book, None),
         ["words", book, names] => run_words(book, Some(names)),
+        ["plain", book] => run_plain(book, None),
+        ["plain", book, names] => run_plain(book, Some(names)),
+        ["making", text] => run_making(text),
         ["paper", text, paper] => run_paper(text, paper),
         ["steps", paper] => run_steps(paper),
         ["random", seed] => run_random(seed),
@@ -170,21 +179,42 @@ fn plain_name(name: &[u8]) -> String {
 
 /// Nothing is written where the words have an error.
 fn run_book(text: &str, book: &str, names: &str) -> Result<(), String> {
-    let named = words::read_words(&read_text(text)?)?;
+    let text = read_file(text)?;
+    let named = words::read_words(&text).map_err(|refusal| making::refused(&text, refusal))?;
     let list: String = named.names.iter().map(|name| format!("{}\n", name)).collect();
     write_file(book, &named.book.write())?;
     write_file(names, list.as_bytes())
 }
 
 fn run_words(book: &str, names: Option<&str>) -> Result<(), String> {
-    let book = book::Book::read(&read_file(book)?)
-        .map_err(|refusal| format!("refused {} {}", refusal.number, refusal.place.unwrap_or(0)))?;
-    let names: Option<Vec<String>> = match names {
-        Some(path) => Some(read_text(path)?.lines().map(String::from).collect()),
-        None => None,
-    };
-    print!("{}", words::write_words(&book, names.as_deref())?);
+    let names = read_names(names)?;
+    print!("{}", words::write_words(&open(book)?, names.as_deref())?);
     Ok(())
+}
+
+/// What the program `wording` prints.
+fn run_plain(book: &str, names: Option<&str>) -> Result<(), String> {
+    let book = open(book)?;
+    let numbered = || (0..book.atoms).map(|n| format!("x{}", n)).collect();
+    let names: Vec<String> = read_names(names)?.unwrap_or_else(numbered);
+    print!("{}", words::plain_text(&book, &names)?);
+    println!("# rules {} atoms {}", book.rules.len(), book.atoms);
+    Ok(())
+}
+
+fn run_making(text: &str) -> Result<(), String> {
+    print!("{}", making::made(&read_file(text)?));
+    Ok(())
+}
+
+fn open(book: &str) -> Result<book::Book, String> {
+    book::Book::read(&read_file(book)?)
+        .map_err(|refusal| format!("refused {} {}", refusal.number, refusal.place.unwrap_or(0)))
+}
+
+/// The lines of a list of names.
+fn read_names(path: Option<&str>) -> Result<Option<Vec<String>>, String> {
+    path.map(|path| Ok(read_text(path)?.lines().map(String::from).collect())).transpose()
 }
 
 /// Nothing is written where the words have an error.

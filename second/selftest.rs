@@ -27,6 +27,7 @@ use crate::worked_requests::{
     aspif_lines, choice_lines, clash_lines, clearing_lines, crew_lines, level_lines, lparse_lines,
     nomore_lines, shown_lines, table_lines,
 };
+use crate::worked_words::word_lines;
 use std::cmp::Ordering;
 
 const SEED: u64 = 3;
@@ -57,6 +58,7 @@ pub fn run() -> Result<(), String> {
     println!("worked choices: {} lines", assert_worked(&choice_lines()));
     println!("worked aspif: {} lines", assert_worked(&aspif_lines()));
     println!("worked contradicting: {} lines", assert_worked(&contradicting_lines()));
+    println!("worked words: {} lines", assert_worked(&word_lines()));
     let mut random = Random::new(SEED);
     let mut counts = BookCounts::default();
     let mut closing_counts = ClosingCounts::default();

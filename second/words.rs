@@ -1,121 +1,205 @@
-// Rules in words, one a line, to a book and its list of names, and the way back.
-// A line is `HEAD` or `HEAD if BODY`, the body parted by `and`, each atom with or without `not`.
+// Rules in words to a book and the names of its atoms, with the refusals 40 to 43, and the way back.
+// A line is `HEAD`, `HEAD if L and L`, either of them with `unless NAME or NAME` behind it, where L is
+// `NAME` or `not NAME`; or `atoms: NAME NAME`, before the first rule; or it says nothing.
 
-use crate::book::{Book, Rule};
-use crate::desk::decimal;
+use crate::book::{Book, Refusal, Rule};
 use crate::numbers::{Atom, AtomSet};
 
 const MOST_ATOMS: usize = 255;
 const MOST_RULES: usize = 255;
 const MOST_PART: usize = 16;
+const LONGEST_NAME: usize = 64;
+const NO_NAMES: [&[u8]; 5] = [b"if", b"and", b"not", b"unless", b"or"];
 
-/// A book and the names of its atoms, the n-th for atom n. In a book written with numbers each
-/// atom's name is its number.
-#[derive(Debug)]
+/// A word that cannot stand there, or that is missing.
+const FORM: u8 = 40;
+/// A name that is not listed, or listed twice.
+const NAME: u8 = 41;
+/// One name, rule or atom of a part too many.
+const MANY: u8 = 42;
+/// No room for the book.
+const ROOM: u8 = 43;
+
+/// A book and the names of its atoms, the n-th for atom n.
+#[derive(Debug, PartialEq)]
 pub struct NamedBook {
     pub book: Book,
     pub names: Vec<String>,
 }
 
-/// What the atoms of a text are called; the first atom decides.
-enum Naming {
-    Undecided,
-    Numbers { highest: usize },
-    Names(Vec<String>),
+/// A word and the place of its first byte.
+type Word<'t> = (usize, &'t [u8]);
+
+/// The words of one line that are still to be read, and the place of the line's end.
+struct Line<'t> {
+    words: std::vec::IntoIter<Word<'t>>,
+    end: usize,
 }
 
-impl Naming {
-    fn atom(&mut self, word: &str) -> Result<Atom, String> {
-        if word.starts_with(|first: char| first.is_ascii_digit()) {
-            return self.number(word);
-        }
-        let letter = |c: char| c.is_alphanumeric() || c == '_' || c == '-' || c == '\'';
-        if ["if", "and", "not"].contains(&word) || !word.chars().all(letter) {
-            return Err(format!("`{}` is no atom", word));
-        }
-        if let Naming::Undecided = self {
-            *self = Naming::Names(Vec::new());
-        }
-        let names = match self {
-            Naming::Names(names) => names,
-            _ => return Err(format!("the name `{}` in a book written with numbers", word)),
-        };
-        if let Some(known) = names.iter().position(|name| name == word) {
-            return Ok(Atom(known as u8));
-        }
-        if names.len() == MOST_ATOMS {
-            return Err(format!("`{}` is one atom more than {}", word, MOST_ATOMS));
-        }
-        names.push(word.to_string());
-        Ok(Atom(names.len() as u8 - 1))
-    }
-
-    fn number(&mut self, word: &str) -> Result<Atom, String> {
-        let most = MOST_ATOMS as u64 - 1;
-        let number = decimal(word.as_bytes(), most).ok_or_else(|| {
-            format!("`{}` is no atom: numbers go from 0 to {}, without leading zeros", word, most)
-        })?;
-        let number = number as usize;
-        match self {
-            Naming::Names(_) => {
-                return Err(format!("the number {} in a book written with names", word))
+impl<'t> Line<'t> {
+    fn new(text: &'t [u8], start: usize) -> Line<'t> {
+        let blank = |byte: u8| byte == b' ' || byte == b'\t' || byte == b'\r';
+        let (mut words, mut at) = (Vec::new(), start);
+        while at < text.len() && text[at] != b'\n' {
+            let first = at;
+            while at < text.len() && text[at] != b'\n' && !blank(text[at]) {
+                at += 1;
             }
-            Naming::Undecided => *self = Naming::Numbers { highest: number },
-            Naming::Numbers { highest } => *highest = number.max(*highest),
+            if first < at {
+                words.push((first, &text[first..at]));
+            } else {
+                at += 1;
+            }
         }
-        Ok(Atom(number as u8))
+        Line { words: words.into_iter(), end: at }
     }
 
-    fn names(self) -> Vec<String> {
-        match self {
-            Naming::Undecided => Vec::new(),
-            Naming::Numbers { highest } => (0..=highest).map(|n| n.to_string()).collect(),
-            Naming::Names(names) => names,
+    /// The next word, which is due.
+    fn due(&mut self) -> Result<Word<'t>, Refusal> {
+        self.words.next().ok_or_else(|| Refusal::at(FORM, self.end))
+    }
+}
+
+pub fn is_name(word: &[u8]) -> bool {
+    let letter = |byte: &u8| byte.is_ascii_alphanumeric() || b"_-'".contains(byte);
+    (1..=LONGEST_NAME).contains(&word.len())
+        && word.iter().all(letter)
+        && !word[0].is_ascii_digit()
+        && !NO_NAMES.contains(&word)
+}
+
+/// What was read so far.
+#[derive(Default)]
+struct Reader {
+    names: Vec<String>,
+    /// An `atoms:` line was there.
+    listed: bool,
+    rules: Vec<Rule>,
+}
+
+impl Reader {
+    fn known(&self, word: &[u8]) -> Option<Atom> {
+        let known = self.names.iter().position(|name| name.as_bytes() == word);
+        known.map(|number| Atom(number as u8))
+    }
+
+    fn new_name(&mut self, (place, word): Word) -> Result<Atom, Refusal> {
+        if self.names.len() == MOST_ATOMS {
+            return Err(Refusal::at(MANY, place));
+        }
+        self.names.push(String::from_utf8_lossy(word).into_owned());
+        Ok(Atom(self.names.len() as u8 - 1))
+    }
+
+    /// The atom of a word in a rule.
+    fn atom(&mut self, (place, word): Word) -> Result<Atom, Refusal> {
+        if !is_name(word) {
+            return Err(Refusal::at(FORM, place));
+        }
+        match self.known(word) {
+            Some(atom) => Ok(atom),
+            None if self.listed => Err(Refusal::at(NAME, place)),
+            None => self.new_name((place, word)),
+        }
+    }
+
+    fn add(&mut self, part: &mut AtomSet, word: Word) -> Result<(), Refusal> {
+        let atom = self.atom(word)?;
+        if !part.has(atom) && part.count() == MOST_PART {
+            return Err(Refusal::at(MANY, word.0));
+        }
+        part.insert(atom);
+        Ok(())
+    }
+
+    fn line(&mut self, mut line: Line) -> Result<(), Refusal> {
+        match line.words.next() {
+            None => Ok(()),
+            Some((_, word)) if word[0] == b'#' => Ok(()),
+            Some((place, b"atoms:")) if !self.rules.is_empty() => Err(Refusal::at(FORM, place)),
+            Some((_, b"atoms:")) => self.list(line),
+            Some(head) => self.rule(head, line),
+        }
+    }
+
+    fn list(&mut self, line: Line) -> Result<(), Refusal> {
+        self.listed = true;
+        for (place, word) in line.words {
+            if !is_name(word) {
+                return Err(Refusal::at(FORM, place));
+            }
+            if self.known(word).is_some() {
+                return Err(Refusal::at(NAME, place));
+            }
+            self.new_name((place, word))?;
+        }
+        Ok(())
+    }
+
+    fn rule(&mut self, word: Word, mut line: Line) -> Result<(), Refusal> {
+        let head = self.atom(word)?;
+        if self.rules.len() == MOST_RULES {
+            return Err(Refusal::at(MANY, word.0));
+        }
+        let mut rule = Rule { head, positive: AtomSet::none(), negative: AtomSet::none() };
+        match line.words.next() {
+            None => {}
+            Some((_, b"if")) => self.body(&mut rule, line)?,
+            Some((_, b"unless")) => self.exceptions(&mut rule, line)?,
+            Some((place, _)) => return Err(Refusal::at(FORM, place)),
+        }
+        self.rules.push(rule);
+        Ok(())
+    }
+
+    fn body(&mut self, rule: &mut Rule, mut line: Line) -> Result<(), Refusal> {
+        loop {
+            match line.due()? {
+                (_, b"not") => self.add(&mut rule.negative, line.due()?)?,
+                word => self.add(&mut rule.positive, word)?,
+            }
+            match line.words.next() {
+                None => return Ok(()),
+                Some((_, b"and")) => {}
+                Some((_, b"unless")) => return self.exceptions(rule, line),
+                Some((place, _)) => return Err(Refusal::at(FORM, place)),
+            }
+        }
+    }
+
+    fn exceptions(&mut self, rule: &mut Rule, mut line: Line) -> Result<(), Refusal> {
+        loop {
+            self.add(&mut rule.negative, line.due()?)?;
+            match line.words.next() {
+                None => return Ok(()),
+                Some((_, b"or")) => {}
+                Some((place, _)) => return Err(Refusal::at(FORM, place)),
+            }
         }
     }
 }
 
-/// Reads a text of rules. An error names the line, counted from 1.
-pub fn read_words(text: &str) -> Result<NamedBook, String> {
-    let mut naming = Naming::Undecided;
-    let mut rules = Vec::new();
-    for (number, line) in text.lines().enumerate() {
-        let line = line.trim();
-        if line.is_empty() || line.starts_with('#') {
-            continue;
-        }
-        let rule = read_rule(line, &mut naming);
-        rules.push(rule.map_err(|trouble| format!("line {}: {}", number + 1, trouble))?);
-        if rules.len() > MOST_RULES {
-            return Err(format!("line {}: one rule more than {}", number + 1, MOST_RULES));
-        }
+/// Reads a text of rules, whatever its bytes.
+pub fn read_words(text: &[u8]) -> Result<NamedBook, Refusal> {
+    let mut reader = Reader::default();
+    let mut start = 0;
+    while start < text.len() {
+        let line = Line::new(text, start);
+        start = line.end + 1;
+        reader.line(line)?;
     }
-    let names = naming.names();
-    Ok(NamedBook { book: Book { atoms: names.len(), rules }, names })
+    let book = Book { atoms: reader.names.len(), rules: reader.rules };
+    Ok(NamedBook { book, names: reader.names })
 }
 
-fn read_rule(line: &str, naming: &mut Naming) -> Result<Rule, String> {
-    let words: Vec<&str> = line.split_whitespace().collect();
-    let head = naming.atom(words[0])?;
-    let mut rule = Rule { head, positive: AtomSet::none(), negative: AtomSet::none() };
-    if words.len() == 1 {
-        return Ok(rule);
+/// The book of a text, if it has room.
+pub fn make(text: &[u8], room: usize) -> Result<(Vec<u8>, Vec<String>), Refusal> {
+    let named = read_words(text)?;
+    let bytes = named.book.write();
+    if bytes.len() > room {
+        return Err(Refusal::placeless(ROOM));
     }
-    if words[1] != "if" {
-        return Err(format!("`if` is due after the head, not `{}`", words[1]));
-    }
-    for literal in words[2..].split(|word| *word == "and") {
-        match literal {
-            ["not", atom] => rule.negative.insert(naming.atom(atom)?),
-            [atom] => rule.positive.insert(naming.atom(atom)?),
-            [] => return Err("an atom is missing beside `if` or `and`".to_string()),
-            more => return Err(format!("`{}` is no atom; `and` parts them", more.join(" "))),
-        }
-    }
-    if rule.positive.count() > MOST_PART || rule.negative.count() > MOST_PART {
-        return Err(format!("more than {} atoms with, or without, `not`", MOST_PART));
-    }
-    Ok(rule)
+    Ok((bytes, named.names))
 }
 
 /// The rules in words, one a line. Without names each atom is its number.
@@ -141,4 +225,10 @@ pub fn write_words(book: &Book, names: Option<&[String]>) -> Result<String, Stri
         text.push('\n');
     }
     Ok(text)
+}
+
+/// The plain form of a book: its names in a line, then its rules.
+pub fn plain_text(book: &Book, names: &[String]) -> Result<String, String> {
+    let list: String = names.iter().map(|name| format!(" {}", name)).collect();
+    Ok(format!("atoms:{}\n{}", list, write_words(book, Some(names))?))
 }

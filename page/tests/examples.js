@@ -5,7 +5,7 @@ const [files] = arguments;
 const wrong = [];
 const same = (what, due, came) => { if (due !== came) wrong.push(`${what}: "${String(due).slice(0, 200)}" is due, "${String(came).slice(0, 200)}" came`); };
 const bytesOf = name => page.bytesOfText(files[name]).bytes;
-const lines = text => text.split("\n").filter(line => line !== "" && !line.startsWith("#"));
+const lines = text => text.split("\n").filter(line => line !== "" && !line.startsWith("#") && !line.startsWith("atoms:"));
 // A paper about an atom has the book's name and a word more, one that there is no reading the book's name alone.
 const bookOf = paper => [paper.replace(/\.paper$/, ".book"), paper.replace(/-[^-]*$/, ".book")].find(name => files[name] !== undefined);
 

@@ -3,20 +3,23 @@
 // says so, the book has no reading.
 //
 //     checking BOOKFILE PAPERFILE
+//     checking --words WORDSFILE PAPERFILE
 
 ghost use Rattle.io.specs.Counts.{Counts};
+use calling::open_book;
+use calling::shift;
 use checker::Checked;
 use checker::check;
 use meaning::AtomNo;
 use meaning::Claim;
 use meaning::Kind;
 use talk::BOOK_ROOM;
+use talk::NAMES_ROOM;
 use talk::PAPER_ROOM;
 use talk::explain_book;
 use talk::explain_paper;
-use talk::open_call;
 use talk::print;
-use talk::put_number;
+use talk::put_subject;
 use talk::put_text;
 use talk::read_argument;
 use talk::refused_paper;
@@ -32,47 +35,54 @@ fn put_holds(kind: Kind, line: &mut [u8], held: usize) -> usize
     }
 }
 
-fn accept_about(kind: Kind, atom: AtomNo) {
-    let mut line = [0u8; 64];
-    let held = put_text(b"accepted: atom ", &mut line, 0);
-    let held = put_number(atom.0 as u64, &mut line, held);
+fn accept_about(kind: Kind, atom: AtomNo, names: &[u8]) {
+    let mut line = [0u8; 512];
+    let held = put_text(b"accepted: ", &mut line, 0);
+    let held = put_subject(names, atom.0, &mut line, held);
     let held = put_holds(kind, &mut line, held);
     print(&line[..held]);
 }
 
-fn accept(claim: Claim) {
+fn accept(claim: Claim, names: &[u8]) {
     match claim {
-        Claim::About(kind, atom) => accept_about(kind, atom),
+        Claim::About(kind, atom) => accept_about(kind, atom, names),
         Claim::NoReading => print(b"accepted: the book has no reading\n"),
     }
 }
 
 // Asks the checker, and writes what it answers.
-fn tell_checked(book: &[u8], paper: &[u8]) {
+fn tell_checked(book: &[u8], names: &[u8], paper: &[u8]) {
     let answer = check(book, paper);
     match answer {
-        Checked::Accepted(claim) => accept(claim),
+        Checked::Accepted(claim) => accept(claim, names),
         Checked::Book(why) => explain_book(why, book),
         _ => explain_paper(refused_paper(answer), paper),
     }
 }
 
 // Reads the paper, and checks it.
-fn check_argument(book: &[u8]) {
+fn check_argument(book: &[u8], names: &[u8]) {
     let mut paper = [0u8; PAPER_ROOM];
-    let taken = read_argument(2, &mut paper);
+    let taken = read_argument(2 + shift(), &mut paper);
     if taken.good {
         let n = taken.count;
-        tell_checked(book, &paper[..n]);
+        tell_checked(book, names, &paper[..n]);
     }
 }
 
 fn main() {
-    let is_right = os::arg_count() == 3;
+    let is_right = os::arg_count() == 3 + shift();
     let mut book = [0u8; BOOK_ROOM];
-    let taken = open_call(is_right, b"checking BOOKFILE PAPERFILE", &mut book);
-    if taken.good {
-        let n = taken.count;
-        check_argument(&book[..n]);
+    let mut names = [0u8; NAMES_ROOM];
+    let opened = open_book(
+        is_right,
+        b"checking BOOKFILE PAPERFILE",
+        &mut book,
+        &mut names,
+    );
+    if opened.good {
+        let n = opened.count;
+        let m = opened.names;
+        check_argument(&book[..n], &names[..m]);
     }
 }

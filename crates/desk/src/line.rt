@@ -15,6 +15,7 @@ use crate::table::answer_table;
 use crate::text_import::answer_lparse;
 use crate::two_books::answer_join;
 use crate::two_books::answer_log;
+use crate::words_text::answer_words;
 use check::same;
 use meaning::Kind;
 use talk::first_word;
@@ -88,6 +89,9 @@ fn answer_command(
     }
     if same(command, b"unaspif") {
         return answer_unaspif(words, other, room, out);
+    }
+    if same(command, b"words") {
+        return answer_words(words, other, room, out);
     }
     if same(command, b"shown") {
         return answer_shown(words, book, other, room, out);

@@ -21,6 +21,7 @@ mod some_shown;
 mod table;
 mod text_import;
 mod two_books;
+mod words_text;
 
 fn main() {
     if os::arg_count() != 1 {

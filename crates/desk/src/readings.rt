@@ -11,6 +11,6 @@ pub fn answer_readings(words: &[u8], book: &mut [u8]) {
         return;
     }
     let n = decoded.count;
-    list(&book[..n], b'|');
+    list(&book[..n], b'|', b"");
     print(b"\n");
 }

@@ -1,5 +1,7 @@
 // The arguments: BOOKFILE ATOM PAPERFILE [LIMIT] [--replace], or without ATOM where the paper is about
-// none.
+// none; --words WORDSFILE in the place of BOOKFILE shifts the others by one.
+ghost use Prim.Native.Nat.{_≤_};
+use calling::shift;
 use meaning::Claim;
 use saving::is_replacing;
 use talk::Number;
@@ -8,7 +10,7 @@ use talk::read_number;
 // The tries of each walk where no limit is given.
 const LIMIT: u32 = 1000000;
 
-// How many arguments must be there, the program's own name among them.
+// How many arguments must be there with a BOOKFILE, the program's own name among them.
 pub const WITH_ATOM: usize = 4;
 
 pub const WITHOUT_ATOM: usize = 3;
@@ -16,16 +18,16 @@ pub const WITHOUT_ATOM: usize = 3;
 // Where PAPERFILE stands, in a call for a paper with this claim.
 pub fn paper_place(claim: Claim) -> usize {
     match claim {
-        Claim::About(_, _) => 3,
-        Claim::NoReading => 2,
+        Claim::About(_, _) => 3 + shift(),
+        Claim::NoReading => 2 + shift(),
     }
 }
 
 // Whether such a call says `--replace`.
 pub fn is_to_replace(claim: Claim) -> bool {
     match claim {
-        Claim::About(_, _) => is_replacing(WITH_ATOM),
-        Claim::NoReading => is_replacing(WITHOUT_ATOM),
+        Claim::About(_, _) => is_replacing(WITH_ATOM + shift()),
+        Claim::NoReading => is_replacing(WITHOUT_ATOM + shift()),
     }
 }
 
@@ -39,7 +41,10 @@ fn more_than(must: usize) -> usize {
 }
 
 // Whether there are as many arguments as there may be.
-pub fn is_right(must: usize) -> bool {
+pub fn is_right(must: usize) -> bool
+    requires { ⌜ must ≤ 4 ⌝ }
+{
+    let must = must + shift();
     if os::arg_count() < must {
         return false;
     }
@@ -55,11 +60,14 @@ fn number_argument(i: usize) -> Number {
 }
 
 pub fn read_atom() -> Number {
-    number_argument(2)
+    number_argument(2 + shift())
 }
 
 // The limit that the arguments give, behind those that must be there.
-pub fn read_limit(must: usize) -> Number {
+pub fn read_limit(must: usize) -> Number
+    requires { ⌜ must ≤ 4 ⌝ }
+{
+    let must = must + shift();
     let more = more_than(must);
     if more == 0 {
         return Number::Value(LIMIT);

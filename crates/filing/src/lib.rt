@@ -3,62 +3,71 @@
 //
 //     BOOKFILE ATOM PAPERFILE [LIMIT] [--replace]     of naming and clearing
 //     BOOKFILE PAPERFILE [LIMIT] [--replace]          of contradicting, whose paper is about no atom
+//
+// and --words WORDSFILE in the place of BOOKFILE.
 
+ghost use Prim.Native.Nat.{_≤_};
 ghost use Rattle.io.specs.Counts.{Counts};
 
+mod against;
 mod answer;
 mod arguments;
+mod atom;
 mod giving_way;
 
 use answer::tell_named;
 use arguments::WITH_ATOM;
 use arguments::WITHOUT_ATOM;
 use arguments::is_right;
-use arguments::read_atom;
 use arguments::read_limit;
+use atom::complain_of_number;
+use atom::take_atom;
+use calling::Opened;
+use calling::open_book;
 use meaning::AtomNo;
 use meaning::Claim;
 use meaning::Kind;
 use meaning::PAPER_BYTES;
 use talk::BOOK_ROOM;
+use talk::NAMES_ROOM;
 use talk::Number;
-use talk::Taken;
-use talk::open_call;
 use talk::print;
 
 // Reads the limit, behind the arguments that must be there, and asks for the paper.
-fn file_claim(book: &[u8], claim: Claim, must: usize) {
+fn file_claim(book: &[u8], claim: Claim, must: usize, names: &[u8])
+    requires { ⌜ must ≤ 4 ⌝ }
+{
     let Number::Value(limit) = read_limit(must) else {
         print(b"bad limit: LIMIT is a number up to 4294967295\n");
         return;
     };
     let mut paper = [0u8; PAPER_BYTES];
-    tell_named(book, claim, limit, &mut paper);
+    tell_named(book, claim, limit, names, &mut paper);
 }
 
 // Reads the atom, and names or clears it.
-fn file_atom(book: &[u8], kind: Kind) {
-    let Number::Value(atom) = read_atom() else {
-        print(b"bad atom: ATOM is a number below 256\n");
+fn file_atom(book: &[u8], kind: Kind, names: &[u8], asked: u8) {
+    let Number::Value(atom) = take_atom(names, asked) else {
         return;
     };
     if 255 < atom {
-        print(b"bad atom: ATOM is a number below 256\n");
+        complain_of_number();
         return;
     }
     let atom = AtomNo(atom as u8);
-    file_claim(book, Claim::About(kind, atom), WITH_ATOM);
+    file_claim(book, Claim::About(kind, atom), WITH_ATOM, names);
 }
 
 // How the program that writes papers of this kind is called.
-fn open_kind(kind: Kind, book: &mut [u8]) -> Taken
-    ensures { λ t. ⌜ Counts (t .count) (now (book .exit)) ⌝ }
+fn open_kind(kind: Kind, book: &mut [u8], names: &mut [u8]) -> Opened
+    ensures { λ t. ⌜ Counts (t .count) (now (book .exit))
+        × Counts (t .names) (now (names .exit)) ⌝ }
 {
     let naming = b"naming BOOKFILE ATOM PAPERFILE [LIMIT] [--replace]";
     let clearing = b"clearing BOOKFILE ATOM PAPERFILE [LIMIT] [--replace]";
     match kind {
-        Kind::Naming => open_call(is_right(WITH_ATOM), naming, book),
-        Kind::Clearing => open_call(is_right(WITH_ATOM), clearing, book),
+        Kind::Naming => open_book(is_right(WITH_ATOM), naming, book, names),
+        Kind::Clearing => open_book(is_right(WITH_ATOM), clearing, book, names),
     }
 }
 
@@ -66,10 +75,12 @@ fn open_kind(kind: Kind, book: &mut [u8]) -> Taken
 // it. Nothing is written on a refusal, and a paper file that was there before stays as it was.
 pub fn file_paper(kind: Kind) {
     let mut book = [0u8; BOOK_ROOM];
-    let taken = open_kind(kind, &mut book);
-    if taken.good {
-        let n = taken.count;
-        file_atom(&book[..n], kind);
+    let mut names = [0u8; NAMES_ROOM];
+    let opened = open_kind(kind, &mut book, &mut names);
+    if opened.good {
+        let n = opened.count;
+        let m = opened.names;
+        file_atom(&book[..n], kind, &names[..m], opened.asked);
     }
 }
 
@@ -77,9 +88,11 @@ pub fn file_paper(kind: Kind) {
 pub fn file_no_reading() {
     let usage = b"contradicting BOOKFILE PAPERFILE [LIMIT] [--replace]";
     let mut book = [0u8; BOOK_ROOM];
-    let taken = open_call(is_right(WITHOUT_ATOM), usage, &mut book);
-    if taken.good {
-        let n = taken.count;
-        file_claim(&book[..n], Claim::NoReading, WITHOUT_ATOM);
+    let mut names = [0u8; NAMES_ROOM];
+    let opened = open_book(is_right(WITHOUT_ATOM), usage, &mut book, &mut names);
+    if opened.good {
+        let n = opened.count;
+        let m = opened.names;
+        file_claim(&book[..n], Claim::NoReading, WITHOUT_ATOM, &names[..m]);
     }
 }

@@ -4,10 +4,12 @@
 // What is gathered in a buffer, and how the listing goes on from page to page, is promised. What is
 // written to standard output no contract can say: the comments do.
 
+mod named;
 mod piece;
 mod rows;
 mod whole;
 
+pub use named::put_named;
 pub use rows::put_places;
 pub use rows::put_set;
 pub use whole::LIMIT;

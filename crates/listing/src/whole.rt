@@ -8,7 +8,7 @@ ghost use Rattle.book.specs.Format.{bookIn, ReadAs};
 ghost use Rattle.walk.specs.Page.{roomIn, pageOf};
 ghost use Rattle.walk.specs.Listing.{SameRow};
 ghost use Rattle.listing.specs.Following.{atomsOnly, Follows, Shown};
-use crate::rows::print_rows;
+use crate::named::print_page;
 use book::Read;
 use book::Shape;
 use book::read_book;
@@ -105,6 +105,7 @@ fn list_page(
     book: &[u8],
     atoms: usize,
     line_end: u8,
+    names: &[u8],
     before: u64,
     tries: u32,
     rows: &mut [u8],
@@ -122,16 +123,16 @@ fn list_page(
     match page(book, LIMIT, tries, last, rows) {
         Page::Whole(more) => {
             let count = room_for(rows.len(), atoms);
-            print_rows(rows, atoms, count as u64, before, line_end);
+            print_page(rows, atoms, count as u64, before, line_end, names);
             keep_row(rows, count, atoms, last);
             Step::Goes(before + count as u64, more)
         }
         Page::Last(all, count) => {
-            print_rows(rows, atoms, count as u64, before, line_end);
+            print_page(rows, atoms, count as u64, before, line_end, names);
             Step::Done(End::Ended(before + count as u64, all))
         }
         Page::Cut(count) => {
-            print_rows(rows, atoms, count as u64, before, line_end);
+            print_page(rows, atoms, count as u64, before, line_end, names);
             Step::Done(End::Stopped(before + count as u64))
         }
         Page::Book(why) => Step::Done(End::Refused(refused_book(why))),
@@ -142,7 +143,7 @@ fn list_page(
 // Writes the readings of a good book, and gives how many they are and the tries. A page of 65,280
 // bytes has room for 256 rows of 255 atoms. Each full page has a try for each of its rows at least,
 // so the listing comes to an end.
-fn list_pages(book: &[u8], shape: Shape, line_end: u8) -> End
+fn list_pages(book: &[u8], shape: Shape, line_end: u8, names: &[u8]) -> End
     requires { ⌜ ReadAs (now book) shape ⌝ }
     ensures { λ r. ⌜ Shown (bookIn (now (book .entry))) 1000000 r ⌝ }
 {
@@ -152,7 +153,16 @@ fn list_pages(book: &[u8], shape: Shape, line_end: u8) -> End
     let mut before: u64 = 0;
     let mut tries: u32 = 0;
     loop {
-        match list_page(book, atoms, line_end, before, tries, &mut rows, &mut last) {
+        match list_page(
+            book,
+            atoms,
+            line_end,
+            names,
+            before,
+            tries,
+            &mut rows,
+            &mut last,
+        ) {
             Step::Goes(sets, more) => {
                 before = sets;
                 tries = more;
@@ -173,13 +183,14 @@ fn print_end(end: End, line_end: u8) {
     }
 }
 
-// Writes what the program `readings` prints for the book, with `line_end` at the end of each line.
-pub fn list(book: &[u8], line_end: u8) {
+// Writes what the program `readings` prints for the book, with `line_end` at the end of each line, and
+// with names where there are any.
+pub fn list(book: &[u8], line_end: u8, names: &[u8]) {
     match read_book(book) {
         Read::Refused(why) => print_refused(refused_book(why), line_end),
         Read::Good(shape) => {
             print_start(shape, line_end);
-            print_end(list_pages(book, shape, line_end), line_end);
+            print_end(list_pages(book, shape, line_end, names), line_end);
         }
     }
 }

@@ -1,17 +1,42 @@
-// Lists all readings of the book on standard input.
+// Lists all readings of the book on standard input, or of rules in words, then with names.
 //
 //     readings < BOOKFILE
+//     readings --words WORDSFILE
+
+use calling::open_words;
+use calling::shift;
+
+// Lists the readings of the words in the file that the second argument names.
+fn list_words() {
+    let mut book = [0u8; talk::BOOK_ROOM];
+    let mut names = [0u8; talk::NAMES_ROOM];
+    let opened = open_words(2, &mut book, &mut names);
+    if opened.good {
+        let n = opened.count;
+        let m = opened.names;
+        listing::list(&book[..n], b'\n', &names[..m]);
+    }
+}
+
+// Lists the readings of the book on standard input.
+fn list_input() {
+    let mut book = [0u8; talk::BOOK_ROOM];
+    let taken = talk::read_input(&mut book);
+    if taken.good {
+        let n = taken.count;
+        listing::list(&book[..n], b'\n', b"");
+    }
+}
 
 fn main() {
-    if os::arg_count() != 1 {
+    let count = os::arg_count();
+    if count == 3 && shift() == 1 {
+        list_words();
+        return;
+    }
+    if count != 1 {
         talk::complain_of_call(b"readings < BOOKFILE");
         return;
     }
-    let mut book = [0u8; talk::BOOK_ROOM];
-    let taken = talk::read_input(&mut book);
-    if !taken.good {
-        return;
-    }
-    let n = taken.count;
-    listing::list(&book[..n], b'\n');
+    list_input();
 }

@@ -10,22 +10,22 @@ use talk::put_text;
 use talk::show_rule;
 
 // Writes the rule with its word: its byte is 1 where it is on, 0 where it is off.
-fn show_colour(book: &[u8], shape: Shape, r: RuleNo, byte: u8)
+fn show_colour(book: &[u8], shape: Shape, r: RuleNo, byte: u8, names: &[u8])
     requires { ⌜ ReadAs (now book) shape × (r .0 < shape .rules) ⌝ }
 {
     if byte == 1 {
-        show_rule(book, shape, r, b" on");
+        show_rule(book, shape, r, b" on", names);
         return;
     }
     if byte == 0 {
-        show_rule(book, shape, r, b" off");
+        show_rule(book, shape, r, b" off", names);
         return;
     }
-    show_rule(book, shape, r, b" open");
+    show_rule(book, shape, r, b" open", names);
 }
 
 // Writes a line for each rule, or that there is none.
-pub fn show_rules(book: &[u8], shape: Shape, bytes: &[u8; 510])
+pub fn show_rules(book: &[u8], shape: Shape, bytes: &[u8; 510], names: &[u8])
     requires { ⌜ ReadAs (now book) shape ⌝ }
 {
     if shape.rules == 0 {
@@ -34,7 +34,7 @@ pub fn show_rules(book: &[u8], shape: Shape, bytes: &[u8; 510])
     }
     let mut r: u8 = 0;
     while r < shape.rules {
-        show_colour(book, shape, RuleNo(r), bytes[r as usize]);
+        show_colour(book, shape, RuleNo(r), bytes[r as usize], names);
         r += 1;
     }
 }

@@ -5,10 +5,10 @@ use Rattle.showing.proofs.show_rules.Statement.{statement}
 use Rattle.showing.proofs.show_rules.Tie as tie
 
 abbrev Inv-loop : tie.InvT-loop
-Inv-loop book shape r₀ r = (r ≤ shape .rules)
+Inv-loop book shape names r₀ r = (r ≤ shape .rules)
 
 abbrev μ-loop : tie.MeasureT-loop
-μ-loop book shape r₀ r = shape .rules - r
+μ-loop book shape names r₀ r = shape .rules - r
 
 pub show-rules-spec : {M : Type 1} → statement M
 show-rules-spec =

@@ -13,7 +13,7 @@ abbrev asked : tie.After-room-for → tie.After-page
 asked c = c .before .before .before .before .before .before
 
 abbrev start : tie.After-page → tie.Start
-start c = c .before .before .before .before .before .before
+start c = c .before .before .before .before .before .before .before
 
 keep-row-requires : tie.Need-keep-row-requires
 keep-row-requires c κs =
@@ -21,8 +21,8 @@ keep-row-requires c κs =
     let n = room-count _ _ _ (r .room-for .ensures) (omega arith) in
     (n .0, n .1, omega arith, omega arith)
 
-add-t29 : tie.Need-add-t29
-add-t29 c =
+add-t30 : tie.Need-add-t30
+add-t30 c =
     let r = c .before .before .before .before .before .before .before in
     let n = room-count _ _ _ (r .room-for .ensures) (omega arith) in
     omega arith
@@ -73,7 +73,7 @@ returns-5 c =
 pub list-page-spec : {M : Type 1} → statement M
 list-page-spec =
     tie.close (tie.spec (λ c κs. search needs) (λ c. search needs) (λ c κs. search needs) (λ c κs. search needs) keep-row-requires
-    add-t29 (λ c. search needs) (λ c. search needs) (λ c κs. search needs) (λ c. search needs) (λ c. search needs) (λ c. search
+    add-t30 (λ c. search needs) (λ c. search needs) (λ c κs. search needs) (λ c. search needs) (λ c. search needs) (λ c. search
     needs) (λ c. search needs) (λ c κs. search needs) (λ c. search needs) (λ c. search needs) (λ c. search needs) (λ c κs. search
     needs) (λ c. search needs) (λ c. search needs) (λ c. search needs) returns (λ c. search needs) (λ c. search needs) returns-2
     (λ c. search needs) (λ c. search needs) returns-3 (λ c. search needs) (λ c. search needs) returns-4 (λ c. search needs) (λ c.

@@ -13,16 +13,16 @@ use Rattle.listing.proofs.whole.list_pages.Statement.{statement}
 use Rattle.listing.proofs.whole.list_pages.Tie as tie
 
 abbrev Inv-loop : tie.InvT-loop
-Inv-loop book line-end atoms rows₀ last₀ before₀ tries₀ rows last before tries =
+Inv-loop book line-end names atoms rows₀ last₀ before₀ tries₀ rows last before tries =
     (atoms ≤ 255) × (atoms ≡ bookIn book .atoms) × (length rows ≡ 65280) × (length last ≡ 255)
     × SoFar book 1000000 last₀ before tries last
 
 abbrev μ-loop : tie.MeasureT-loop
-μ-loop book line-end atoms rows₀ last₀ before₀ tries₀ rows last before tries = 1000000 - tries
+μ-loop book line-end names atoms rows₀ last₀ before₀ tries₀ rows last before tries = 1000000 - tries
 
 loop-holds : tie.Need-loop-holds Inv-loop μ-loop
 loop-holds c =
-    let s = c .before .before in
+    let s = c .before .before .before in
     (search needs, sym (shape-atoms _ (s .args .shape) (s .pre)), search needs, search needs, so-far-start _ 1000000 255)
 
 list-page-requires : tie.Need-list-page-requires Inv-loop μ-loop
@@ -48,7 +48,7 @@ module _ (c : tie.After-known-told Inv-loop μ-loop) where
   turn = called .before .before .before
 
   abbrev begun : tie.Start Inv-loop μ-loop
-  begun = turn .before .before .before
+  begun = turn .before .before .before .before
 
 loop-less : tie.Need-loop-less Inv-loop μ-loop
 loop-less c =
@@ -73,9 +73,9 @@ returns : tie.Need-returns Inv-loop μ-loop
 returns c =
     let p = c .before .before .before .before .before in
     let t = p .before .before .before in
-    let s = t .before .before .before in
+    let s = t .before .before .before .before in
     so-far-done _ (s .args .shape) (s .pre) 1000000 (t .loop .inv .4) (t .loop .rows) _ (omega arith) (t .loop .inv .1)
-    (c .before .end .given .1) (p .list-page .ensures .1) (λ j. omega (arith, t .before .before .shared-slice-known .given j))
+    (c .before .end .given .1) (p .list-page .ensures .1) (λ j. omega (arith, t .before .before .before .shared-slice-known .given j))
 
 pub list-pages-spec : {M : Type 1} → statement M
 list-pages-spec =

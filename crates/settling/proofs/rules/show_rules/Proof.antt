@@ -5,10 +5,10 @@ use Rattle.settling.proofs.rules.show_rules.Statement.{statement}
 use Rattle.settling.proofs.rules.show_rules.Tie as tie
 
 abbrev Inv-loop : tie.InvT-loop
-Inv-loop book shape bytes r₀ r = (r ≤ shape .rules)
+Inv-loop book shape bytes names r₀ r = (r ≤ shape .rules)
 
 abbrev μ-loop : tie.MeasureT-loop
-μ-loop book shape bytes r₀ r = shape .rules - r
+μ-loop book shape bytes names r₀ r = shape .rules - r
 
 pub show-rules-spec : {M : Type 1} → statement M
 show-rules-spec =

@@ -8,10 +8,10 @@ use Rattle.showing.proofs.atoms.put_all.Statement.{statement}
 use Rattle.showing.proofs.atoms.put_all.Tie as tie
 
 abbrev Inv-loop : tie.InvT-loop
-Inv-loop atoms bare line₀ held end₀ a₀ line end a = (a ≤ atoms) × Counts end line × (length line ≡ length line₀)
+Inv-loop names atoms bare line₀ held end₀ a₀ line end a = (a ≤ atoms) × Counts end line × (length line ≡ length line₀)
 
 abbrev μ-loop : tie.MeasureT-loop
-μ-loop atoms bare line₀ held end₀ a₀ line end a = atoms - a
+μ-loop names atoms bare line₀ held end₀ a₀ line end a = atoms - a
 
 pub put-all-spec : {M : Type 1} → statement M
 put-all-spec =

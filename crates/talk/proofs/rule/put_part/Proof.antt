@@ -8,11 +8,11 @@ use Rattle.talk.proofs.rule.put_part.Statement.{statement}
 use Rattle.talk.proofs.rule.put_part.Tie as tie
 
 abbrev Inv-loop : tie.InvT-loop
-Inv-loop part is-first word line₀ held end₀ i₀ line end i =
+Inv-loop names part is-first word line₀ held end₀ i₀ line end i =
     (i ≤ length part) × Counts end line × (length line ≡ length line₀)
 
 abbrev μ-loop : tie.MeasureT-loop
-μ-loop part is-first word line₀ held end₀ i₀ line end i = length part - i
+μ-loop names part is-first word line₀ held end₀ i₀ line end i = length part - i
 
 pub put-part-spec : {M : Type 1} → statement M
 put-part-spec =
