@@ -25,7 +25,8 @@ loop-again c =
     let turn = c .before .before .before .before in
     let a = start (turn .before) .args in (
       search needs,
-      heads-turn (a .o .free) (a .o .heads) (a .o .pos) (a .o .neg) (a .count) (a .c) _ _ (turn .loop .inv .1) (search needs) (start (turn .before) .pre)
+      heads-turn (a .o .free) (a .o .heads) (a .o .pos) (a .o .neg) (a .count) (a .c) _ _ (turn .loop .inv .1) (search needs)
+          (start (turn .before) .pre)
           (c .before .add-head .ensures) (c .counted-on .ensures),
     )
 

@@ -58,7 +58,8 @@ loop-again c =
     let k = turn c in (
       ahead c .1,
       k .loop .inv .1,
-      gathering-turn (text c) (k .before .before .args .seen .now) (k .loop .at) (k .loop .due) (k .loop .inv .2) (after-take-word c .take-word .ensures)
+      gathering-turn (text c) (k .before .before .args .seen .now) (k .loop .at) (k .loop .due) (k .loop .inv .2)
+          (after-take-word c .take-word .ensures)
           _ _ _ _ (goes c .next .given .1) (c .note .ensures),
     )
 

@@ -31,7 +31,8 @@ form-requires c κs =
     let after-take-word = c .before .before .before .before in
     let k = after-take-word .before in
     let a = start (k .before) .args in
-    passing-placed (a .text .now) (a .atoms .now) (k .loop .at) (k .loop .due) (k .loop .inv .1) (after-take-word .take-word .ensures) _ _ _ _
+    passing-placed (a .text .now) (a .atoms .now) (k .loop .at) (k .loop .due) (k .loop .inv .1)
+    (after-take-word .take-word .ensures) _ _ _ _
     (c .before .before .next .given .1)
 
 -- a word was taken: where it was looked for, the turn, the bytes, the word's end, and that this lies ahead

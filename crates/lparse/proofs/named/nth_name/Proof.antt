@@ -50,7 +50,8 @@ loop-again c =
     let k = turn c in (
       ahead c .1,
       k .loop .inv .1
-          ∙ name-turn (text c) (k .before .before .args .a) (k .loop .at) (k .loop .due) (k .loop .found) (k .loop .left) (after-take-word c .take-word .ensures)
+          ∙ name-turn (text c) (k .before .before .args .a) (k .loop .at) (k .loop .due) (k .loop .found) (k .loop .left)
+          (after-take-word c .take-word .ensures)
           _ _ _ _ (goes c .next .given .1) (c .before .before .is-named .ensures) (c .before .found-by .ensures) (c .left-by .ensures),
     )
 

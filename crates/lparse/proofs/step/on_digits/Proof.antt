@@ -19,7 +19,8 @@ unfolding onValue
 returns c =
     let after-read-digits = c .before .before .before .before in
     c .on-number .ensures
-    ∙ sym (ap (onValue (after-read-digits .before .before .args .role)) (sym (after-read-digits .read-digits .ensures) ∙ c .before .before .n .given .1))
+    ∙ sym (ap (onValue (after-read-digits .before .before .args .role))
+    (sym (after-read-digits .read-digits .ensures) ∙ c .before .before .n .given .1))
 
 returns-2 : tie.Need-returns-2
 unfolding onValue

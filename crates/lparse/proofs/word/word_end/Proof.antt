@@ -21,8 +21,11 @@ loop-holds c = (search needs, end-first _ _)
 returns : tie.Need-returns Inv-loop μ-loop
 returns c =
     let turn = c .before .before .before .before in
-    let s = turn .before .before .args .text .now in
-    (sym (turn .loop .inv .1 ∙ end-here s _ (turn .loop .i) (omega arith) (sym (c .before .ends-word .ensures) ∙ c .if1 .taken)), search needs)
+    let s = turn .before .before .args .text .now in (
+      sym (turn .loop .inv .1 ∙ end-here s _ (turn .loop .i) (omega arith)
+          (sym (c .before .ends-word .ensures) ∙ c .if1 .taken)),
+      search needs,
+    )
 
 loop-again : tie.Need-loop-again Inv-loop μ-loop
 loop-again c =
