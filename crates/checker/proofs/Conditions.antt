@@ -116,9 +116,6 @@ module _ (s : List ℕ) (h : Shape) (e : ReadAs s h) (n : h .atoms < 256) (r : R
   pub positive-every : every (atomsIn t) (rule (bookIn s) r .pos) ≡ every x (rule (bookIn s) r .pos)
   positive-every = rw q (every-table x _ (pos-small s h e n r l))
 
-  pub positive-some : some (atomsIn t) (rule (bookIn s) r .pos) ≡ some x (rule (bookIn s) r .pos)
-  positive-some = rw q (some-table x _ (pos-small s h e n r l))
-
   pub negative-some : some (atomsIn t) (rule (bookIn s) r .neg) ≡ some x (rule (bookIn s) r .neg)
   negative-some = rw q (some-table x _ (neg-small s h e n r l))
 

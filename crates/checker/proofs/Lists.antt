@@ -128,10 +128,3 @@ below-more h b = record { at = λ i g. let z = b .at i g in omega arith }
 
 pub below-rest : {n x : ℕ} {l : List ℕ} → Below n (x ∷ l) → Below n l
 below-rest h = record { at = λ i g. h .at (suc i) (suc-le-suc g) }
-
--- two tests that agree on the rules below n
-pub every-same : (n : ℕ) (s t : Rules) → ((r : RuleNo) → r .0 < n → s r ≡ t r) → (l : List ℕ) → Below n l
-    → every s (map ruleNo l) ≡ every t (map ruleNo l)
-unfolding every
-every-same n s t f [] h = refl
-every-same n s t f (x ∷ l) h = rw (f (ruleNo x) (h .at 0 (omega arith)), every-same n s t f l (below-rest h))

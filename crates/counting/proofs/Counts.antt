@@ -5,7 +5,7 @@ use mathlib.Core.Logic.{_↔_, ⊎-elim}
 use mathlib.Core.List.{List, _++_}
 use Prim.Native.Nat.{ℕ, _≤_, _<_}
 use native.Mathlib.Omega.{arith}
-use lib.ListN.{length, getD, drop, length-append, length-drop}
+use lib.ListN.{length, getD, drop}
 use Rattle.meaning.specs.declared.AtomNo.{AtomNo}
 use Rattle.meaning.specs.Books.{Atoms, Rule, Book, count}
 use Rattle.meaning.specs.AnswerSet.{Certain, Clear}
@@ -31,10 +31,6 @@ module _ {b : Book} where
       → (n ≡ length l) × ((a : AtomNo) → a .0 < b .atoms → getD counts (a .0) 0 ≡ standing a l)
   counts-any c l all = let e = readings-only b (c .list) l (c .all) all in
       (c .number ∙ ap length e, λ a h. c .each a h ∙ ap (standing a) e)
-
-  pub counts-one : {n m : ℕ} {counts other : List ℕ} → Counts b n counts → Counts b m other
-      → (n ≡ m) × ((a : AtomNo) → a .0 < b .atoms → getD counts (a .0) 0 ≡ getD other (a .0) 0)
-  counts-one c d = let (e, f) = counts-any c (d .list) (d .all) in (e ∙ sym (d .number), λ a h. f a h ∙ sym (d .each a h))
 
 -- ---- the two answers of a good book
 
@@ -75,10 +71,6 @@ module _ (b : Book) (limit : ℕ) (counts : List ℕ) where
 
   pub count-stopped-keeps : countIn b limit counts .told ≡ stopped limit → countIn b limit counts .buffer ≡ counts
   count-stopped-keeps e = ap (λ (r : Answered ℕ). r .buffer) (count-beyond (count-stopped .0 e))
-
-  pub count-length : b .atoms ≤ length counts → length (countIn b limit counts .buffer) ≡ length counts
-  count-length h = told-or-stopped (λ r. length (r .buffer) ≡ length counts) (λ k. simp length-append
-      (rw (numbers-length, length-drop) (omega arith))) (λ k. refl)
 
   -- ---- Q1
 

@@ -14,11 +14,6 @@ use Rattle.meaning.proofs.Choice.{b-either}
 use Rattle.counting.specs.Counts.{HowMany, none, yes, no, Total, no-books, and-book}
 use Rattle.counting.specs.Totals.{numberBelow, atomsOf}
 
-pub number-same : (n : ℕ) (s u : Set ℕ) → ((i : ℕ) → i < n → s i ≡ u i) → numberBelow n s ≡ numberBelow n u
-unfolding numberBelow
-number-same zero s u f = refl
-number-same (suc n) s u f = rw (f n (lt-suc-self n), number-same n s u (λ i h. f i (omega arith)))
-
 module _ {P : AtomNo → Type 0} where
   pub howMany-one : {n m k : ℕ} → HowMany P n m → HowMany P n k → m ≡ k
   howMany-one none none = refl

@@ -8,5 +8,7 @@ pub mod Totals
 pub mod Table
 pub mod Worked
 pub mod Columns
+pub mod PageRows
 pub mod Paging
+pub mod Counting
 pub mod Summing

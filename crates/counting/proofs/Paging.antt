@@ -1,16 +1,17 @@
 -- The count goes on page by page (src/pages.rt): a full page is counted and the count goes on behind its last row, the last page ends it, and
--- where the limit cuts a page the whole walk needs more tries. It rests on the laws of a listing (walk/proofs/Listing).
-use mathlib.Core.Path.{_≡_, refl, sym, _∙_, ap, subst}
+-- where the limit cuts a page the whole walk needs more tries. It rests on the laws of a listing (walk/proofs/Listing). Where the count
+-- starts and what it answers is in Counting.
+use mathlib.Core.Path.{_≡_, sym, _∙_, ap}
 use mathlib.Core.Logic.{⊎-elim}
-use mathlib.Core.List.{List, [], _∷_, _++_, map}
+use mathlib.Core.List.{List, _++_}
 use Prim.Native.Nat.{ℕ, zero, suc, _+_, _*_, _-_, _/_, _≤_, _<_}
 use native.Mathlib.Nat.{suc-mul, mul-le-mul-right}
 use native.Mathlib.Omega.{arith}
-use lib.ListN.{length, getD, take, drop, replicate, length-append, length-drop, length-replicate, take-append-drop}
+use lib.ListN.{length, getD, take, drop, length-append, length-drop, take-append-drop}
 use lib.Seq.{take-at, drop-at, length-take-le}
-use Rattle.meaning.specs.Books.{Atoms, atomNo, Book, count}
+use Rattle.meaning.specs.Books.{atomNo, Book, count}
 use Rattle.meaning.specs.Choice.{ifEq}
-use Rattle.meaning.specs.Told.{success, stopped, Answered}
+use Rattle.meaning.specs.Told.{success, Answered}
 use Rattle.meaning.specs.Written.{nothing}
 use Rattle.meaning.proofs.LeastModel.{Proper}
 use Rattle.meaning.proofs.Tests.{apart}
@@ -19,68 +20,22 @@ use Rattle.book.specs.declared.reader.Shape.{Shape}
 use Rattle.book.specs.Format.{readOf, bookIn, ReadAs}
 use Rattle.book.proofs.Shape.{told-good}
 use Rattle.book.proofs.Places.{shape-atoms, shape-count, rule-keeps, in-shape}
-use Rattle.walk.specs.Events.{Event, clash, fork, reading, quiet, events}
+use Rattle.walk.specs.Events.{Event, events}
 use Rattle.walk.specs.Readings.{readingsIn, readings}
-use Rattle.walk.specs.Run.{rowOf}
 use Rattle.walk.specs.Page.{PageEnd, setIn, eventsFrom, roomIn, told, pageIn, pageOf}
 use Rattle.walk.specs.Listing.{lastRow}
 use Rattle.walk.specs.declared.page_answer.Page.{Page}
 use Rattle.walk.specs.declared.page_answer.Page.the-variants.{Whole, Last, Cut, Book as BadBook, NoRoom}
-use Rattle.walk.proofs.Rows.{row-at, one-is, rowsOf, rows-length}
+use Rattle.walk.proofs.Rows.{rowsOf, rows-length}
 use Rattle.walk.proofs.Readings.{readings-append}
 use Rattle.walk.proofs.Needs.{amount}
 use Rattle.walk.proofs.Paging.{filled, room-some, rooms-fit}
 use Rattle.walk.proofs.Listing.{Listed, listed-readings, Joined, pages-join, pages-end, pages-stop}
-use Rattle.walk.proofs.Shown.{page-rows, page-good-book, page-goes}
-use Rattle.counting.specs.Counts.{standing, standings, numbersFrom}
-use Rattle.counting.specs.Count.{countIn}
-use Rattle.counting.specs.SoFar.{setsIn, summed, readingsUpTo, SoFar, AllCounted, Comes}
-use Rattle.counting.specs.declared.pages.Paged.{Paged}
-use Rattle.counting.proofs.Standing.{standing-at-most, standing-append}
-use Rattle.counting.proofs.Numbers.{numbers-length, numbers-place, numbers-same, numbers-equal}
-use Rattle.counting.proofs.Counts.{count-within, count-beyond}
-
--- ---- no more sets than tries
-
-sets-at-most-tries : (b : Book) (es : List Event) → amount b es ≤ length es
-unfolding readingsIn
-sets-at-most-tries b [] = omega arith
-sets-at-most-tries b (clash r ∷ es) = omega (arith, sets-at-most-tries b es)
-sets-at-most-tries b (fork r ∷ es) = omega (arith, sets-at-most-tries b es)
-sets-at-most-tries b (reading d ∷ es) = omega (arith, sets-at-most-tries b es)
-sets-at-most-tries b (quiet ∷ es) = omega (arith, sets-at-most-tries b es)
-
--- ---- the sets of a page's rows are the readings
-
-rows-standing : (b : Book) (i : ℕ) → i < b .atoms → (l : List Atoms)
-    → standing (atomNo i) (map setIn (map (rowOf b) l)) ≡ standing (atomNo i) l
-unfolding standing setIn
-rows-standing b i h [] = refl
-rows-standing b i h (x ∷ l) = rw (row-at b x i h, one-is (x (atomNo i)), rows-standing b i h l)
-
-page-standing : (b : Book) (i : ℕ) → i < b .atoms → (out : List ℕ) (es : List Event) {m : ℕ} {page : List ℕ} → m ≡ amount b es
-    → page ≡ filled b out (readingsIn b es) → standing (atomNo i) (setsIn (b .atoms) m page) ≡ standing (atomNo i) (readingsIn b es)
-unfolding setsIn
-page-standing b i h out es e w =
-    ap (λ (rows : List (List ℕ)). standing (atomNo i) (map setIn rows)) (page-rows b out es e w) ∙ rows-standing b i h (readingsIn b es)
-
-module _ (n : ℕ) (counts : List ℕ) (l : List Atoms) (e : take n counts ≡ standings n l) where
-  counts-at : (i : ℕ) → i < n → getD counts i 0 ≡ standing (atomNo i) l
-  counts-at i h =
-      ap (λ (k : List ℕ). getD k i 0) (sym (take-append-drop n counts) ∙ ap (λ (k : List ℕ). k ++ drop n counts) e)
-      ∙ numbers-place n _ i (drop n counts) h
-
-  counts-more : (m more : List Atoms) → ((i : ℕ) → i < n → standing (atomNo i) m ≡ standing (atomNo i) more)
-      → take n (summed n counts m) ≡ standings n (l ++ more)
-  counts-more m more same =
-      take-at _ _ n (numbers-length 0 n _)
-      ∙ numbers-same 0 n _ _ (λ j h k.
-      (λ i. counts-at j (omega arith) i + same j (omega arith) i) ∙ sym (standing-append (atomNo j) l more))
-
-summed-length : (n : ℕ) (counts : List ℕ) (m : List Atoms) → n ≤ 255 → length counts ≡ 255 → length (summed n counts m) ≡ 255
-summed-length n counts m h e =
-    let f : ℕ → ℕ = λ i. getD counts i 0 + standing (atomNo i) m in
-    omega (arith, h, e, length-append (numbersFrom 0 n f) (drop n counts), numbers-length 0 n f, length-drop n counts)
+use Rattle.walk.proofs.Shown.{page-good-book, page-goes}
+use Rattle.counting.specs.Counts.{standings}
+use Rattle.counting.specs.SoFar.{setsIn, summed, readingsUpTo, SoFar, AllCounted}
+use Rattle.counting.proofs.Standing.{standing-at-most}
+use Rattle.counting.proofs.PageRows.{sets-at-most-tries, page-standing, counts-at, counts-more, summed-length}
 
 -- ---- the walk behind some events
 
@@ -294,51 +249,3 @@ module _ (s : List ℕ) (h : Shape) (e : ReadAs s h) where
 
       pub never-no-room : {A : Type 0} → p ≡ NoRoom → A
       never-no-room w = never-refused (λ x q. let z = sym (ap told w) ∙ q in apart (cc))
-
-    -- ---- the whole count
-
-    pub count-starts : (limit : ℕ) → SoFar b limit 0 0 (take (h .atoms) (replicate 255 0)) (replicate 255 0)
-    unfolding eventsFrom readingsIn standing
-    count-starts limit = record {
-      within = omega arith;
-      made = omega arith;
-      next = refl;
-      number = refl;
-      each = numbers-equal (b .atoms) 255 0 _ (omega (arith, shape-atoms s h e, few-atoms)) (λ j. refl);
-      last-long = length-take-le {A = ℕ} (h .atoms) (replicate 255 0) (omega (arith, few-atoms, length-replicate {A = ℕ} 255 0)) ∙ sym (shape-atoms s h e);
-      counts-long = length-replicate {A = ℕ} 255 0;
-    }
-
-    -- the row that was kept stands in front of the array's other bytes
-    pub row-kept : {limit n t : ℕ} {kept counts : List ℕ} (behind : List ℕ) → SoFar b limit n t kept counts
-        → SoFar b limit n t (take (h .atoms) (kept ++ behind)) counts
-    row-kept {limit} {n} {t} {kept} {counts} behind f =
-        subst (λ (r : List ℕ). SoFar b limit n t r counts) (sym (take-at kept behind (h .atoms) (f .last-long ∙ shape-atoms s h e))) f
-
-    pub kept-long : {limit n t : ℕ} {kept counts : List ℕ} (l : List ℕ) → SoFar b limit n t kept counts → length l ≡ 255
-        → length (kept ++ drop (h .atoms) l) ≡ 255
-    kept-long {kept = kept} l f long = omega (
-      arith,
-      f .last-long,
-      shape-atoms s h e,
-      few-atoms,
-      long,
-      length-append kept (drop (h .atoms) l),
-      length-drop (h .atoms) l,
-    )
-
-    pub all-answers : {limit n : ℕ} (counts : List ℕ) {tallies held after : List ℕ} → AllCounted b limit n tallies → held ≡ counts
-        → after ≡ take (h .atoms) tallies ++ drop (h .atoms) held → record { told = success n; buffer = after } ≡ countIn b limit counts
-    all-answers {limit} {n} counts {tallies} {held} {after} f q r =
-        let z : after ≡ standings (b .atoms) (readings b) ++ drop (b .atoms) counts =
-        r ∙ ap (λ (l : List ℕ). take (h .atoms) tallies ++ drop (h .atoms) l) q ∙ ap (λ (n : ℕ). take n tallies ++ drop n counts) (sym (shape-atoms s h e)) ∙ ap (λ (k : List ℕ). k ++ drop (b .atoms) counts) (f .each) in
-        (λ i. record { told = success (f .number i); buffer = z i }) ∙ sym (count-within b limit counts (f .within))
-
-pub limit-answers : (b : Book) (limit : ℕ) (counts : List ℕ) {after : List ℕ} → limit < length (events b nothing) → after ≡ counts
-    → record { told = stopped limit; buffer = after } ≡ countIn b limit counts
-limit-answers b limit counts h e = rw e (sym (count-beyond b limit counts h))
-
--- what an answer for a page says, by the answer
-pub comes-as : (b : Book) (limit tries : ℕ) {p q : Paged} (last-row counts : List ℕ) → p ≡ q → Comes b limit tries p last-row counts
-    → Comes b limit tries q last-row counts
-comes-as b limit tries last-row counts e f = subst (λ (p : Paged). Comes b limit tries p last-row counts) e f

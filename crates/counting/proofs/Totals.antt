@@ -2,7 +2,7 @@
 -- test of the counts; and the three together are the sum of the atoms, since of each atom exactly one of the three holds.
 use mathlib.Core.Path.{_≡_, refl, sym, _∙_, ap}
 use mathlib.Core.Logic.{_↔_, ⊎-elim}
-use mathlib.Core.Bool.{Bool, true}
+use mathlib.Core.Bool.{true}
 use mathlib.Core.List.{List, [], _∷_, _++_, map, append-nil, append-assoc, List·Memᴰ, List·Memᴰ·head, List·Memᴰ·tail}
 use Prim.Native.Nat.{ℕ, _+_, _^_, _<_}
 use native.Mathlib.Nat.{mod-eq-of-lt}
@@ -15,11 +15,11 @@ use Rattle.meaning.specs.Books.{Atoms, atomNo, Book}
 use Rattle.meaning.specs.AnswerSet.{AnswerSet, Certain, Clear}
 use Rattle.meaning.proofs.Tests.{both, and-left, and-right, decided, true-and-false, refuted, proved}
 use Rattle.counting.specs.Counts.{Counts, HasOne, InSome, HowMany, none, yes, no, Total, no-books, and-book}
-use Rattle.counting.specs.Totals.{numberBelow, atEach, atSome, atNone, noTotals, totalsFrom, totalsWith, CountedBook, totalsOver}
+use Rattle.counting.specs.Totals.{atEach, atSome, atNone, noTotals, totalsFrom, totalsWith, CountedBook, totalsOver}
 use Rattle.counting.specs.Totals.{plus, atomsOf, TotalsOf}
 use Rattle.counting.specs.declared.sum.Totals.{Totals}
-use Rattle.counting.proofs.Counts.{counts-one-set, counts-certain, counts-some, counts-none}
-use Rattle.counting.proofs.HowMany.{number-same, howMany-told, howMany-none, howMany-at-most, total-at-most, total-with}
+use Rattle.counting.proofs.Counts.{counts-certain, counts-some, counts-none}
+use Rattle.counting.proofs.HowMany.{howMany-told, howMany-none, howMany-at-most, total-at-most, total-with}
 
 -- ---- the sum of the atoms
 
@@ -73,15 +73,6 @@ module _ {b : Book} {n : ℕ} {counts : List ℕ} (c : Counts b n counts) (h : 0
     where
       kept : {P : Book → AtomNo → Type 0} {m c : ℕ} → Total P bs m → HowMany (P b) (b .atoms) c → Total P (bs ++ (b ∷ [])) (plus m c)
       kept {P} {m} {c} p h = rw (plus-fits m c (omega (arith, k, total-at-most p, howMany-at-most h))) (total-with p h)
-
--- the totals read the places of the atoms only
-pub totals-below : (t : Totals) (n m : ℕ) (cs ds : List ℕ) → ((i : ℕ) → i < n → getD cs i 0 ≡ getD ds i 0)
-    → totalsWith t n m cs ≡ totalsWith t n m ds
-unfolding totalsWith totalsFrom
-totals-below t n m cs ds f =
-    let same : (test : ℕ → Bool) → numberBelow n (λ i. test (getD cs i 0)) ≡ numberBelow n (λ i. test (getD ds i 0)) =
-    λ test. number-same n _ _ (λ i h. ap test (f i h)) in
-    rw (same (atEach m), same (atSome m), same (atNone m))
 
 -- ---- Q3: several books
 
@@ -153,14 +144,3 @@ totals-sum (b ∷ bs) f (and-book h t) (and-book i u) (and-book j v) =
     let e = three-sum b x p h i j in
     let g = totals-sum bs (λ d m. f d (List·Memᴰ·tail m)) t u v in
     omega arith
-
--- ---- Q4 of the fold
-
-counted-answer : (cs : List CountedBook) (b : Book) → List·Memᴰ b (booksOf cs) → HasOne b
-counted-answer (c ∷ cs) b (List·Memᴰ·head p) = rw p (counts-one-set (c .right) .1 (c .has-sets))
-counted-answer (c ∷ cs) b (List·Memᴰ·tail m) = counted-answer cs b m
-
-pub totals-over-sum : (cs : List CountedBook) → atomsOf (booksOf cs) < 2 ^ 32 → let t = totalsOver cs noTotals in t .certain + t .some + t .none ≡ t .atoms
-totals-over-sum cs k =
-    let g = totals-right cs k in
-    totals-sum (booksOf cs) (counted-answer cs) (g .certain) (g .some) (g .none) ∙ sym (g .atoms)

@@ -2,7 +2,7 @@
 -- first.
 use mathlib.Core.Path.{_≡_, refl, ap, sym, _∙_}
 use mathlib.Core.List.{List, [], _∷_, _++_, append-assoc}
-use Prim.Native.Nat.{ℕ, _+_}
+use Prim.Native.Nat.{ℕ}
 use native.Mathlib.Omega.{arith}
 use lib.ListN.{length}
 use Rattle.meaning.specs.Told.{refusedAt, Answered}
@@ -25,7 +25,7 @@ use Rattle.lparse.specs.declared.step.Step.{Step}
 use Rattle.lparse.specs.declared.step.Step.the-variants.{Goes as Takes, Format as WrongFormat, Kind as WrongKind, Done}
 use Rattle.lparse.specs.Reading.{textAtom, onKind, onAtom, onListed, onHeadCount, onNegatives, onNumber, numberIn, onValue, signed, onSign, moveOf, stepAt, Part, with, withAtom, withChoice, Heard, says, wrong, adding, heardAt}
 use Rattle.lparse.specs.Collect.{textIn, textOf, numbersOf, collected, collectHeard, collectOf, Stands, whole, Notes, atomsSaid}
-use Rattle.lparse.proofs.Reading.{byStep, heard-step, took-move}
+use Rattle.lparse.proofs.Reading.{byStep, heard-by, took-move}
 use Rattle.lparse.proofs.Spelled.{nothing}
 use Rattle.lparse.proofs.Phases.{Open, NoRule, NoTable, NoPlus, Fits, FitsRole, body-open, heard-fits}
 
@@ -157,21 +157,21 @@ module _ (s seen : List ℕ) (at : ℕ) (due : Due) (l : List TextAtom) {r : Ste
       → gathered l (heardAt s at due) seen ≡ gathered (distinctFrom l (atomsSaid said)) (heardAt s end next) seen
   unfolding byStep
   gather-turn next said from end g =
-      ap (λ h. gathered l h seen) (heard-step s at due ∙ ap (byStep s) (sym e ∙ g))
+      ap (λ h. gathered l h seen) (heard-by s at due e g)
       ∙ turn-said seen l (wordAt s from) next said (heardAt s end next) (rw (took-move s at due e next said from end g) at (first (wordAt s from) due (wordAt s from .bytes)))
       (heard-at-fits s end next)
 
   pub gather-format : (place : ℕ) → r ≡ WrongFormat place → record { told = refusedAt 30 place; buffer = seen } ≡ gathered l (heardAt s at due) seen
   unfolding gathered byStep
-  gather-format place g = sym (ap (λ h. gathered l h seen) (heard-step s at due ∙ ap (byStep s) (sym e ∙ g)))
+  gather-format place g = sym (ap (λ h. gathered l h seen) (heard-by s at due e g))
 
   pub gather-kind : (place : ℕ) → r ≡ WrongKind place → record { told = refusedAt 31 place; buffer = seen } ≡ gathered l (heardAt s at due) seen
   unfolding gathered byStep
-  gather-kind place g = sym (ap (λ h. gathered l h seen) (heard-step s at due ∙ ap (byStep s) (sym e ∙ g)))
+  gather-kind place g = sym (ap (λ h. gathered l h seen) (heard-by s at due e g))
 
   pub gather-end : r ≡ Done → collected l seen ≡ gathered l (heardAt s at due) seen
   unfolding gathered byStep distinctFrom atomsOf mentioned rulesAtoms
-  gather-end g = sym (ap (λ h. gathered l h seen) (heard-step s at due ∙ ap (byStep s) (sym e ∙ g)))
+  gather-end g = sym (ap (λ h. gathered l h seen) (heard-by s at due e g))
 
 -- what the loop knows: the atoms so far stand in the array, and with those of the rest they are the text's
 pub record Gathering (s seen found : List ℕ) (n : ℕ) (rest : Heard) : Type 0 where

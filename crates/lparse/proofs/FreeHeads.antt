@@ -29,7 +29,7 @@ use Rattle.lparse.specs.Reading.{onKind, onAtom, onListed, onHeadCount, 
 use Rattle.lparse.specs.Collect.{textIn}
 use Rattle.lparse.specs.FreeHeads.{nthHead, headHeard, freeHeadOf, isFree, headSaid, headBy, leftBehind}
 use Rattle.lparse.specs.Says.{Written, textSaid, Says}
-use Rattle.lparse.proofs.Reading.{byStep, heard-step, took-move}
+use Rattle.lparse.proofs.Reading.{byStep, heard-by, took-move}
 use Rattle.lparse.proofs.Phases.{Fits, FitsRole}
 use Rattle.lparse.proofs.Said.{says-read}
 use Rattle.lparse.proofs.Collecting.{heard-at-fits}
@@ -123,22 +123,22 @@ module _ (s : List ℕ) (at : ℕ) (due : Due) (found : Whose) (left : ℕ) {r :
       → foundFrom found left (heardAt s at due) ≡ foundFrom f l (heardAt s end next)
   unfolding byStep
   free-turn next said from end g h i j =
-      ap (foundFrom found left) (heard-step s at due ∙ ap (byStep s) (sym e ∙ g))
+      ap (foundFrom found left) (heard-by s at due e g)
       ∙ said-turn (wordAt s from) next said (heardAt s end next) found left
       (rw (took-move s at due e next said from end g) at (free-first (wordAt s from) due (wordAt s from .bytes))) (heard-at-fits s end next)
       ∙ sym (rw (i, j, h))
 
   pub free-format : (place : ℕ) → r ≡ WrongFormat place → Nobody ≡ foundFrom found left (heardAt s at due)
   unfolding byStep foundFrom
-  free-format place g = sym (ap (foundFrom found left) (heard-step s at due ∙ ap (byStep s) (sym e ∙ g)))
+  free-format place g = sym (ap (foundFrom found left) (heard-by s at due e g))
 
   pub free-kind : (place : ℕ) → r ≡ WrongKind place → Nobody ≡ foundFrom found left (heardAt s at due)
   unfolding byStep foundFrom
-  free-kind place g = sym (ap (foundFrom found left) (heard-step s at due ∙ ap (byStep s) (sym e ∙ g)))
+  free-kind place g = sym (ap (foundFrom found left) (heard-by s at due e g))
 
   pub free-done : r ≡ Done → found ≡ foundFrom found left (heardAt s at due)
   unfolding byStep foundFrom nthHead freesOf freeHeads
-  free-done g = stays found ∙ sym (ap (foundFrom found left) (heard-step s at due ∙ ap (byStep s) (sym e ∙ g)))
+  free-done g = stays found ∙ sym (ap (foundFrom found left) (heard-by s at due e g))
 
 -- at a rule's start no head is open
 pub free-start : (s : List ℕ) (j : ℕ) → freeHeadOf s j ≡ foundFrom Nobody j (textIn s)

@@ -34,7 +34,7 @@ use Rattle.lparse.specs.Names.{whoseIn, whoseOf, nthIn, nameHeard, nameO
 use Rattle.lparse.specs.Says.{Written, Says}
 use Rattle.lparse.proofs.Said.{says-read}
 use Rattle.lparse.proofs.Noting.{numbers-atoms}
-use Rattle.lparse.proofs.Reading.{byStep, heard-step, step-ahead, took-ahead, took-end}
+use Rattle.lparse.proofs.Reading.{byStep, heard-by, took-ahead, took-end}
 
 -- ---- the atom with a number
 
@@ -183,23 +183,23 @@ module _ (s : List ℕ) (a : TextAtom) (at : ℕ) (due : Due) (found : Name) (le
       → namedBy found left (heardAt s at due) a ≡ namedBy f l (heardAt s end next) a
   unfolding byStep wordAt
   name-turn next said from end g n i j =
-      let (f, h, k) = took-ahead next said from end (step-ahead s at due) (sym e ∙ g) in
-      ap (λ h. namedBy found left h a) (heard-step s at due ∙ ap (byStep s) (sym e ∙ g))
+      let (f, h, k) = took-ahead s at due e next said from end g in
+      ap (λ h. namedBy found left h a) (heard-by s at due e g)
       ∙ named-turn (wordAt s from) a from end refl (word-bytes s from end (took-end s at due e next said from end g) h k) said
       (heardAt s end next) found left
       ∙ sym (rw (i, j, n))
 
   pub name-format : (place : ℕ) → r ≡ WrongFormat place → Nameless ≡ namedBy found left (heardAt s at due) a
   unfolding byStep namedBy
-  name-format place g = sym (ap (λ h. namedBy found left h a) (heard-step s at due ∙ ap (byStep s) (sym e ∙ g)))
+  name-format place g = sym (ap (λ h. namedBy found left h a) (heard-by s at due e g))
 
   pub name-kind : (place : ℕ) → r ≡ WrongKind place → Nameless ≡ namedBy found left (heardAt s at due) a
   unfolding byStep namedBy
-  name-kind place g = sym (ap (λ h. namedBy found left h a) (heard-step s at due ∙ ap (byStep s) (sym e ∙ g)))
+  name-kind place g = sym (ap (λ h. namedBy found left h a) (heard-by s at due e g))
 
   pub name-done : r ≡ Done → found ≡ namedBy found left (heardAt s at due) a
   unfolding byStep namedBy nthIn
-  name-done g = stays found ∙ sym (ap (λ h. namedBy found left h a) (heard-step s at due ∙ ap (byStep s) (sym e ∙ g)))
+  name-done g = stays found ∙ sym (ap (λ h. namedBy found left h a) (heard-by s at due e g))
 
 -- ---- what the two searches give, of a text in the format
 

@@ -63,14 +63,17 @@ moved s (Goes due said) from end = refl
 moved s Format from end = refl
 moved s OtherKind from end = refl
 
-pub heard-step : (s : List ℕ) (at : ℕ) (due : Due) → heardAt s at due ≡ byStep s (stepAt s at due)
+heard-step : (s : List ℕ) (at : ℕ) (due : Due) → heardAt s at due ≡ byStep s (stepAt s at due)
 unfolding stepAt
 heard-step s at due =
     lt-either (λ r. heardAt s at due ≡ byStep s r) (startOf s at) (length s) _ _
     (λ h. heard-word s at due h ∙ moved s _ _ _) (λ h. heard-none s at due h ∙ ended s due)
 
+pub heard-by : (s : List ℕ) (at : ℕ) (due : Due) {r t : Step} → r ≡ stepAt s at due → r ≡ t → heardAt s at due ≡ byStep s t
+heard-by s at due e g = heard-step s at due ∙ ap (byStep s) (sym e ∙ g)
+
 -- a word that is taken ends behind `at` and within the text
-pub data Ahead (at len : ℕ) : Step → Type 0 where
+data Ahead (at len : ℕ) : Step → Type 0 where
   takes : {due : Due} {said : Said} {from end : ℕ} → at ≤ from → from < end → end ≤ len → Ahead at len (Takes due said from end)
   format : {place : ℕ} → Ahead at len (WrongFormat place)
   kind : {place : ℕ} → Ahead at len (WrongKind place)
@@ -86,22 +89,21 @@ ahead-move at len (Goes due said) from end f g h = takes f g h
 ahead-move at len Format from end f g h = format
 ahead-move at len OtherKind from end f g h = kind
 
-pub step-ahead : (s : List ℕ) (at : ℕ) (due : Due) → Ahead at (length s) (stepAt s at due)
+step-ahead : (s : List ℕ) (at : ℕ) (due : Due) → Ahead at (length s) (stepAt s at due)
 unfolding stepAt
 step-ahead s at due =
     lt-either (Ahead at (length s)) (startOf s at) (length s) _ _
     (λ h. ahead-move at (length s) _ _ _ (start-late s at) (word-grows s at h) (end-within s _ (omega arith)))
     (λ h. ahead-end at (length s) due)
 
--- what the code knows of a word that it took
-pub took-ahead : {at len : ℕ} {r : Step} (due : Due) (said : Said) (from end : ℕ)
+ahead-parts : {at len : ℕ} {r : Step} (due : Due) (said : Said) (from end : ℕ)
     → Ahead at len r → r ≡ Takes due said from end → (at ≤ from) × (from < end) × (end ≤ len)
-took-ahead due said from end (takes {from = f} {end = g} p q h) e =
+ahead-parts due said from end (takes {from = f} {end = g} p q h) e =
     let a : f ≡ from = cc in
     let b : g ≡ end = cc in (rw (← a) p, rw (← a, ← b) q, rw (← b) h)
-took-ahead due said from end format e = let z : _≡_ {A = ℕ} 0 1 = cc in absurd (omega arith)
-took-ahead due said from end kind e = let z : _≡_ {A = ℕ} 0 1 = cc in absurd (omega arith)
-took-ahead due said from end done e = let z : _≡_ {A = ℕ} 0 1 = cc in absurd (omega arith)
+ahead-parts due said from end format e = let z : _≡_ {A = ℕ} 0 1 = cc in absurd (omega arith)
+ahead-parts due said from end kind e = let z : _≡_ {A = ℕ} 0 1 = cc in absurd (omega arith)
+ahead-parts due said from end done e = let z : _≡_ {A = ℕ} 0 1 = cc in absurd (omega arith)
 
 -- the move of a word that was taken, and its end
 unfoldable MovedTo : List ℕ → Due → Step → Type 0
@@ -125,8 +127,15 @@ unfolding stepAt
 moved-step s at due =
     lt-either (MovedTo s due) (startOf s at) (length s) _ _ (λ h. moved-by s due _ _ refl) (λ h. moved-end s due (length s))
 
+-- what the code knows of a word that it took
 module _ (s : List ℕ) (at : ℕ) (due : Due) {r : Step} (e : r ≡ stepAt s at due) (next : Due) (said : Said) (from end : ℕ)
     (g : r ≡ Takes next said from end) where
+  pub took-ahead : (at ≤ from) × (from < end) × (end ≤ length s)
+  took-ahead = ahead-parts next said from end (step-ahead s at due) (sym e ∙ g)
+
+  pub took-behind : (at < end) × (end ≤ length s)
+  took-behind = let (f, h, k) = took-ahead in (omega arith, k)
+
   took : (moveOf due (wordAt s from .bytes) ≡ Goes next said) × (end ≡ endOf s from)
   unfolding MovedTo
   took = rw (sym e ∙ g) at (moved-step s at due)
@@ -148,23 +157,23 @@ module _ (s : List ℕ) (at : ℕ) (due : Due) {r : Step} (p : Part) (h : heardA
       → (q : Part) × (heardAt s end next ≡ says q) × (with (wordAt s from) said q ≡ p)
   unfolding byStep
   took-part next said from end g =
-      adding-part (wordAt s from) said (heardAt s end next) p (sym (heard-step s at due ∙ ap (byStep s) (sym e ∙ g)) ∙ h)
+      adding-part (wordAt s from) said (heardAt s end next) p (sym (heard-by s at due e g) ∙ h)
 
   pub never-format : (place : ℕ) → r ≡ WrongFormat place → ⊥
   unfolding byStep
   never-format place g =
-      let k = sym (heard-step s at due ∙ ap (byStep s) (sym e ∙ g)) ∙ h in
+      let k = sym (heard-by s at due e g) ∙ h in
       let z : _≡_ {A = ℕ} 0 1 = cc in omega arith
 
   pub never-kind : (place : ℕ) → r ≡ WrongKind place → ⊥
   unfolding byStep
   never-kind place g =
-      let k = sym (heard-step s at due ∙ ap (byStep s) (sym e ∙ g)) ∙ h in
+      let k = sym (heard-by s at due e g) ∙ h in
       let z : _≡_ {A = ℕ} 0 1 = cc in omega arith
 
   pub done-part : r ≡ Done → nothingMore ≡ p
   unfolding byStep
-  done-part g = let k = sym (heard-step s at due ∙ ap (byStep s) (sym e ∙ g)) ∙ h in cc
+  done-part g = let k = sym (heard-by s at due e g) ∙ h in cc
 
 -- a text ends only where nothing is due any more
 unfoldable EndsAt : Due → Step → Type 0

@@ -18,33 +18,33 @@ abbrev μ-loop : tie.MeasureT-loop
 
 returns : tie.Need-returns Inv-loop μ-loop
 returns c =
-    let k = c .before .before .before in
-    sym (k .loop .inv .2 ∙ value-turn _ (k .before .args .word .now) (k .loop .i) _ (omega arith) ∙ lt-yes _ _ _ _ (omega arith))
+    let turn = c .before .before .before in
+    sym (turn .loop .inv .2 ∙ value-turn _ (turn .before .args .word .now) (turn .loop .i) _ (omega arith) ∙ lt-yes _ _ _ _ (omega arith))
 
 returns-2 : tie.Need-returns-2 Inv-loop μ-loop
 returns-2 c =
-    let k = c .before .before .before .before in
-    sym (k .loop .inv .2 ∙ value-turn _ (k .before .args .word .now) (k .loop .i) _ (omega arith) ∙ lt-no _ _ _ _ (omega arith)
+    let turn = c .before .before .before .before in
+    sym (turn .loop .inv .2 ∙ value-turn _ (turn .before .args .word .now) (turn .loop .i) _ (omega arith) ∙ lt-no _ _ _ _ (omega arith)
     ∙ lt-yes _ _ _ _ (omega arith))
 
 returns-3 : tie.Need-returns-3 Inv-loop μ-loop
 returns-3 c =
-    let k = c .before .before .before .before .before in
-    sym (k .loop .inv .2 ∙ value-turn _ (k .before .args .word .now) (k .loop .i) _ (omega arith) ∙ lt-no _ _ _ _ (omega arith)
+    let turn = c .before .before .before .before .before in
+    sym (turn .loop .inv .2 ∙ value-turn _ (turn .before .args .word .now) (turn .loop .i) _ (omega arith) ∙ lt-no _ _ _ _ (omega arith)
     ∙ lt-no _ _ _ _ (omega arith) ∙ lt-yes _ _ _ _ (omega arith))
 
 returns-4 : tie.Need-returns-4 Inv-loop μ-loop
 returns-4 c =
-    let k = c .before .before .before .before .before .before in
-    sym (k .loop .inv .2 ∙ value-turn _ (k .before .args .word .now) (k .loop .i) _ (omega arith) ∙ lt-no _ _ _ _ (omega arith)
+    let turn = c .before .before .before .before .before .before in
+    sym (turn .loop .inv .2 ∙ value-turn _ (turn .before .args .word .now) (turn .loop .i) _ (omega arith) ∙ lt-no _ _ _ _ (omega arith)
     ∙ lt-no _ _ _ _ (omega arith) ∙ lt-yes _ _ _ _ (omega arith))
 
 loop-again : tie.Need-loop-again Inv-loop μ-loop
 loop-again c =
-    let k = c .before .before .before .before .before .before in (
+    let turn = c .before .before .before .before .before .before in (
       search needs,
       search needs,
-      k .loop .inv .2 ∙ value-turn _ (k .before .args .word .now) (k .loop .i) _ (omega arith)
+      turn .loop .inv .2 ∙ value-turn _ (turn .before .args .word .now) (turn .loop .i) _ (omega arith)
           ∙ lt-no _ _ _ _ (omega arith) ∙ lt-no _ _ _ _ (omega arith) ∙ lt-no _ _ _ _ (omega arith),
     )
 

@@ -45,39 +45,60 @@ module _ (p : tie.After-wide) where
       + (length (partBytes minus (map atomNo (after-negatives .negatives .result .now))) + 1)))) ≤ length (start .args .out .now)
   room = omega (arith, start .pre .2, line-long put _ _ _ head-put positives-put negatives-put)
 
+-- ---- from behind each piece of the line back to the piece before it
+
+abbrev after-wide : tie.After-put-item → tie.After-wide
+after-wide c = c .before .before
+
+abbrev after-put-item : tie.After-put-item2 → tie.After-put-item
+after-put-item c = c .before .before .before .before .before
+
+abbrev after-put-item2 : tie.After-put-part → tie.After-put-item2
+after-put-item2 c = c .before .before .before .before .before
+
+abbrev after-put-part : tie.After-put-part2 → tie.After-put-part
+after-put-part c = c .before .before .before .before .before
+
+-- all the way, from behind the last part
+abbrev headed : tie.After-put-part2 → tie.After-wide
+headed c = c .before .before .before .before .before .before .before .before .before .before .before .before .before .before .before .before .before
+
 put-item-requires : tie.Need-put-item-requires
 put-item-requires c κs = omega (arith, room (c .before))
 
 put-item-requires-2 : tie.Need-put-item-requires-2
 put-item-requires-2 c κs =
-    let fits = room (c .before .before .before .before .before .before) in
+    let item = c .before .before .before .before in
+    let fits = room (after-wide item) in
     omega (arith, fits)
 
 put-part-requires : tie.Need-put-part-requires
 put-part-requires c κs =
-    let fits = room (c .before .before .before .before .before .before .before .before .before .before .before) in
+    let item2 = c .before .before .before .before in
+    let fits = room (after-wide (after-put-item item2)) in
     omega (arith, fits)
 
 put-part-requires-2 : tie.Need-put-part-requires-2
 put-part-requires-2 c κs =
-    let fits = room (c .before .before .before .before .before .before .before .before .before .before .before .before .before .before .before .before) in
+    let part = c .before .before .before .before in
+    let fits = room (after-wide (after-put-item (after-put-item2 part))) in
     omega (arith, fits)
 
 put-text-requires : tie.Need-put-text-requires
 put-text-requires c κs =
-    let fits = room (c .before .before .before .before .before .before .before .before .before .before .before .before .before .before .before .before .before .before .before .before .before) in
+    let fits = room (headed (c .before .before .before .before)) in
     omega (arith, fits)
 
 returns : tie.Need-returns
 returns c =
-    let after-put-part2 = c .before .before .before .before .before .before .before in
-    let after-put-part = c .before .before .before .before .before .before .before .before .before .before .before .before in
-    let after-put-item2 = c .before .before .before .before .before .before .before .before .before .before .before .before .before .before .before .before .before in
-    let after-put-item = c .before .before .before .before .before .before .before .before .before .before .before .before .before .before .before .before .before .before .before .before .before .before in
-    let after-wide = c .before .before .before .before .before .before .before .before .before .before .before .before .before .before .before .before .before .before .before .before .before .before .before .before in
-    line-stored (put after-wide) _ _ _ (head-put after-wide) (positives-put after-wide) (negatives-put after-wide)
-    (after-put-item .put-item .ensures) (after-put-item2 .put-item2 .ensures) (after-put-part .put-part .ensures)
-    (after-put-part2 .put-part2 .ensures) (c .before .before .put-text .ensures)
+    let part2 = c .before .before .before .before .before .before .before in
+    let part = after-put-part part2 in
+    let item2 = after-put-item2 part in
+    let item = after-put-item item2 in
+    let w = headed part2 in
+    line-stored (put w) _ _ _ (head-put w) (positives-put w) (negatives-put w)
+    (item .put-item .ensures) (item2 .put-item2 .ensures) (part .put-part .ensures)
+    (part2 .put-part2 .ensures) (c .before .before .put-text .ensures)
 
 pub put-rule-spec : {M : Type 1} → statement M
 put-rule-spec = tie.close (tie.spec (λ c κs. search needs) (λ c κs. search needs) (λ c. search needs) (λ c κs. search needs) (λ c κs. search needs) (λ c. search needs) put-item-requires (λ c. search needs) (λ c. search needs) put-item-requires-2 (λ c. search needs) put-part-requires (λ c. search needs) put-part-requires-2 (λ c. search needs) put-text-requires (λ c. search needs) returns)

@@ -8,10 +8,11 @@ use Rattle.checker.proofs.condition.may_go_on.Tie as tie
 
 returns : tie.Need-returns
 returns c =
-    let l = c .before .before .before in
-    let h = l .before .before in
-    let s = h .before .before .before in
-    c .goes-on .ensures ∙ goes-on-mayOn _ _ (s .pre .0) (omega arith) _ (s .pre .1) _ _ (h .heads-of .ensures) _ (l .lost-in .ensures)
+    let after-lost-in = c .before .before .before in
+    let h = after-lost-in .before .before in
+    let start = h .before .before .before in
+    c .goes-on .ensures ∙ goes-on-mayOn _ _ (start .pre .0) (omega arith) _ (start .pre .1) _ _ (h .heads-of .ensures) _
+    (after-lost-in .lost-in .ensures)
 
 pub may-go-on-spec : {M : Type 1} → statement M
 may-go-on-spec =

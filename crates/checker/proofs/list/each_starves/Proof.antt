@@ -25,11 +25,14 @@ loop-holds : tie.Need-loop-holds Inv-loop μ-loop
 unfolding every
 loop-holds c = search needs
 
+-- before the loop, the start
+abbrev start : tie.At-loop Inv-loop μ-loop → tie.Start Inv-loop μ-loop
+start turn = turn .before .before .before
+
 is-starved-requires : tie.Need-is-starved-requires Inv-loop μ-loop
 is-starved-requires c κs =
     let t = c .before .before in
-    let s = t .before .before .before in
-    (s .pre .0, s .pre .1 .at (t .loop .i) (omega arith))
+    (start t .pre .0, start t .pre .1 .at (t .loop .i) (omega arith))
 
 -- a rule is asked: the turn of the loop, and the list
 module _ (c : tie.After-is-starved Inv-loop μ-loop) where
@@ -37,7 +40,7 @@ module _ (c : tie.After-is-starved Inv-loop μ-loop) where
   turn = c .before .before .before
 
   abbrev rules : List ℕ
-  rules = turn .before .before .before .args .list .now
+  rules = start turn .args .list .now
 
 returns : tie.Need-returns Inv-loop μ-loop
 returns c =
@@ -54,7 +57,7 @@ loop-again c =
 
 returns-2 : tie.Need-returns-2 Inv-loop μ-loop
 returns-2 c =
-    let t = c .before in sym (starved-end _ _ (t .before .before .before .args .list .now) (t .loop .i) (omega arith) (t .loop .inv .1))
+    let t = c .before in sym (starved-end _ _ (start t .args .list .now) (t .loop .i) (omega arith) (t .loop .inv .1))
 
 pub each-starves-spec : {M : Type 1} → statement M
 each-starves-spec =

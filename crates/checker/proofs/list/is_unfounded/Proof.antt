@@ -20,13 +20,13 @@ with-rules-requires c κs =
 
 returns : tie.Need-returns
 returns c =
-    let g = c .before .before .before in
-    let w = g .before in
+    let after-with-rules = c .before .before .before in
+    let w = after-with-rules .before in
     let start = w .before .before .before in
     let s = start .args in
     c .each-starves .ensures
-    ∙ unfounded-by _ (of (listed (s .off .now))) (of (listed (g .with-rules .result .w))) (s .list .now)
-    (g .with-rules .ensures ∙ ap (λ (v : List ℕ). plus (of (listed v)) (map ruleNo (s .list .now))) (w .whole .ensures))
+    ∙ unfounded-by _ (of (listed (s .off .now))) (of (listed (after-with-rules .with-rules .result .w))) (s .list .now)
+    (after-with-rules .with-rules .ensures ∙ ap (λ (v : List ℕ). plus (of (listed v)) (map ruleNo (s .list .now))) (w .whole .ensures))
 
 pub is-unfounded-spec : {M : Type 1} → statement M
 is-unfounded-spec =

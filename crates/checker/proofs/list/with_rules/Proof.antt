@@ -44,8 +44,8 @@ loop-again c =
 returns : tie.Need-returns Inv-loop μ-loop
 returns c =
     let t = c .before in
-    let s = t .before .before .before in
-    add-end (of (listed (s .args .set .w))) _ (s .args .list .now) (t .loop .i) (omega arith) (t .loop .inv .1)
+    let start = t .before .before .before in
+    add-end (of (listed (start .args .set .w))) _ (start .args .list .now) (t .loop .i) (omega arith) (t .loop .inv .1)
 
 pub with-rules-spec : {M : Type 1} → statement M
 with-rules-spec =

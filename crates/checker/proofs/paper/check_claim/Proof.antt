@@ -23,8 +23,9 @@ returns c =
 
 returns-2 : tie.Need-returns-2
 returns-2 c =
-    let p = c .before .before .before in
-    sym (byte-wrong _ _ _ (p .before .wide .ensures .0) (p .u16-at .ensures .0) (c .before .before .if1 .left) (atoms p)
+    let after-u16-at = c .before .before .before in
+    sym (byte-wrong _ _ _ (after-u16-at .before .wide .ensures .0) (after-u16-at .u16-at .ensures .0) (c .before .before .if1 .left)
+    (atoms after-u16-at)
     (c .before .is-stated .ensures) (not-true _ (c .if2 .taken)))
 
 returns-3 : tie.Need-returns-3

@@ -41,7 +41,7 @@ entry l = l .before .before .before
 -- the turn's number is one of the book: the turn of the loop, the start, and that its positive atoms have places in the table
 module _ (c : tie.After-has Inv-loop μ-loop) where
   abbrev turn : tie.At-loop Inv-loop μ-loop
-  turn = begun (c .before .before .before)
+  turn = c .before .before .before .before .before .before
 
   abbrev start : tie.Start Inv-loop μ-loop
   start = entry turn
@@ -63,8 +63,11 @@ module _ (c : tie.After-every-in Inv-loop μ-loop) where
   looked-up : every (atomsIn (turn known .loop .headed)) (ruleAt known .pos) ≡ c .every-in .result
   looked-up = sym (every-part _ _ _ (c .before .before .positives .ensures)) ∙ sym (c .every-in .ensures)
 
--- its head is read, which has a place in the table
+-- its head is read, as all its positive atoms are there, and has a place in the table
 module _ (c : tie.After-head Inv-loop μ-loop) where
+  abbrev all-there : tie.Else3 Inv-loop μ-loop
+  all-there = c .before .before .before
+
   abbrev asked : tie.After-every-in Inv-loop μ-loop
   asked = c .before .before .before .before
 
@@ -100,7 +103,7 @@ loop-again c =
     let p = known q in
     let e = shape-count _ _ (start p .pre .0) in
     ordered-next (turn p .loop .inv) (omega arith) (small p) (omega arith) (omega arith)
-    (sym (p .has .ensures) ∙ unlisted q .if2 .left) (looked-up q ∙ not-false _ (h .before .before .before .if3 .left)) _ (h .before .put .ensures) _ _
+    (sym (p .has .ensures) ∙ unlisted q .if2 .left) (looked-up q ∙ not-false _ (all-there h .if3 .left)) _ (h .before .put .ensures) _ _
     (c .wide .ensures .0) (h .head .ensures) (place h)
 
 returns-4 : tie.Need-returns-4 Inv-loop μ-loop

@@ -25,8 +25,8 @@ loop-holds c = (search needs, rw add-zero)
 is-blocked-requires : tie.Need-is-blocked-requires Inv-loop μ-loop
 is-blocked-requires c κs =
     let t = c .before .before in
-    let s = t .before .before .before in
-    (s .pre .0, s .pre .1 .at (t .loop .i) (omega arith))
+    let start = t .before .before .before in
+    (start .pre .0, start .pre .1 .at (t .loop .i) (omega arith))
 
 -- a rule is tested: the turn of the loop, and the start
 module _ (c : tie.After-is-blocked Inv-loop μ-loop) where
@@ -53,8 +53,8 @@ loop-again c =
 returns-2 : tie.Need-returns-2 Inv-loop μ-loop
 returns-2 c =
     let t = c .before in
-    let s = t .before .before .before in
-    sym (t .loop .inv .1 ∙ blocked-end _ (s .args .list .now) (s .args .from) (t .loop .i) _ (omega arith))
+    let start = t .before .before .before in
+    sym (t .loop .inv .1 ∙ blocked-end _ (start .args .list .now) (start .args .from) (t .loop .i) _ (omega arith))
 
 pub check-unblocked-spec : {M : Type 1} → statement M
 check-unblocked-spec =

@@ -51,7 +51,7 @@ module _ (c : tie.After-heads-of) where
 
   -- the last argument of heads_of, as it left it
   abbrev headed : List Bool
-  headed = c .heads-of .last .1 .1 .1 .0
+  headed = let (book, (shape, (set, (out, more)))) = c .heads-of .last in out
 
   tabled : let s = start (first right) .args in
       Tabled (s .book .now) (s .shape) (s .paper .now) (s .trailer .from) (s .trailer .count) (list (first right))

@@ -35,10 +35,10 @@ some-in-requires c κs =
 
 returns-2 : tie.Need-returns-2
 returns-2 c =
-    let p = c .before .before .before in
+    let after-every-in = c .before .before .before in
     c .some-in .ensures
     ∙ some-part _ _ _ (c .before .negatives .ensures)
-    ∙ sym (fails-negative _ _ (looked-up p ∙ not-false _ (c .before .before .if1 .left)))
+    ∙ sym (fails-negative _ _ (looked-up after-every-in ∙ not-false _ (c .before .before .if1 .left)))
 
 pub fails-in-spec : {M : Type 1} → statement M
 fails-in-spec =

@@ -45,9 +45,10 @@ module _ (c : tie.After-has Inv-loop μ-loop) where
 
 returns : tie.Need-returns Inv-loop μ-loop
 returns c =
-    let p = c .before .before .before in
-    sym (rest-stops _ _ (ruleNo (turn p .loop .r)) (shape-in _ _ (start p .pre) (ruleNo (turn p .loop .r)) (omega arith))
-    (neither (sym (p .has .ensures) ∙ not-true _ (c .before .before .if2 .taken))
+    let after-has = c .before .before .before in
+    sym (rest-stops _ _ (ruleNo (turn after-has .loop .r)) (shape-in _ _ (start after-has .pre) (ruleNo (turn after-has .loop .r))
+    (omega arith))
+    (neither (sym (after-has .has .ensures) ∙ not-true _ (c .before .before .if2 .taken))
     (sym (c .before .fails-in .ensures) ∙ not-true _ (c .if3 .taken))))
 
 passes : (c : tie.Joined2 Inv-loop μ-loop) → Passes (c .before)

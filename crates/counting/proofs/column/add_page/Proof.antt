@@ -48,8 +48,9 @@ loop-again c =
 returns : tie.Need-returns Inv-loop μ-loop
 returns c =
     let k = c .before in
-    let s = k .before .before .before in
-    sums-end (s .args .page .now) (s .args .atoms) (s .args .rows) (s .args .counts .now) (s .pre .1) (s .pre .2) (k .loop .inv .0)
+    let start = k .before .before .before in
+    sums-end (start .args .page .now) (start .args .atoms) (start .args .rows) (start .args .counts .now) (start .pre .1) (start .pre .2)
+    (k .loop .inv .0)
     (c .loop-test .left) (k .loop .inv .2)
 
 pub add-page-spec : {M : Type 1} → statement M

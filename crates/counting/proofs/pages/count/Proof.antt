@@ -19,11 +19,11 @@ returns c =
 
 returns-2 : tie.Need-returns-2
 returns-2 c =
-    let h = c .before .before .before in
-    let start = h .before .before .before .before in
+    let matched = c .before .before .before in
+    let start = matched .before .before .before .before in
     let s = start .args .book .now in
     c .count-in .ensures ∙ sym (count-good-book s _ _ _ _ _ _
-    (told-good (readOf s) _ _ _ (read-as _ (h .before .before .read-book .ensures) (h .shape .given .1))))
+    (told-good (readOf s) _ _ _ (read-as _ (matched .before .before .read-book .ensures) (matched .shape .given .1))))
 
 pub count-spec : {M : Type 1} → statement M
 count-spec =

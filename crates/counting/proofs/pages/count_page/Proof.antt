@@ -52,10 +52,10 @@ sub-keep-row c =
 
 keep-row-requires : tie.Need-keep-row-requires
 keep-row-requires c κs =
-    let k = c .before .before .before .before .before .before .before in
-    let h = full-adds k .fits in
-    let g = row-fits k in
-    let s = start (asked k) in
+    let after-room-for = c .before .before .before .before .before .before .before in
+    let h = full-adds after-room-for .fits in
+    let g = row-fits after-room-for in
+    let s = start (asked after-room-for) in
     (search needs, s .pre .1 .last-long ∙ shape-atoms _ _ (s .pre .0))
 
 add-sets : tie.Need-add-t30
@@ -65,12 +65,13 @@ add-sets c =
 
 returns : tie.Need-returns
 returns c =
-    let a = c .before .before .before .before .before .before .before in
-    let k = a .before .before .before in
-    let p = asked k in
+    let after-add-page = c .before .before .before .before .before .before .before in
+    let after-room-for = after-add-page .before .before .before in
+    let p = asked after-room-for in
     more-counted _ _ (start p .pre .0) (few-rules p) (few-atoms p) (start p .pre .1) _ (length-replicate {A = ℕ} 65280 0)
-    (p .page .result) (p .page .ensures) (k .before .before .made .given .1) (k .room-for .ensures) (search needs) (c .before .before .keep-row .ensures)
-    (a .add-page .ensures)
+    (p .page .result) (p .page .ensures) (after-room-for .before .before .made .given .1) (after-room-for .room-for .ensures)
+    (search needs) (c .before .before .keep-row .ensures)
+    (after-add-page .add-page .ensures)
 
 -- ---- the last page
 
@@ -78,7 +79,10 @@ module _ (c : tie.After-known-told2) where
   abbrev asked-last : tie.After-page
   asked-last = c .before .before .before .before
 
-  last-adds : let a = start asked-last .args in Addable (a .shape .atoms) (a .limit) (a .sets) (a .tallies .now) (c .before .count .given .0 .1 .0)
+  abbrev rows : ℕ
+  rows = let (tries, (count, more)) = c .before .count .given .0 in count
+
+  last-adds : let a = start asked-last .args in Addable (a .shape .atoms) (a .limit) (a .sets) (a .tallies .now) rows
   last-adds = last-addable _ _ (start asked-last .pre .0) (few-rules asked-last) (few-atoms asked-last) (start asked-last .pre .1) _
       (length-replicate {A = ℕ} 65280 0) (asked-last .page .result) (asked-last .page .ensures) (c .before .count .given .1) (search needs)
 
@@ -96,30 +100,33 @@ add-sets-2 c =
 returns-2 : tie.Need-returns-2
 returns-2 c =
     let a = c .before .before in
-    let k = a .before .before .before in
-    let p = asked-last k in
+    let earlier = a .before .before .before in
+    let p = asked-last earlier in
     all-counted _ _ (start p .pre .0) (few-rules p) (few-atoms p) (start p .pre .1) _ (length-replicate {A = ℕ} 65280 0)
-    (p .page .result) (p .page .ensures) (k .before .count .given .1) (search needs) (a .add-page2 .ensures)
+    (p .page .result) (p .page .ensures) (earlier .before .count .given .1) (search needs) (a .add-page2 .ensures)
 
 -- ---- the limit, and what does not come
 
 returns-3 : tie.Need-returns-3
 returns-3 c =
-    let p = c .before .before .before in
-    cut-longer _ _ (start p .pre .0) (few-rules p) (few-atoms p) (start p .pre .1) _ (length-replicate {A = ℕ} 65280 0)
-    (p .page .result) (p .page .ensures) (c .enum-told .given .1)
+    let after-page = c .before .before .before in
+    cut-longer _ _ (start after-page .pre .0) (few-rules after-page) (few-atoms after-page) (start after-page .pre .1) _
+    (length-replicate {A = ℕ} 65280 0)
+    (after-page .page .result) (after-page .page .ensures) (c .enum-told .given .1)
 
 returns-4 : tie.Need-returns-4
 returns-4 c =
-    let p = c .before .before .before in
-    never-bad _ _ (start p .pre .0) (few-rules p) (few-atoms p) (start p .pre .1) _ (length-replicate {A = ℕ} 65280 0)
-    (p .page .result) (p .page .ensures) (c .enum-told2 .given .1)
+    let after-page = c .before .before .before in
+    never-bad _ _ (start after-page .pre .0) (few-rules after-page) (few-atoms after-page) (start after-page .pre .1) _
+    (length-replicate {A = ℕ} 65280 0)
+    (after-page .page .result) (after-page .page .ensures) (c .enum-told2 .given .1)
 
 returns-5 : tie.Need-returns-5
 returns-5 c =
-    let p = c .before .before .before in
-    never-no-room _ _ (start p .pre .0) (few-rules p) (few-atoms p) (start p .pre .1) _ (length-replicate {A = ℕ} 65280 0)
-    (p .page .result) (p .page .ensures) (c .enum-told3 .given .1)
+    let after-page = c .before .before .before in
+    never-no-room _ _ (start after-page .pre .0) (few-rules after-page) (few-atoms after-page) (start after-page .pre .1) _
+    (length-replicate {A = ℕ} 65280 0)
+    (after-page .page .result) (after-page .page .ensures) (c .enum-told3 .given .1)
 
 pub count-page-spec : {M : Type 1} → statement M
 count-page-spec =

@@ -20,11 +20,11 @@ loop-holds c = let a = c .before .args in (omega arith, rules-none (a .up) (book
 
 loop-again : tie.Need-loop-again Inv-loop μ-loop
 loop-again c =
-    let k = c .before .before .before .before in
-    let s = k .before .before in
+    let turn = c .before .before .before .before in
+    let s = turn .before .before in
     let a = s .args in (
       omega arith,
-      rules-more (a .up) (bookIn (a .book .now)) (k .loop .r) (omega (arith, shape-count _ (a .shape) (s .pre .0))) (k .loop .inv .1)
+      rules-more (a .up) (bookIn (a .book .now)) (turn .loop .r) (omega (arith, shape-count _ (a .shape) (s .pre .0))) (turn .loop .inv .1)
           (c .add-moved .ensures),
     )
 

@@ -16,8 +16,8 @@ keeps s = rule-keeps _ (s .args .shape) (s .pre .0) (s .args .r) (s .pre .1)
 
 move-part-requires : tie.Need-move-part-requires
 move-part-requires c κs =
-    let s = c .before .before .before in
-    below-moved (s .args .up) (s .args .shape .atoms) _ (keeps s .pos) (s .pre .2) (c .before .positives .ensures)
+    let start = c .before .before .before in
+    below-moved (start .args .up) (start .args .shape .atoms) _ (keeps start .pos) (start .pre .2) (c .before .positives .ensures)
 
 -- behind the first part: the start
 module _ (c : tie.After-move-part) where
@@ -42,13 +42,14 @@ add-t17 c = let h = small (c .before) in let g = start (parted (c .before)) .pre
 
 returns : tie.Need-returns
 returns c =
-    let h = c .before .before .before .before in
-    let p = parted h in
+    let after-head = c .before .before .before .before in
+    let p = parted after-head in
     let s = start p in
+    let after-negatives = after-head .before .before .before in
     adds-as
-    (moved-rule (s .args .up) (s .args .shape .atoms) _ (keeps s) (s .pre .2) (ap (λ (a : AtomNo). a .0) (h .head .ensures))
-    (p .before .before .positives .ensures) (h .before .before .before .negatives .ensures) (p .move-part .ensures)
-    (h .before .move-part2 .ensures))
+    (moved-rule (s .args .up) (s .args .shape .atoms) _ (keeps s) (s .pre .2) (ap (λ (a : AtomNo). a .0) (after-head .head .ensures))
+    (p .before .before .positives .ensures) (after-negatives .negatives .ensures) (p .move-part .ensures)
+    (after-head .before .move-part2 .ensures))
     (c .add-rule .ensures)
 
 pub add-moved-spec : {M : Type 1} → statement M

@@ -27,17 +27,17 @@ module _ (c : tie.After-add-book2) where
 
 finish-book-requires : tie.Need-finish-book-requires
 finish-book-requires c κs =
-    let b = c .before .before .before in
-    let s = start b in
-    (made-fits (made b) (both-small _ _ _ _ (s .pre .0) (s .pre .1) (s .pre .2) (s .pre .3)), (_, made b))
+    let after-add-book2 = c .before .before .before in
+    let s = start after-add-book2 in
+    (made-fits (made after-add-book2) (both-small _ _ _ _ (s .pre .0) (s .pre .1) (s .pre .2) (s .pre .3)), (_, made after-add-book2))
 
 returns : tie.Need-returns
 returns c =
-    let b = c .before .before .before .before in
-    let s = start b in
+    let after-add-book2 = c .before .before .before .before in
+    let s = start after-add-book2 in
     let a = s .args in
     both-finished _ _ (omega (arith, shape-atoms _ (a .shape) (s .pre .0), shape-atoms _ (a .other) (s .pre .1)))
-    (c .finish-book .ensures _ (made b))
+    (c .finish-book .ensures _ (made after-add-book2))
 
 pub join-in-spec : {M : Type 1} → statement M
 join-in-spec =

@@ -46,7 +46,8 @@ loop-again c =
 returns : tie.Need-returns Inv-loop μ-loop
 returns c =
     let k = c .before in
-    let a = k .before .before .before .args in
+    let start = k .before .before .before in
+    let a = start .args in
     moved-all (a .up) (a .part .now) {i = k .loop .i} (omega arith) (k .loop .inv .1)
 
 pub move-part-spec : {M : Type 1} → statement M

@@ -19,29 +19,31 @@ log-good-requires c κs =
 
 returns : tie.Need-returns
 returns c =
-    let r = c .before .before .before in
-    let a = start r .args in
-    first-refused (a .out .now) (λ b e. logIn b e (a .first-limit) (a .second-limit) (a .out .now)) _ _ (r .read-book .ensures) (c .before .why .given .1)
+    let after-read-book = c .before .before .before in
+    let a = start after-read-book .args in
+    first-refused (a .out .now) (λ b e. logIn b e (a .first-limit) (a .second-limit) (a .out .now)) _ _
+    (after-read-book .read-book .ensures) (c .before .why .given .1)
 
 returns-2 : tie.Need-returns-2
 returns-2 c =
-    let q = c .before .before .before in
-    let g = q .before .before in
+    let after-read-book2 = c .before .before .before in
+    let g = after-read-book2 .before .before in
     let r = g .before .before in
     let a = start r .args in
-    second-refused (a .out .now) (λ b e. logIn b e (a .first-limit) (a .second-limit) (a .out .now)) _ _ (r .read-book .ensures) (g .shape .given .1) (q .read-book2 .ensures)
+    second-refused (a .out .now) (λ b e. logIn b e (a .first-limit) (a .second-limit) (a .out .now)) _ _ (r .read-book .ensures)
+    (g .shape .given .1) (after-read-book2 .read-book2 .ensures)
     (c .before .why2 .given .1)
 
 returns-3 : tie.Need-returns-3
 returns-3 c =
     let n = c .before .before in
-    let o = n .before .before .before in
-    let q = o .before .before in
+    let matched = n .before .before .before in
+    let q = matched .before .before in
     let g = q .before .before in
     let r = g .before .before in
     let a = start r .args in
     both-read (a .out .now) (λ b e. logIn b e (a .first-limit) (a .second-limit) (a .out .now)) _ _ (r .read-book .ensures) (g .shape .given .1) (q .read-book2 .ensures)
-    (o .other .given .1) (n .log-good .ensures)
+    (matched .other .given .1) (n .log-good .ensures)
 
 pub log-spec : {M : Type 1} → statement M
 log-spec =

@@ -30,8 +30,8 @@ returns-2 c =
 returns-3 : tie.Need-returns-3
 returns-3 c =
     let v = c .before .before in
-    let y = v .before .before .before in
-    let e = y .before .before in
+    let after-copy-front = v .before .before .before in
+    let e = after-copy-front .before .before in
     let q = e .before in
     let l = q .before .before in
     let p = l .before in
@@ -39,7 +39,8 @@ returns-3 c =
     let a = s .args in
     log-both-searched (bookIn (a .first .now)) (bookIn (a .second .now)) (a .limit) (a .other-limit) (length (a .draft .now)) (a .out .now)
     (p .before .search .ensures) (p .is-passed .ensures) (l .if1 .left) (q .before .search2 .ensures) (q .is-passed2 .ensures)
-    (e .if2 .left) (v .is-found .ensures) (c .before .is-found2 .ensures) (c .tell .ensures) (s .pre .3) (y .copy-front .ensures)
+    (e .if2 .left) (v .is-found .ensures) (c .before .is-found2 .ensures) (c .tell .ensures) (s .pre .3)
+    (after-copy-front .copy-front .ensures)
 
 pub log-laid-spec : {M : Type 1} → statement M
 log-laid-spec =

@@ -38,20 +38,20 @@ module _ (t : ℕ) where
 
   write-large : lts.Need-slice-write-out-2 calls here put-number.Post
   write-large c =
-      let s = c .before .before .before .before .before .before in
+      let start = c .before .before .before .before .before .before in
       let w = c .before .before .put-number .ensures in
-      omega (arith, decimal-longer (s .args .n) (omega arith), w .long, w .ends)
+      omega (arith, decimal-longer (start .args .n) (omega arith), w .long, w .ends)
 
   add-result : lts.Need-add-result-2 calls here put-number.Post
   add-result c =
-      let s = c .before .before .before .before .before .before in
+      let start = c .before .before .before .before .before .before in
       let w = c .before .before .put-number .ensures in
-      omega (arith, decimal-longer (s .args .n) (omega arith), w .long, w .ends)
+      omega (arith, decimal-longer (start .args .n) (omega arith), w .long, w .ends)
 
   returns-2 : lts.Need-returns-2 calls here put-number.Post
   returns-2 c =
-      let s = c .before .before .before .before .before .before in
-      rw (decimal-large (s .args .n) (omega arith)) (stored-then (c .before .before .put-number .ensures) (stored-one _ _ _))
+      let start = c .before .before .before .before .before .before in
+      rw (decimal-large (start .args .n) (omega arith)) (stored-then (c .before .before .put-number .ensures) (stored-one _ _ _))
 
 pub +put-number-spec : {M : Type 1} → statement M
 +put-number-spec = close μ-put-number λ t. lts.spec (calls t) (here t) put-number.Post (λ c. search needs) (λ c. search needs) (write-small t)

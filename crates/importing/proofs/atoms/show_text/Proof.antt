@@ -7,9 +7,10 @@ use Rattle.importing.proofs.atoms.show_text.Tie as tie
 
 part-show-each-end : tie.Need-part-show-each-end
 part-show-each-end c =
-    let k = c .before .before .before .before in
-    let a = k .before .before .before .args in
-    atoms-within (a .text .now) _ [] _ (k .collect .ensures) (c .before .before .n .given .1)
+    let after-collect = c .before .before .before .before in
+    let start = after-collect .before .before .before in
+    let a = start .args in
+    atoms-within (a .text .now) _ [] _ (after-collect .collect .ensures) (c .before .before .n .given .1)
 
 pub show-text-spec : {M : Type 1} → statement M
 show-text-spec =

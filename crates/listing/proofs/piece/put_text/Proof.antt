@@ -23,9 +23,9 @@ loop-holds c = (search needs, search needs, search needs, refl)
 
 loop-again : tie.Need-loop-again Inv-loop μ-loop
 loop-again c =
-    let k = c .before .before .before .before .before .before in
+    let turn = c .before .before .before .before .before .before in
     let e = c .before .before .put .ensures in
-    (search needs, e .1, search needs, k .loop .inv .3 ∙ gather-turn _ (k .loop .i) _ _ (omega arith) (e .0))
+    (search needs, e .1, search needs, turn .loop .inv .3 ∙ gather-turn _ (turn .loop .i) _ _ (omega arith) (e .0))
 
 returns : tie.Need-returns Inv-loop μ-loop
 returns c = let k = c .before in (sym (k .loop .inv .3 ∙ gather-end _ (k .loop .i) _ (omega arith)), k .loop .inv .1)

@@ -19,10 +19,10 @@ abbrev μ-loop : tie.MeasureT-loop
 
 put-line-requires : tie.Need-put-line-requires Inv-loop μ-loop
 put-line-requires c κs =
-    let k = c .before .before .before .before .before in
-    let s = k .before .before in (
+    let turn = c .before .before .before .before .before in
+    let s = turn .before .before in (
       search needs,
-      line-room _ (k .loop .at + s .args .atoms - k .loop .at) (drop (k .loop .at) (s .args .page .now)) _ _ _ (omega arith)
+      line-room _ (turn .loop .at + s .args .atoms - turn .loop .at) (drop (turn .loop .at) (s .args .page .now)) _ _ _ (omega arith)
           (omega arith),
     )
 

@@ -7,10 +7,11 @@ use Rattle.listing.proofs.rows.put_line.Tie as tie
 returns : tie.Need-returns
 returns c =
     let e = c .before .before in
-    let s = e .before .before .before .before in
-    let k = s .before .before .before .before in
-    let n = k .before .before .before .before in (
-      line-gathered _ _ _ _ _ _ _ _ (n .put-number .ensures .0) (k .put .ensures .0) (s .put-set .ensures .0) (e .put2 .ensures .0),
+    let after-put-set = e .before .before .before .before in
+    let after-put = after-put-set .before .before .before .before in
+    let after-put-number = after-put .before .before .before .before in (
+      line-gathered _ _ _ _ _ _ _ _ (after-put-number .put-number .ensures .0) (after-put .put .ensures .0)
+          (after-put-set .put-set .ensures .0) (e .put2 .ensures .0),
       e .put2 .ensures .1,
     )
 

@@ -25,9 +25,9 @@ loop-holds c = (search needs, search needs, search needs, refl)
 
 loop-again : tie.Need-loop-again Inv-loop μ-loop
 loop-again c =
-    let k = c .before .before .before .before .before .before in
+    let turn = c .before .before .before .before .before .before in
     let e = c .before .before .put-place .ensures in
-    (search needs, e .1, search needs, k .loop .inv .3 ∙ places-turn _ _ (k .loop .a) _ _ (omega arith) (e .0))
+    (search needs, e .1, search needs, turn .loop .inv .3 ∙ places-turn _ _ (turn .loop .a) _ _ (omega arith) (e .0))
 
 returns : tie.Need-returns Inv-loop μ-loop
 returns c = let k = c .before in (sym (k .loop .inv .3 ∙ places-end _ _ (k .loop .a) _ (omega arith)), k .loop .inv .1)

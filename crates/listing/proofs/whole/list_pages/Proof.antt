@@ -22,8 +22,8 @@ abbrev μ-loop : tie.MeasureT-loop
 
 loop-holds : tie.Need-loop-holds Inv-loop μ-loop
 loop-holds c =
-    let s = c .before .before .before in
-    (search needs, sym (shape-atoms _ (s .args .shape) (s .pre)), search needs, search needs, so-far-start _ 1000000 255)
+    let start = c .before .before .before in
+    (search needs, sym (shape-atoms _ (start .args .shape) (start .pre)), search needs, search needs, so-far-start _ 1000000 255)
 
 list-page-requires : tie.Need-list-page-requires Inv-loop μ-loop
 list-page-requires c κs =
@@ -71,11 +71,12 @@ loop-again c =
 
 returns : tie.Need-returns Inv-loop μ-loop
 returns c =
-    let p = c .before .before .before .before .before in
-    let t = p .before .before .before in
-    let s = t .before .before .before .before in
-    so-far-done _ (s .args .shape) (s .pre) 1000000 (t .loop .inv .4) (t .loop .rows) _ (omega arith) (t .loop .inv .1)
-    (c .before .end .given .1) (p .list-page .ensures .1) (λ j. omega (arith, t .before .before .before .shared-slice-known .given j))
+    let after-list-page = c .before .before .before .before .before in
+    let turn = after-list-page .before .before .before in
+    let known = turn .before .before .before in
+    let start = known .before in
+    so-far-done _ (start .args .shape) (start .pre) 1000000 (turn .loop .inv .4) (turn .loop .rows) _ (omega arith) (turn .loop .inv .1)
+    (c .before .end .given .1) (after-list-page .list-page .ensures .1) (λ j. omega (arith, known .shared-slice-known .given j))
 
 pub list-pages-spec : {M : Type 1} → statement M
 list-pages-spec =

@@ -5,8 +5,8 @@ use Prim.Native.Nat.{ℕ, _-_, _≤_, _<_}
 use native.Mathlib.Omega.{arith}
 use lib.ListN.{length}
 use borrow.Author.Needs.{needs}
-use Rattle.lparse.specs.Reading.{heardAt, stepAt}
-use Rattle.lparse.proofs.Reading.{step-ahead, took-ahead}
+use Rattle.lparse.specs.Reading.{heardAt}
+use Rattle.lparse.proofs.Reading.{took-behind}
 use Rattle.lparse.proofs.Noting.{stands-long}
 use Rattle.lparse.proofs.Collecting.{Gathering, gathering-start, gathering-turn, gather-format, gather-kind, gather-end}
 use Rattle.lparse.proofs.gather.collect.Statement.{statement}
@@ -26,26 +26,29 @@ take-word-requires : tie.Need-take-word-requires Inv-loop μ-loop
 take-word-requires c κs = search needs
 
 note-requires : tie.Need-note-requires Inv-loop μ-loop
-note-requires c κs = stands-long (c .before .before .before .before .before .loop .inv .2 .stand)
+note-requires c κs =
+    let turn = c .before .before .before .before .before in
+    stands-long (turn .loop .inv .2 .stand)
 
--- a word was taken: the turn, the bytes, the step, and that the word ends behind the place where it was looked for
+-- a word was taken: where it was looked for, the turn, the bytes, the word's end, and that this lies ahead
 module _ (c : tie.After-note Inv-loop μ-loop) where
+  abbrev after-take-word : tie.After-take-word Inv-loop μ-loop
+  after-take-word = c .before .before .before .before .before
+
   abbrev turn : tie.At-loop Inv-loop μ-loop
-  turn = c .before .before .before .before .before .before
+  turn = after-take-word .before
 
   abbrev text : List ℕ
   text = turn .before .before .args .text .now
 
-  abbrev stepped : c .before .before .before .before .before .take-word .result ≡ stepAt text (turn .loop .at) (turn .loop .due)
-  stepped = c .before .before .before .before .before .take-word .ensures
-
   abbrev goes : tie.After-next Inv-loop μ-loop
   goes = c .before .before .before
 
-  ahead : (turn .loop .at < goes .next .given .0 .1 .1 .1 .0) × (goes .next .given .0 .1 .1 .1 .0 ≤ length text)
-  ahead =
-      let (f, g, h) = took-ahead _ _ _ _ (step-ahead text (turn .loop .at) (turn .loop .due)) (sym stepped ∙ goes .next .given .1) in
-      (omega arith, h)
+  abbrev word-end : ℕ
+  word-end = let (next, (said, (from, (end, more)))) = goes .next .given .0 in end
+
+  ahead : (turn .loop .at < word-end) × (word-end ≤ length text)
+  ahead = took-behind text (turn .loop .at) (turn .loop .due) (after-take-word .take-word .ensures) _ _ _ _ (goes .next .given .1)
 
 loop-less : tie.Need-loop-less Inv-loop μ-loop
 loop-less c = let h = ahead c in omega (arith, h .0, h .1)
@@ -55,42 +58,44 @@ loop-again c =
     let k = turn c in (
       ahead c .1,
       k .loop .inv .1,
-      gathering-turn (text c) (k .before .before .args .seen .now) (k .loop .at) (k .loop .due) (k .loop .inv .2) (stepped c)
+      gathering-turn (text c) (k .before .before .args .seen .now) (k .loop .at) (k .loop .due) (k .loop .inv .2)
+          (after-take-word c .take-word .ensures)
           _ _ _ _ (goes c .next .given .1) (c .note .ensures),
     )
 
 returns : tie.Need-returns Inv-loop μ-loop
 returns c =
-    let t = c .before .before .before in
-    let k = t .before in
+    let after-take-word = c .before .before .before in
+    let k = after-take-word .before in
     let g = k .loop .inv .2 in
     rw (k .loop .inv .1)
-    (gather-format (k .before .before .args .text .now) _ (k .loop .at) (k .loop .due) (g .atoms) (t .take-word .ensures) _
+    (gather-format (k .before .before .args .text .now) _ (k .loop .at) (k .loop .due) (g .atoms) (after-take-word .take-word .ensures) _
     (c .before .place .given .1) ∙ sym (g .same))
 
 returns-2 : tie.Need-returns-2 Inv-loop μ-loop
 returns-2 c =
-    let t = c .before .before .before in
-    let k = t .before in
+    let after-take-word = c .before .before .before in
+    let k = after-take-word .before in
     let g = k .loop .inv .2 in
     rw (k .loop .inv .1)
-    (gather-kind (k .before .before .args .text .now) _ (k .loop .at) (k .loop .due) (g .atoms) (t .take-word .ensures) _
+    (gather-kind (k .before .before .args .text .now) _ (k .loop .at) (k .loop .due) (g .atoms) (after-take-word .take-word .ensures) _
     (c .before .place2 .given .1) ∙ sym (g .same))
 
 hand-over-requires : tie.Need-hand-over-requires Inv-loop μ-loop
 hand-over-requires c κs =
-    let k = c .before .before .before .before .before in
-    (stands-long (k .loop .inv .2 .stand), search needs)
+    let turn = c .before .before .before .before .before in
+    (stands-long (turn .loop .inv .2 .stand), search needs)
 
 returns-3 : tie.Need-returns-3 Inv-loop μ-loop
 returns-3 c =
-    let t = c .before .before .before .before .before in
+    let matched = c .before .before .before in
+    let t = matched .before .before in
     let k = t .before in
     let g = k .loop .inv .2 in
     let e = c .hand-over .ensures (g .atoms) (g .stand) in
     rw (k .loop .inv .1) at e
     ∙ gather-end (k .before .before .args .text .now) _ (k .loop .at) (k .loop .due) (g .atoms) (t .take-word .ensures)
-    (c .before .before .before .enum-told .given .1) ∙ sym (g .same)
+    (matched .enum-told .given .1) ∙ sym (g .same)
 
 pub collect-spec : {M : Type 1} → statement M
 collect-spec =

@@ -25,18 +25,18 @@ loop-holds c = (search needs, search needs, search needs, refl)
 
 returns : tie.Need-returns Inv-loop μ-loop
 returns c =
-    let k = c .before .before .before .before in
-    let a = k .before .args in
-    sym (one-here (a .a) (a .found .now) (k .loop .i) (a .n) (omega arith) (omega arith) (c .if1 .taken))
+    let turn = c .before .before .before .before in
+    let a = turn .before .args in
+    sym (one-here (a .a) (a .found .now) (turn .loop .i) (a .n) (omega arith) (omega arith) (c .if1 .taken))
 
 loop-again : tie.Need-loop-again Inv-loop μ-loop
 loop-again c =
-    let k = c .before .before .before .before in
-    let a = k .before .args in (
+    let turn = c .before .before .before .before in
+    let a = turn .before .args in (
       search needs,
       search needs,
       search needs,
-      none-next (a .a) (a .found .now) (k .loop .i) (omega arith) (c .if1 .left) (k .loop .inv .3),
+      none-next (a .a) (a .found .now) (turn .loop .i) (omega arith) (c .if1 .left) (turn .loop .inv .3),
     )
 
 returns-2 : tie.Need-returns-2 Inv-loop μ-loop

@@ -15,7 +15,9 @@ returns-2 c = rw (c .enum-told2 .given .1) (note-silent _ _)
 
 returns-3 : tie.Need-returns-3
 unfolding atomsSaid
-returns-3 c = rw (c .before .before .before .said .given .1) (c .note-atom .ensures)
+returns-3 c =
+    let matched = c .before .before .before in
+    rw (matched .said .given .1) (c .note-atom .ensures)
 
 pub note-spec : {M : Type 1} → statement M
 note-spec = tie.close (tie.spec (λ c. search needs) (λ c. search needs) (λ c. search needs) (λ c κs. search needs) returns returns-2 returns-3)

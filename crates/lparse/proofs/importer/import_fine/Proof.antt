@@ -1,5 +1,7 @@
 -- The rules are made and the book is laid out, or not; the draft's front is copied.
 use mathlib.Core.Path.{_≡_}
+use mathlib.Core.List.{List}
+use Prim.Native.Nat.{ℕ}
 use borrow.Author.Needs.{needs}
 use Rattle.book.specs.Making.{Finished}
 use Rattle.imported.specs.Text.{Text}
@@ -12,9 +14,11 @@ use Rattle.lparse.proofs.importer.import_fine.Statement.{statement}
 use Rattle.lparse.proofs.importer.import_fine.Tie as tie
 
 make-requires : tie.Need-make-requires
-make-requires c κs = (c .before .before .before .before .pre, blank)
+make-requires c κs =
+    let start = c .before .before .before .before in
+    (start .pre, blank)
 
--- the rules are made: the start, the text, and what the pass promises
+-- the rules are made: the start, the text, the draft as the pass left it, and what the pass promises
 module _ (c : tie.After-make) where
   abbrev start : tie.Start
   start = c .before .before .before .before .before
@@ -22,11 +26,16 @@ module _ (c : tie.After-make) where
   abbrev text : Text
   text = textOf (start .pre .part)
 
-  complete : Complete text (c .make .result) (c .make .last .1 .1 .0)
+  abbrev draft : List ℕ
+  draft = let (text, (atoms, (draft, more))) = c .make .last in draft
+
+  complete : Complete text (c .make .result) draft
   complete = c .make .ensures (start .pre .part) (start .pre .heard)
 
 lay-out-requires : tie.Need-lay-out-requires
-lay-out-requires c κs = let k = c .before .before .before in (text k, complete k .made)
+lay-out-requires c κs =
+    let after-make = c .before .before .before in
+    (text after-make, complete after-make .made)
 
 -- how many atoms the book has
 module _ (c : tie.After-lay-out) where
@@ -55,19 +64,19 @@ part-copy-front-end c = finished-inside (finished (c .before))
 
 copy-front-requires : tie.Need-copy-front-requires
 copy-front-requires c κs =
-    let t = c .before .before .before in
-    let l = laid t in
+    let told = c .before .before .before in
+    let l = laid told in
     let k = made l in
-    front-room _ (finished t) (l .lay-out .ensures (text k) (complete k .made) (atoms l) .0) (t .before .n .given .1)
+    front-room _ (finished told) (l .lay-out .ensures (text k) (complete k .made) (atoms l) .0) (told .before .n .given .1)
 
 returns-2 : tie.Need-returns-2
 returns-2 c =
     let f = c .before .before in
-    let t = f .before .before .before .before in
-    let l = laid t in
+    let told = f .before .before .before .before in
+    let l = laid told in
     let k = made l in
-    given-book _ _ (start k .pre .heard) (l .lay-out .ensures (text k) (complete k .made) (atoms l) .0) (t .before .n .given .1)
-    (front-bytes _ (finished t)) (f .copy-front .ensures)
+    given-book _ _ (start k .pre .heard) (l .lay-out .ensures (text k) (complete k .made) (atoms l) .0) (told .before .n .given .1)
+    (front-bytes _ (finished told)) (f .copy-front .ensures)
 
 pub import-fine-spec : {M : Type 1} → statement M
 import-fine-spec =

@@ -15,22 +15,23 @@ returns-2 c = λ t made same. (laid-many t _ made same (search needs), λ n e. s
 
 finish-book-requires : tie.Need-finish-book-requires
 finish-book-requires c κs =
-    let (t, made) = c .before .before .before .before .pre in
+    let start = c .before .before .before .before in
+    let (t, made) = start .pre in
     (not-false _ (c .before .before .if1 .left), (madeRules t, made))
 
 returns-3 : tie.Need-returns-3
 returns-3 c = λ t made told.
     let same = capped-real (madeBook t .atoms) told (search needs) in
     let f = finished-made t same (c .before .finish-book .ensures (madeRules t) made) in
-    let i = c .before .before .before in
-    (laid-short t _ made (not-false _ (i .before .if1 .left)) same (search needs) f (search needs), λ n e. short-book e)
+    let tested = c .before .before .before .before in
+    (laid-short t _ made (not-false _ (tested .if1 .left)) same (search needs) f (search needs), λ n e. short-book e)
 
 returns-4 : tie.Need-returns-4
 returns-4 c = λ t made told.
     let same = capped-real (madeBook t .atoms) told (search needs) in
     let f = finished-made t same (c .before .finish-book .ensures (madeRules t) made) in
-    let i = c .before .before .before in
-    (laid-book t _ made (not-false _ (i .before .if1 .left)) same (search needs) f (search needs), λ n e. same-book e f)
+    let tested = c .before .before .before .before in
+    (laid-book t _ made (not-false _ (tested .if1 .left)) same (search needs) f (search needs), λ n e. same-book e f)
 
 pub lay-out-spec : {M : Type 1} → statement M
 lay-out-spec = tie.close (tie.spec returns returns-2 (λ c. search needs) finish-book-requires returns-3 returns-4)

@@ -19,16 +19,16 @@ loop-holds c = (search needs, refl)
 
 returns : tie.Need-returns Inv-loop μ-loop
 returns c =
-    let k = c .before .before .before .before in
-    let a = k .before .before .args in
-    whose-here (a .seen .now) (a .n) (k .loop .i) (k .loop .inv .1) (search needs) (c .before .number-of .ensures) (search needs)
+    let turn = c .before .before .before .before in
+    let a = turn .before .before .args in
+    whose-here (a .seen .now) (a .n) (turn .loop .i) (turn .loop .inv .1) (search needs) (c .before .number-of .ensures) (search needs)
 
 loop-again : tie.Need-loop-again Inv-loop μ-loop
 loop-again c =
-    let k = c .before .before .before .before in
-    let a = k .before .before .args in (
+    let turn = c .before .before .before .before in
+    let a = turn .before .before .args in (
       search needs,
-      whose-next (a .seen .now) (a .n) (k .loop .i) (k .loop .inv .1) (search needs) (c .before .number-of .ensures) (c .if1 .left),
+      whose-next (a .seen .now) (a .n) (turn .loop .i) (turn .loop .inv .1) (search needs) (c .before .number-of .ensures) (c .if1 .left),
     )
 
 returns-2 : tie.Need-returns-2 Inv-loop μ-loop

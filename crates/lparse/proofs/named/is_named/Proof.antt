@@ -18,8 +18,9 @@ returns-3 c = named-choice _ (c .enum-told2 .given .1)
 
 returns-4 : tie.Need-returns-4
 returns-4 c =
-    let k = c .before .before .before in
-    named-table _ _ _ (k .before .before .said .given .1) (k .in-table .ensures) (not-false _ (c .before .before .if1 .left))
+    let after-in-table = c .before .before .before in
+    named-table _ _ _ (after-in-table .before .before .said .given .1) (after-in-table .in-table .ensures)
+    (not-false _ (c .before .before .if1 .left))
 
 pub is-named-spec : {M : Type 1} → statement M
 is-named-spec =

@@ -5,9 +5,9 @@ use Prim.Native.Nat.{ℕ, _-_, _≤_, _<_}
 use native.Mathlib.Omega.{arith}
 use lib.ListN.{length}
 use borrow.Author.Needs.{needs}
-use Rattle.lparse.specs.Reading.{stepAt, heardAt}
+use Rattle.lparse.specs.Reading.{heardAt}
 use Rattle.lparse.specs.Names.{nameOf}
-use Rattle.lparse.proofs.Reading.{step-ahead, took-ahead}
+use Rattle.lparse.proofs.Reading.{took-behind}
 use Rattle.lparse.proofs.Names.{namedBy, named-start, name-turn, name-format, name-kind, name-done}
 use Rattle.lparse.proofs.named.nth_name.Statement.{statement}
 use Rattle.lparse.proofs.named.nth_name.Tie as tie
@@ -22,24 +22,25 @@ abbrev μ-loop : tie.MeasureT-loop
 loop-holds : tie.Need-loop-holds Inv-loop μ-loop
 loop-holds c = (search needs, named-start _ _ _)
 
--- a word was taken: the turn, the bytes, the step, and that the word ends behind the place where it was looked for
+-- a word was taken: where it was looked for, the turn, the bytes, the word's end, and that this lies ahead
 module _ (c : tie.After-left-by Inv-loop μ-loop) where
+  abbrev after-take-word : tie.After-take-word Inv-loop μ-loop
+  after-take-word = c .before .before .before .before .before .before
+
   abbrev turn : tie.At-loop Inv-loop μ-loop
-  turn = c .before .before .before .before .before .before .before
+  turn = after-take-word .before
 
   abbrev text : List ℕ
   text = turn .before .before .args .text .now
 
-  abbrev stepped : c .before .before .before .before .before .before .take-word .result ≡ stepAt text (turn .loop .at) (turn .loop .due)
-  stepped = c .before .before .before .before .before .before .take-word .ensures
-
   abbrev goes : tie.After-next Inv-loop μ-loop
   goes = c .before .before .before .before
 
-  ahead : (turn .loop .at < goes .next .given .0 .1 .1 .1 .0) × (goes .next .given .0 .1 .1 .1 .0 ≤ length text)
-  ahead =
-      let (f, g, h) = took-ahead _ _ _ _ (step-ahead text (turn .loop .at) (turn .loop .due)) (sym stepped ∙ goes .next .given .1) in
-      (omega arith, h)
+  abbrev word-end : ℕ
+  word-end = let (next, (said, (from, (end, more)))) = goes .next .given .0 in end
+
+  ahead : (turn .loop .at < word-end) × (word-end ≤ length text)
+  ahead = took-behind text (turn .loop .at) (turn .loop .due) (after-take-word .take-word .ensures) _ _ _ _ (goes .next .given .1)
 
 loop-less : tie.Need-loop-less Inv-loop μ-loop
 loop-less c = let h = ahead c in omega (arith, h .0, h .1)
@@ -49,7 +50,8 @@ loop-again c =
     let k = turn c in (
       ahead c .1,
       k .loop .inv .1
-          ∙ name-turn (text c) (k .before .before .args .a) (k .loop .at) (k .loop .due) (k .loop .found) (k .loop .left) (stepped c)
+          ∙ name-turn (text c) (k .before .before .args .a) (k .loop .at) (k .loop .due) (k .loop .found) (k .loop .left)
+          (after-take-word c .take-word .ensures)
           _ _ _ _ (goes c .next .given .1) (c .before .before .is-named .ensures) (c .before .found-by .ensures) (c .left-by .ensures),
     )
 

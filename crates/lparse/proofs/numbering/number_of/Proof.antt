@@ -21,12 +21,12 @@ loop-holds c = (search needs, search needs, omega arith)
 
 loop-again : tie.Need-loop-again Inv-loop μ-loop
 loop-again c =
-    let k = c .before .before .before .before in
-    let s = k .before .args .seen .now in
-    let a = k .before .args .a in
+    let turn = c .before .before .before .before in
+    let s = turn .before .args .seen .now in
+    let a = turn .before .args .a in
     ⊎-elim
-    (λ w. (search needs, omega (arith, w .1), place-smaller s a (k .loop .i) _ (k .loop .inv .2) (omega arith) (w .0 .taken) (w .1)))
-    (λ w. (search needs, omega (arith, w .1), place-other s a (k .loop .i) _ (k .loop .inv .2) (omega arith) (w .0 .left) (w .1)))
+    (λ w. (search needs, omega (arith, w .1), place-smaller s a (turn .loop .i) _ (turn .loop .inv .2) (omega arith) (w .0 .taken) (w .1)))
+    (λ w. (search needs, omega (arith, w .1), place-other s a (turn .loop .i) _ (turn .loop .inv .2) (omega arith) (w .0 .left) (w .1)))
     (c .if1 .came)
 
 returns : tie.Need-returns Inv-loop μ-loop

@@ -9,17 +9,18 @@ use Rattle.lparse.proofs.step.on_digits.Tie as tie
 
 cast-on-number : tie.Need-cast-on-number
 cast-on-number c =
-    let d = c .before .before .before in
-    let h = up-to (value-bound 4294967295 0 (d .before .before .args .word .now) (omega arith))
-    (sym (d .read-digits .ensures) ∙ c .before .n .given .1) in
+    let after-read-digits = c .before .before .before in
+    let h = up-to (value-bound 4294967295 0 (after-read-digits .before .before .args .word .now) (omega arith))
+    (sym (after-read-digits .read-digits .ensures) ∙ c .before .n .given .1) in
     search needs
 
 returns : tie.Need-returns
 unfolding onValue
 returns c =
-    let d = c .before .before .before .before in
+    let after-read-digits = c .before .before .before .before in
     c .on-number .ensures
-    ∙ sym (ap (onValue (d .before .before .args .role)) (sym (d .read-digits .ensures) ∙ c .before .before .n .given .1))
+    ∙ sym (ap (onValue (after-read-digits .before .before .args .role))
+    (sym (after-read-digits .read-digits .ensures) ∙ c .before .before .n .given .1))
 
 returns-2 : tie.Need-returns-2
 unfolding onValue

@@ -7,15 +7,21 @@ use Rattle.lparse.proofs.step.stepped.Tie as tie
 
 returns : tie.Need-returns
 unfolding stepOf
-returns c = let a = c .before .before .before .args in sym (ap (λ m. stepOf m (a .from) (a .end)) (c .before .m .given .1))
+returns c =
+    let start = c .before .before .before in
+    sym (ap (λ m. stepOf m (start .args .from) (start .args .end)) (c .before .m .given .1))
 
 returns-2 : tie.Need-returns-2
 unfolding stepOf
-returns-2 c = let a = c .before .before .args in sym (ap (λ m. stepOf m (a .from) (a .end)) (c .enum-told .given .1))
+returns-2 c =
+    let start = c .before .before in
+    sym (ap (λ m. stepOf m (start .args .from) (start .args .end)) (c .enum-told .given .1))
 
 returns-3 : tie.Need-returns-3
 unfolding stepOf
-returns-3 c = let a = c .before .before .args in sym (ap (λ m. stepOf m (a .from) (a .end)) (c .enum-told2 .given .1))
+returns-3 c =
+    let start = c .before .before in
+    sym (ap (λ m. stepOf m (start .args .from) (start .args .end)) (c .enum-told2 .given .1))
 
 pub stepped-spec : {M : Type 1} → statement M
 stepped-spec = tie.close (tie.spec (λ c. search needs) (λ c. search needs) (λ c. search needs) returns returns-2 returns-3)

@@ -29,10 +29,10 @@ part-on-word-start c = let h = grows c in search needs
 
 returns-2 : tie.Need-returns-2
 returns-2 c =
-    let w = c .before .before .before in
-    let p = w .before .before in
+    let after-word-end = c .before .before .before in
+    let p = after-word-end .before .before in
     let a = p .before .before .args in
-    step-word (a .text .now) (a .at) (a .due) _ _ (p .word-start .ensures .0) (omega arith) (w .word-end .ensures .0)
+    step-word (a .text .now) (a .at) (a .due) _ _ (p .word-start .ensures .0) (omega arith) (after-word-end .word-end .ensures .0)
     (c .before .on-word .ensures) (c .stepped .ensures)
 
 pub take-word-spec : {M : Type 1} → statement M

@@ -20,17 +20,20 @@ loop-holds c = (search needs, end-first _ _)
 
 returns : tie.Need-returns Inv-loop μ-loop
 returns c =
-    let k = c .before .before .before .before in
-    let s = k .before .before .args .text .now in
-    (sym (k .loop .inv .1 ∙ end-here s _ (k .loop .i) (omega arith) (sym (c .before .ends-word .ensures) ∙ c .if1 .taken)), search needs)
+    let turn = c .before .before .before .before in
+    let s = turn .before .before .args .text .now in (
+      sym (turn .loop .inv .1 ∙ end-here s _ (turn .loop .i) (omega arith)
+          (sym (c .before .ends-word .ensures) ∙ c .if1 .taken)),
+      search needs,
+    )
 
 loop-again : tie.Need-loop-again Inv-loop μ-loop
 loop-again c =
-    let k = c .before .before .before .before .before in
-    let s = k .before .before .args .text .now in (
+    let turn = c .before .before .before .before .before in
+    let s = turn .before .before .args .text .now in (
       search needs,
-      k .loop .inv .1 ∙ end-turn s _ (k .loop .i) (omega arith) (sym (c .before .before .ends-word .ensures) ∙ c .before .if1 .left)
-          ∙ ap (λ q. endFrom q s (k .loop .i + 1)) (sym (c .turn .ensures)),
+      turn .loop .inv .1 ∙ end-turn s _ (turn .loop .i) (omega arith) (sym (c .before .before .ends-word .ensures) ∙ c .before .if1 .left)
+          ∙ ap (λ q. endFrom q s (turn .loop .i + 1)) (sym (c .turn .ensures)),
     )
 
 returns-2 : tie.Need-returns-2 Inv-loop μ-loop

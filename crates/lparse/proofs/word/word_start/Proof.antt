@@ -21,18 +21,18 @@ loop-holds c = (search needs, refl)
 
 returns : tie.Need-returns Inv-loop μ-loop
 returns c =
-    let k = c .before .before .before .before in
-    let s = k .before .before .args .text .now in (
-      sym (k .loop .inv .1 ∙ start-here s (k .loop .i) (omega arith) (sym (c .before .parts .ensures) ∙ not-true _ (c .if1 .taken))),
+    let turn = c .before .before .before .before in
+    let s = turn .before .before .args .text .now in (
+      sym (turn .loop .inv .1 ∙ start-here s (turn .loop .i) (omega arith) (sym (c .before .parts .ensures) ∙ not-true _ (c .if1 .taken))),
       search needs,
     )
 
 loop-again : tie.Need-loop-again Inv-loop μ-loop
 loop-again c =
-    let k = c .before .before .before .before in
-    let s = k .before .before .args .text .now in (
+    let turn = c .before .before .before .before in
+    let s = turn .before .before .args .text .now in (
       search needs,
-      k .loop .inv .1 ∙ start-turn s (k .loop .i) (omega arith) (sym (c .before .parts .ensures) ∙ not-false _ (c .if1 .left)),
+      turn .loop .inv .1 ∙ start-turn s (turn .loop .i) (omega arith) (sym (c .before .parts .ensures) ∙ not-false _ (c .if1 .left)),
     )
 
 returns-2 : tie.Need-returns-2 Inv-loop μ-loop

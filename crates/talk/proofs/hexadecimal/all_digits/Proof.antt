@@ -18,17 +18,17 @@ abbrev μ-loop : tie.MeasureT-loop
 
 returns : tie.Need-returns Inv-loop μ-loop
 returns c =
-    let k = c .before .before .before .before in
-    sym (k .loop .inv .1 ∙ digits-turn (k .before .before .args .word .now) (k .loop .i) (omega arith) ∙ lt-no _ _ _ _ (omega (
+    let turn = c .before .before .before .before in
+    sym (turn .loop .inv .1 ∙ digits-turn (turn .before .before .args .word .now) (turn .loop .i) (omega arith) ∙ lt-no _ _ _ _ (omega (
       arith,
       c .before .digit .ensures,
     )))
 
 loop-again : tie.Need-loop-again Inv-loop μ-loop
 loop-again c =
-    let k = c .before .before .before .before in (
+    let turn = c .before .before .before .before in (
       search needs,
-      k .loop .inv .1 ∙ digits-turn (k .before .before .args .word .now) (k .loop .i) (omega arith)
+      turn .loop .inv .1 ∙ digits-turn (turn .before .before .args .word .now) (turn .loop .i) (omega arith)
           ∙ lt-yes _ _ _ _ (omega (arith, c .before .digit .ensures)),
     )
 

@@ -21,11 +21,11 @@ loop-holds c = search needs
 
 loop-again : tie.Need-loop-again Inv-loop μ-loop
 loop-again c =
-    let k = c .before .before .before .before .before in
-    let start = k .before .before .before in
+    let turn = c .before .before .before .before .before in
+    let start = turn .before .before .before in
     let w = start .args .word .now in
     let d = c .before .before .digit .ensures in
-    (search needs, filled-turn w _ (k .loop .i) _ _ d (c .digit2 .ensures) _ (k .loop .inv .1), search needs)
+    (search needs, filled-turn w _ (turn .loop .i) _ _ d (c .digit2 .ensures) _ (turn .loop .inv .1), search needs)
 
 returns : tie.Need-returns Inv-loop μ-loop
 returns c =

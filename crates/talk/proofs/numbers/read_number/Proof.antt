@@ -9,13 +9,14 @@ use Rattle.talk.proofs.numbers.read_number.Tie as tie
 
 cast-t5 : tie.Need-cast-t5
 cast-t5 c =
-    let at = c .before .before .before in
-    omega (arith, up-to (plain-bound 4294967295 _) (sym (at .read-plain .ensures) ∙ c .before .digits .given .1))
+    let after-read-plain = c .before .before .before in
+    omega (arith, up-to (plain-bound 4294967295 _) (sym (after-read-plain .read-plain .ensures) ∙ c .before .digits .given .1))
 
 returns : tie.Need-returns
 unfolding said numberOf
 returns c =
-    let at = c .before .before .before in ap said (sym (c .before .digits .given .1) ∙ at .read-plain .ensures)
+    let after-read-plain = c .before .before .before in
+    ap said (sym (c .before .digits .given .1) ∙ after-read-plain .read-plain .ensures)
 
 returns-2 : tie.Need-returns-2
 unfolding said numberOf

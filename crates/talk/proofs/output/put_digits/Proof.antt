@@ -25,10 +25,10 @@ slice-write-out-2 c = simp length-set (omega arith)
 
 loop-again : tie.Need-loop-again Inv-loop μ-loop
 loop-again c =
-    let k = c .before .before .before .before .before in (
+    let turn = c .before .before .before .before .before in (
       search needs,
-      spelled-turn _ _ (k .loop .i) _ _ (c .before .before .digit .ensures) (c .digit2 .ensures) _ (k .loop .inv .1),
-      simp length-set (k .loop .inv .2),
+      spelled-turn _ _ (turn .loop .i) _ _ (c .before .before .digit .ensures) (c .digit2 .ensures) _ (turn .loop .inv .1),
+      simp length-set (turn .loop .inv .2),
     )
 
 returns : tie.Need-returns Inv-loop μ-loop

@@ -49,17 +49,17 @@ loop-holds c = ahead-start _ _ _ _ _ _ (listed-long _) (listed-long _)
 loop-less : tie.Need-loop-less Inv-loop μ-loop
 loop-less c =
     let w = c .before .before in
-    let f = w .before .before .before in
-    let p = f .before .before in
-    let d = rw (f .r .given .1) at (p .next-step .ensures) in
+    let matched = w .before .before .before in
+    let p = matched .before .before in
+    let d = rw (matched .r .given .1) at (p .next-step .ensures) in
     on-fewer (few (start p)) (turn p .loop .inv) d (w .put .ensures)
 
 loop-again : tie.Need-loop-again Inv-loop μ-loop
 loop-again c =
     let w = c .before .before in
-    let f = w .before .before .before in
-    let p = f .before .before in
-    let d = rw (f .r .given .1) at (p .next-step .ensures) in
+    let matched = w .before .before .before in
+    let p = matched .before .before in
+    let d = rw (matched .r .given .1) at (p .next-step .ensures) in
     ahead-on (few (start p)) (turn p .loop .inv) d (w .put .ensures) (c .write-step .ensures)
 
 -- ---- 42
@@ -67,47 +67,47 @@ loop-again c =
 loop-less-2 : tie.Need-loop-less-2 Inv-loop μ-loop
 loop-less-2 c =
     let w = c .before .before in
-    let f = w .before .before .before in
-    let p = f .before .before in
-    let d = rw (f .r2 .given .1) at (p .next-step .ensures) in
+    let matched = w .before .before .before in
+    let p = matched .before .before in
+    let d = rw (matched .r2 .given .1) at (p .next-step .ensures) in
     off-fewer (few (start p)) (turn p .loop .inv) d (w .put2 .ensures)
 
 loop-again-2 : tie.Need-loop-again-2 Inv-loop μ-loop
 loop-again-2 c =
     let w = c .before .before in
-    let f = w .before .before .before in
-    let p = f .before .before in
-    let d = rw (f .r2 .given .1) at (p .next-step .ensures) in
+    let matched = w .before .before .before in
+    let p = matched .before .before in
+    let d = rw (matched .r2 .given .1) at (p .next-step .ensures) in
     ahead-off (few (start p)) (turn p .loop .inv) d (w .put2 .ensures) (c .write-step2 .ensures)
 
 -- ---- 55
 
 loop-less-3 : tie.Need-loop-less-3 Inv-loop μ-loop
 loop-less-3 c =
-    let q = c .before .before .before .before .before .before .before .before .before in
-    let p = q .before .before in
-    let d = rw (q .m .given .1) at (p .next-step .ensures) in
+    let matched = c .before .before .before .before .before .before .before .before .before in
+    let p = matched .before .before in
+    let d = rw (matched .m .given .1) at (p .next-step .ensures) in
     let (e, w) = c .drop-rules .ensures (bookIn (start p .args .book .now)) (counted (start p)) in
     drop-fewer (few (start p)) (turn p .loop .inv) _ d e
 
 loop-again-3 : tie.Need-loop-again-3 Inv-loop μ-loop
 loop-again-3 c =
-    let v = c .before .before .before .before in
-    let u = v .before .before in
-    let q = u .before .before .before in
-    let p = q .before .before in
-    let d = rw (q .m .given .1) at (p .next-step .ensures) in
+    let after-write2 = c .before .before .before .before in
+    let u = after-write2 .before .before in
+    let matched = u .before .before .before in
+    let p = matched .before .before in
+    let d = rw (matched .m .given .1) at (p .next-step .ensures) in
     let (e, w) = c .drop-rules .ensures (bookIn (start p .args .book .now)) (counted (start p)) in
-    ahead-drop (few (start p)) (turn p .loop .inv) _ d e (listed-long _) (u .write .ensures) (v .write2 .ensures) w
+    ahead-drop (few (start p)) (turn p .loop .inv) _ d e (listed-long _) (u .write .ensures) (after-write2 .write2 .ensures) w
 
 -- ---- the last step
 
 returns : tie.Need-returns Inv-loop μ-loop
 returns c =
     let matched = c .before .before .before in
-    let p = c .before .before .before .before .before in
-    let d = rw (matched .tip .given .1) at (p .next-step .ensures) in
-    ahead-stops (few (start p)) (turn p .loop .inv) d _ refl (c .write-tip .ensures)
+    let after-next-step = c .before .before .before .before .before in
+    let d = rw (matched .tip .given .1) at (after-next-step .next-step .ensures) in
+    ahead-stops (few (start after-next-step)) (turn after-next-step .loop .inv) d _ refl (c .write-tip .ensures)
 
 pub write-branch-spec : {M : Type 1} → statement M
 write-branch-spec =

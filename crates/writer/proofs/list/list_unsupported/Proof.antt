@@ -9,8 +9,8 @@ use Rattle.writer.proofs.list.list_unsupported.Tie as tie
 returns : tie.Need-returns
 returns c =
     let after-support = c .before .before .before in
-    let s = c .before .before .before .before .before .before in
-    let v = c .list-unmarked .ensures (bookIn (s .args .book .now)) (shape-count _ _ (s .pre)) in
+    let start = c .before .before .before .before .before .before in
+    let v = c .list-unmarked .ensures (bookIn (start .args .book .now)) (shape-count _ _ (start .pre)) in
     λ on. rw (outside-unsupported _ _ on _ (after-support .support .ensures)) at v
 
 pub list-unsupported-spec : {M : Type 1} → statement M

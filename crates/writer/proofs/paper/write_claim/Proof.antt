@@ -14,13 +14,14 @@ write-in-requires c κs =
 
 returns : tie.Need-returns
 returns c =
-    let r = c .before .before .before in write-bad _ _ _ _ (r .read-book .ensures) (c .before .why .given .1)
+    let after-read-book = c .before .before .before in
+    write-bad _ _ _ _ (after-read-book .read-book .ensures) (c .before .why .given .1)
 
 returns-2 : tie.Need-returns-2
 returns-2 c =
     let n = c .before .before in
-    let g = n .before .before .before in
-    write-good _ _ _ _ (g .before .before .read-book .ensures) (g .shape .given .1) (n .write-in .ensures)
+    let matched = n .before .before .before in
+    write-good _ _ _ _ (matched .before .before .read-book .ensures) (matched .shape .given .1) (n .write-in .ensures)
 
 pub write-claim-spec : {M : Type 1} → statement M
 write-claim-spec =

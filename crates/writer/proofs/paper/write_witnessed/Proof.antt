@@ -27,7 +27,8 @@ module _ (c : tie.After-write-steps) where
 returns : tie.Need-returns
 unfolding firstWalk
 returns c =
-    let f = c .before .before .before in write-fewer _ _ _ _ (f .first .ensures) (c .before .enum-told .given .1)
+    let after-first = c .before .before .before in
+    write-fewer _ _ _ _ (after-first .first .ensures) (c .before .enum-told .given .1)
 
 returns-2 : tie.Need-returns-2
 unfolding firstWalk
@@ -37,15 +38,15 @@ returns-2 c = write-first-limit _ _ _ _ (c .before .before .first .ensures) (c .
 
 finish-requires : tie.Need-finish-requires
 finish-requires c κs =
-    let w = c .before .before .before .before in
-    let m = stands-most (w .write-steps .ensures .bytes) in
-    (start (walked w) .pre .0, omega arith)
+    let after-write-steps = c .before .before .before .before in
+    let m = stands-most (after-write-steps .write-steps .ensures .bytes) in
+    (start (walked after-write-steps) .pre .0, omega arith)
 
 hand-over-requires : tie.Need-hand-over-requires
 hand-over-requires c κs =
     let p = c .before .before in
-    let w = p .before .before .before .before .before in
-    stands-long (p .finish .ensures _ (w .write-steps .ensures .bytes))
+    let after-write-steps = p .before .before .before .before .before in
+    stands-long (p .finish .ensures _ (after-write-steps .write-steps .ensures .bytes))
 
 returns-3 : tie.Need-returns-3
 unfolding firstWalk
@@ -57,20 +58,20 @@ returns-3 c =
 returns-4 : tie.Need-returns-4
 unfolding firstWalk
 returns-4 c =
-    let w = c .before .before .before in
-    write-full _ _ _ _ (walked w .first .ensures) (full w)
-    (after-refuted _ _ _ _ _ (w .write-steps .ensures) (c .before .enum-told5 .given .1) (c .unproved .ensures))
+    let after-write-steps = c .before .before .before in
+    write-full _ _ _ _ (walked after-write-steps .first .ensures) (full after-write-steps)
+    (after-refuted _ _ _ _ _ (after-write-steps .write-steps .ensures) (c .before .enum-told5 .given .1) (c .unproved .ensures))
 
 returns-5 : tie.Need-returns-5
 unfolding firstWalk
 returns-5 c =
     let h = c .before .before in
-    let p = h .before .before .before in
-    let e = p .before .before .before in
-    let w = e .before .before in
+    let after-finish = h .before .before .before in
+    let matched = after-finish .before .before .before in
+    let w = matched .before .before in
     write-full _ _ _ _ (walked w .first .ensures) (full w)
-    (after-handed _ _ _ _ _ (w .write-steps .ensures) (e .enum-told6 .given .1)
-    (h .hand-over .ensures _ (p .finish .ensures _ (w .write-steps .ensures .bytes))))
+    (after-handed _ _ _ _ _ (w .write-steps .ensures) (matched .enum-told6 .given .1)
+    (h .hand-over .ensures _ (after-finish .finish .ensures _ (w .write-steps .ensures .bytes))))
 
 pub write-witnessed-spec : {M : Type 1} → statement M
 write-witnessed-spec =

@@ -27,7 +27,7 @@ use Rattle.writer.proofs.split.+write_branches.{statement}
 use Rattle.writer.proofs.split.+write_branches.Tie.{close}
 
 abbrev μ-branches : Measures 2 kinds.ps ℕ
-μ-branches κs a = left (bookIn (a .0 .now)) (pair (written (a .1 .1 .1 .0)))
+μ-branches κs a = let (book, (shape, (claim, (c, more)))) = a in left (bookIn (book .now)) (pair (written c))
 
 abbrev at-measure : ℕ → In 2 kinds.ps
 at-measure t = and 2 kinds.ps (is 2 kinds.ps μ-branches t) branches.Pre
@@ -57,7 +57,7 @@ module _ (t : ℕ) (c : lts.After-write-branch (calls t) (at-measure t) branches
   start = c .before .before .before .before .before .before .before
 
   going : start .args .p .course ≡ Writing
-  going = c .before .before .before .before .enum-told .given .1
+  going = let matched = c .before .before .before .before in matched .enum-told .given .1
 
   room : start .args .p .tries < start .args .limit
   room = omega (arith, c .before .before .if1 .left)
@@ -106,29 +106,31 @@ need-write-branches-requires t c κs =
 
 need-write-branches-requires-2 : (t : ℕ) → lts.Need-write-branches-requires-2 (calls t) (at-measure t) branches.Post
 need-write-branches-requires-2 t c κs =
-    let p = c .before .before .before .before .before in
-    (fewer t p offSide _ (off-pair t p (c .before .with-off .ensures)), first t p .pre .1)
+    let parted = c .before .before .before .before .before in
+    (fewer t parted offSide _ (off-pair t parted (c .before .with-off .ensures)), first t parted .pre .1)
 
 need-returns-3 : (t : ℕ) → lts.Need-returns-3 (calls t) (at-measure t) branches.Post
 need-returns-3 t c = λ s g l.
-    let w = c .before .before .before in
-    stage-ended _ _ (few t (start t w)) _ _ g (going t w) (room t w) (w .write-branch .ensures) (c .enum-told2 .given .1)
+    let after-write-branch = c .before .before .before in
+    stage-ended _ _ (few t (start t after-write-branch)) _ _ g (going t after-write-branch) (room t after-write-branch)
+    (after-write-branch .write-branch .ensures) (c .enum-told2 .given .1)
 
 need-returns-4 : (t : ℕ) → lts.Need-returns-4 (calls t) (at-measure t) branches.Post
 need-returns-4 t c = λ s g l.
-    let w = c .before .before .before in
-    stage-unsettled _ _ (few t (start t w)) _ _ g (going t w) (room t w) (w .write-branch .ensures) (c .enum-told3 .given .1)
+    let after-write-branch = c .before .before .before in
+    stage-unsettled _ _ (few t (start t after-write-branch)) _ _ g (going t after-write-branch) (room t after-write-branch)
+    (after-write-branch .write-branch .ensures) (c .enum-told3 .given .1)
 
 need-returns-5 : (t : ℕ) → lts.Need-returns-5 (calls t) (at-measure t) branches.Post
 need-returns-5 t c =
     let after-with-on = c .before .before .before .before .before in
     let after-write-branches = c .before .before .before in
     λ s g l.
-    let p = c .before .before .before .before .before .before in
-    let w = wrote t p in
-    let on = on-pair t p (after-with-on .with-on .ensures) in
-    let off = off-pair t p (c .before .before .with-off .ensures) in
-    stage-parted _ _ (few t (first t p)) _ _ g (going t w) (room t w) (w .write-branch .ensures) (cut t p) on off l
+    let parted = c .before .before .before .before .before .before in
+    let w = wrote t parted in
+    let on = on-pair t parted (after-with-on .with-on .ensures) in
+    let off = off-pair t parted (c .before .before .with-off .ensures) in
+    stage-parted _ _ (few t (first t parted)) _ _ g (going t w) (room t w) (w .write-branch .ensures) (cut t parted) on off l
     (after-write-branches .write-branches .ensures) (c .write-branches2 .ensures)
 
 pub +write-branches-spec : {M : Type 1} → statement M

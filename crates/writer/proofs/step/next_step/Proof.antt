@@ -128,14 +128,14 @@ returns-2 c =
 
 returns-3 : tie.Need-returns-3
 returns-3 c =
-    let p = c .before .before .before in
-    does-next (next-on _ _ _ (quiet (not-45 p)) (picked-one (on-lowest p) (c .before .r .given .1))) does-on
+    let after-lowest-on = c .before .before .before in
+    does-next (next-on _ _ _ (quiet (not-45 after-lowest-on)) (picked-one (on-lowest after-lowest-on) (c .before .r .given .1))) does-on
 
 returns-4 : tie.Need-returns-4
 returns-4 c =
-    let p = c .before .before .before in
-    let found = picked-one (off-lowest p) (c .before .r2 .given .1) in
-    does-next (next-off _ _ _ (quiet (not-45 (not-41 p))) (on-none p) found) does-off
+    let after-lowest-off = c .before .before .before in
+    let found = picked-one (off-lowest after-lowest-off) (c .before .r2 .given .1) in
+    does-next (next-off _ _ _ (quiet (not-45 (not-41 after-lowest-off))) (on-none after-lowest-off) found) does-off
 
 returns-5 : tie.Need-returns-5
 returns-5 c =
@@ -146,11 +146,12 @@ returns-5 c =
 
 returns-6 : tie.Need-returns-6
 returns-6 c =
-    let p = c .before .before .before in
-    let q = not-42 (not-55 p) in
-    let l = not-55 p .list-unsupported .ensures (listed (first q .args .on .now)) in
-    let found = picked-one (split-lowest p) (c .before .r3 .given .1) in
-    does-next (next-split _ _ _ (quiet (not-45 (not-41 q))) (on-none q) (off-none (not-55 p)) (omega (arith, l .counted)) found)
+    let after-lowest-uncoloured = c .before .before .before in
+    let q = not-42 (not-55 after-lowest-uncoloured) in
+    let l = not-55 after-lowest-uncoloured .list-unsupported .ensures (listed (first q .args .on .now)) in
+    let found = picked-one (split-lowest after-lowest-uncoloured) (c .before .r3 .given .1) in
+    does-next (next-split _ _ _ (quiet (not-45 (not-41 q))) (on-none q) (off-none (not-55 after-lowest-uncoloured))
+    (omega (arith, l .counted)) found)
     does-split
 
 returns-7 : tie.Need-returns-7

@@ -20,17 +20,18 @@ returns-2 c = list-other _ _ _ _ (c .before .generates .ensures) (not-true _ (c 
 
 every-in-requires : tie.Need-every-in-requires
 every-in-requires c κs =
-    let s = c .before .before .before .before .before .before .before in
-    pos-below _ (s .args .shape) (s .pre .0) (s .args .r) (s .pre .1) (small s) _ (c .positives .ensures)
+    let start = c .before .before .before .before .before .before .before in
+    pos-below _ (start .args .shape) (start .pre .0) (start .args .r) (start .pre .1) (small start) _ (c .positives .ensures)
 
 returns-3 : tie.Need-returns-3
 returns-3 c =
-    let g = c .before .before .before in
-    let l = g .before .before in
+    let after-generates = c .before .before .before in
+    let l = after-generates .before .before in
     let w = l .before in
     let s = w .before .before in
     list-may _ (s .args .shape) (s .pre .0) (small s) (s .args .r) (s .pre .1) _ _ (s .pre .2) _ (c .before .positives .ensures)
-    (sym (w .has .ensures) ∙ l .if1 .left) _ (g .generates .ensures) (not-false _ (c .before .before .if2 .left)) (c .every-in .ensures)
+    (sym (w .has .ensures) ∙ l .if1 .left) _ (after-generates .generates .ensures) (not-false _ (c .before .before .if2 .left))
+    (c .every-in .ensures)
 
 pub may-list-spec : {M : Type 1} → statement M
 may-list-spec =

@@ -60,9 +60,9 @@ module _ (c : tie.After-r Inv-loop μ-loop) where
 loop-again : tie.Need-loop-again Inv-loop μ-loop
 loop-again c =
     let w = c .before .before in
-    let f = w .before .before .before in
-    let p = searched f in
-    listing-more _ _ _ _ (turn p .loop .inv) (picked-one (p .next-listed .ensures) (f .r .given .1)) (few (start p))
+    let matched = w .before .before .before in
+    let p = searched matched in
+    listing-more _ _ _ _ (turn p .loop .inv) (picked-one (p .next-listed .ensures) (matched .r .given .1)) (few (start p))
     (w .put .ensures) (omega (arith, counted (start p))) (c .write .ensures)
 
 returns-2 : tie.Need-returns-2 Inv-loop μ-loop
