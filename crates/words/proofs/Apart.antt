@@ -89,6 +89,9 @@ new-name l x f t g = record {
     different i j h k e (inr p) (inl q) = absurd (f j q (sym (old j q) ∙ sym e ∙ last i (omega (arith, more))))
     different i j h k e (inr p) (inr q) = omega (arith, more)
 
+pub names-long : (names : List Word) → length (namesOf names) ≡ length names
+names-long names = length-map names (λ (w : Word). w .bytes)
+
 -- the i-th name's bytes
 pub name-at : (names : List Word) (i : ℕ) → getD (namesOf names) i [] ≡ getD names i noWord .bytes
 name-at names i = List·getD-map (λ (w : Word). w .bytes) names i noWord
@@ -97,7 +100,7 @@ pub none-so-far : (names : List Word) (l : List ℕ) → length names ≤ number
     → getD (namesOf names) i [] ≡ l → ⊥
 unfolding numberIn
 none-so-far names l h i k e =
-    let m = length-map names (λ (w : Word). w .bytes) in
+    let m = names-long names in
     let n : isNamed names l i ≡ false = first-none 0 (length names) (isNamed names l) (omega arith) i (omega arith) (omega arith) in
     let b : getD names i noWord .bytes ≡ l = sym (name-at names i) ∙ e in
     true-and-false (bytes-refl l) (rw b at n)

@@ -7,7 +7,7 @@ use mathlib.Core.List.{List, [], _∷_, _++_, map, append-nil, List·Memᴰ, Lis
 use Prim.{tt}
 use Prim.Native.Nat.{ℕ, _+_, _<_, _≤_}
 use native.Mathlib.Omega.{arith}
-use lib.ListN.{length, set, drop, length-append, length-map}
+use lib.ListN.{length, set, drop, length-append}
 use lib.Seq.{append-snoc}
 use borrow.Author.Tests.{lt-leb}
 use Rattle.meaning.specs.declared.AtomNo.{AtomNo}
@@ -26,6 +26,7 @@ use Rattle.words.specs.Terms.{ifWord, andWord, notWord, termOf}
 use Rattle.words.specs.Moves.{onName, moveOf, endedOf}
 use Rattle.words.specs.Reading.{placed, full, follow, followAt, Says, says, said, namesOf}
 use Rattle.words.specs.Text.{GoodNames, nameOf, literals, bodyOf, linked, ruleLines}
+use Rattle.words.proofs.Apart.{names-long}
 use Rattle.words.proofs.Numbers.{number-of}
 use Rattle.words.proofs.Solid.{Solid, All, all-append, if-solid, and-solid, not-solid, name-solid}
 use Rattle.words.proofs.Printed.{wordsFrom, pieces-none, line-read}
@@ -65,21 +66,24 @@ linked-solid w s (x ∷ k) (p, f) = all-append Solid (w ∷ x) (linked andWord k
 
 module _ (l : List (List ℕ)) (g : GoodNames l) (few : length l ≤ 255) (names : List Word) (e : namesOf names ≡ l) where
   as-many : length names ≡ length l
-  as-many = sym (length-map names (λ (w : Word). w .bytes)) ∙ rw e refl
+  as-many = sym (names-long names) ∙ rw e refl
 
   atom-number : (a : AtomNo) → a .0 < length l → numberIn names (nameOf l a) ≡ a .0
   atom-number a h =
-      number-of names (nameOf l a) (subst GoodNames (sym e) g) (a .0) (omega (arith, as-many))
-      (rw e refl)
+      number-of names (nameOf l a) (subst GoodNames (sym e) g) (a .0) (omega (arith, as-many)) (rw e refl)
 
   module _ (y : Says) (ps : List Piece) (rules : List Rule) (end : ℕ) (r : Rule) (fits : RuleFits (length l) r)
       (next : (o : Open) → Ends y ps (fixedAt Line names (rules ++ (r ∷ [])) o)) where
     abbrev opened : List Bool → List Bool → Open
     opened t u = record { head = r .head; pos = t; neg = u }
 
+    -- words, then the line's end and what follows
+    abbrev spoken : ℕ → List (List ℕ) → List Piece
+    spoken at ws = map word (wordsFrom at ws) ++ (line end ∷ ps)
+
     negatives : (more before : List AtomNo) → before ++ more ≡ r .neg → (due : Due) (w : List ℕ) → Link due w → (at : ℕ) (t u : List Bool)
         → Table t (r .pos) → Table u before
-        → Ends y (map word (wordsFrom at (linked w (literals (notWord ∷ []) l more))) ++ (line end ∷ ps)) (fixedAt due names rules (opened t u))
+        → Ends y (spoken at (linked w (literals (notWord ∷ []) l more))) (fixedAt due names rules (opened t u))
     unfolding wordsFrom linked literals onName placed full
     negatives [] before q due w k at t u p n =
         let neg = n .lists ∙ sym (append-nil before) ∙ q in
@@ -97,8 +101,7 @@ module _ (l : List (List ℕ)) (g : GoodNames l) (few : length l ≤ 255) (names
 
     positives : (more before : List AtomNo) → before ++ more ≡ r .pos → (due : Due) (w : List ℕ) → Link due w → (at : ℕ) (t u : List Bool)
         → Table t before → Table u []
-        → Ends y (map word (wordsFrom at (linked w (literals [] l more ++ literals (notWord ∷ []) l (r .neg)))) ++ (line end ∷ ps))
-        (fixedAt due names rules (opened t u))
+        → Ends y (spoken at (linked w (literals [] l more ++ literals (notWord ∷ []) l (r .neg)))) (fixedAt due names rules (opened t u))
     unfolding wordsFrom linked literals onName placed full
     positives [] before q due w k at t u p n =
         negatives (r .neg) [] refl due w k at t u (subst (Table t) (sym (append-nil before) ∙ q) p) n
@@ -112,7 +115,7 @@ module _ (l : List (List ℕ)) (g : GoodNames l) (few : length l ≤ 255) (names
         (table-more (length l) few before a more f t p) n))
 
     rule-read : (place at : ℕ) (o : Open) → length rules < 255
-        → Ends y (word (record { place = place; bytes = nameOf l (r .head) }) ∷ (map word (wordsFrom at (linked ifWord (bodyOf l r))) ++ (line end ∷ ps)))
+        → Ends y (word (record { place = place; bytes = nameOf l (r .head) }) ∷ spoken at (linked ifWord (bodyOf l r)))
         (fixedAt Line names rules o)
     unfolding onName placed full
     rule-read place at o room =

@@ -5,7 +5,7 @@ use mathlib.Core.List.{List, [], _∷_, _++_, List·Memᴰ}
 use Prim.{tt, Unit}
 use Prim.Native.Nat.{ℕ, suc, _+_, _≤_, _<_}
 use native.Mathlib.Omega.{arith}
-use lib.ListN.{length, getD, drop, length-map}
+use lib.ListN.{length, getD, drop}
 use Rattle.meaning.specs.Books.{Rule, Book, count}
 use Rattle.meaning.specs.Told.{success}
 use Rattle.meaning.proofs.Choice.{lt-no}
@@ -13,14 +13,14 @@ use Rattle.meaning.proofs.Tests.{apart}
 use Rattle.book.specs.Writing.{RuleFits, Fits, bytesOfBook}
 use Rattle.words.specs.declared.due.Due.the-variants.{Listing}
 use Rattle.words.specs.declared.decision.Act.the-variants.{Fix}
-use Rattle.words.specs.Words.{Word, piecesAt}
+use Rattle.words.specs.Words.{piecesAt}
 use Rattle.words.specs.Terms.{atomsWord}
 use Rattle.words.specs.Moves.{endedOf}
 use Rattle.words.specs.Reading.{State, done, Outcome, goes, wrong, followAt, heard, start, bookOf, Says, says, refused, namesOf, said, wordsIn}
 use Rattle.words.specs.Make.{Answer, handOver, makeHeard, makeOf}
 use Rattle.words.specs.Text.{GoodNames, ruleLines, textOf}
 use Rattle.words.proofs.Reached.{words-fit}
-use Rattle.words.proofs.Apart.{names-apart}
+use Rattle.words.proofs.Apart.{names-long, names-apart}
 use Rattle.words.proofs.Solid.{Solid, All, atoms-solid, name-solid}
 use Rattle.words.proofs.Printed.{wordsFrom, names-from, line-read}
 use Rattle.words.proofs.Steps.{atoms-begin, step-goes, step-blank}
@@ -60,9 +60,8 @@ Again (refused i place) = Unit {0}
 heard-again : (s : List ℕ) (o : Outcome) → heard s ≡ o → Again (said o)
 unfolding Again said
 heard-again s (goes t) e =
-    let n = length-map (t .names) (λ (w : Word). w .bytes) in
     text-read (record { atoms = length (namesOf (t .names)); rules = t .rules }) (namesOf (t .names))
-    (subst (λ k. Fits (record { atoms = k; rules = t .rules })) (sym n) (words-fit s t e)) (names-apart s t e) refl
+    (subst (λ k. Fits (record { atoms = k; rules = t .rules })) (sym (names-long (t .names))) (words-fit s t e)) (names-apart s t e) refl
 heard-again s (wrong i place) e = tt
 
 pub again-read : (s : List ℕ) (l : List (List ℕ)) (rs : List Rule) → wordsIn s ≡ says l rs
@@ -80,8 +79,7 @@ heard-book : (o : Outcome) (l : List (List ℕ)) (rs : List Rule) → said o ≡
     → (s : State) × (o ≡ goes s) × (bookOf s ≡ record { atoms = length l; rules = rs })
 unfolding said bookSaid
 heard-book (goes s) l rs e =
-    let n = length-map (s .names) (λ (w : Word). w .bytes) in
-    (s, refl, (λ i. record { atoms = sym n i; rules = s .rules }) ∙ ap bookSaid e)
+    (s, refl, (λ i. record { atoms = sym (names-long (s .names)) i; rules = s .rules }) ∙ ap bookSaid e)
 heard-book (wrong i place) l rs e = apart (cc)
 
 handed : (s : State) (b : Book) → bookOf s ≡ b → (out from to : List ℕ) → length (bytesOfBook b) ≤ length out
