@@ -24,4 +24,5 @@ pub mod Tables
 pub mod Listing
 pub mod RuleLines
 pub mod Text
+pub mod Enough
 pub mod Cases
