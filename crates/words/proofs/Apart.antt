@@ -2,7 +2,7 @@
 use mathlib.Core.Path.{_≡_, refl, sym, _∙_}
 use mathlib.Core.Logic.{_⊎_, inl, inr, ⊎-elim}
 use mathlib.Core.Bool.{Bool, true, false}
-use mathlib.Core.List.{List, [], _∷_, _++_, map-append, List·Memᴰ·not-nil, List·Memᴰ·append-cases, List·Memᴰ·eq-of-singleton}
+use mathlib.Core.List.{List, [], _∷_, _++_, map-append}
 use Prim.{tt}
 use Prim.Native.Nat.{ℕ, _+_, _<_, _≤_}
 use native.Mathlib.Omega.{arith}
@@ -69,7 +69,7 @@ name-says due Other e = true-and-false e (remarked-silent due)
 new-name : (l : List (List ℕ)) (x : List ℕ) → ((i : ℕ) → i < length l → getD l i [] ≡ x → ⊥) → termOf x ≡ AName → GoodNames l
     → GoodNames (l ++ (x ∷ []))
 new-name l x f t g = record {
-  each = λ w m. ⊎-elim (g .each w) (λ k. let e : w ≡ x = List·Memᴰ·eq-of-singleton k in rw e t) (List·Memᴰ·append-cases l m);
+  each = λ i h. ⊎-elim (λ p. rw (old i p) (g .each i p)) (λ p. rw (last i (omega (arith, more))) t) (lt-or-le i (length l));
   apart = λ i j h k e. different i j h k e (lt-or-le i (length l)) (lt-or-le j (length l));
 }
   where
@@ -89,15 +89,18 @@ new-name l x f t g = record {
     different i j h k e (inr p) (inl q) = absurd (f j q (sym (old j q) ∙ sym e ∙ last i (omega (arith, more))))
     different i j h k e (inr p) (inr q) = omega (arith, more)
 
+pub names-long : (names : List Word) → length (namesOf names) ≡ length names
+names-long names = length-map names (λ (w : Word). w .bytes)
+
 -- the i-th name's bytes
 pub name-at : (names : List Word) (i : ℕ) → getD (namesOf names) i [] ≡ getD names i noWord .bytes
 name-at names i = List·getD-map (λ (w : Word). w .bytes) names i noWord
 
-none-so-far : (names : List Word) (l : List ℕ) → length names ≤ numberIn names l → (i : ℕ) → i < length (namesOf names)
+pub none-so-far : (names : List Word) (l : List ℕ) → length names ≤ numberIn names l → (i : ℕ) → i < length (namesOf names)
     → getD (namesOf names) i [] ≡ l → ⊥
 unfolding numberIn
 none-so-far names l h i k e =
-    let m = length-map names (λ (w : Word). w .bytes) in
+    let m = names-long names in
     let n : isNamed names l i ≡ false = first-none 0 (length names) (isNamed names l) (omega arith) i (omega arith) (omega arith) in
     let b : getD names i noWord .bytes ≡ l = sym (name-at names i) ∙ e in
     true-and-false (bytes-refl l) (rw b at n)
@@ -158,4 +161,4 @@ names-piece (line place) s g = names-ended s g place (endedOf (s .due))
 
 pub names-apart : (text : List ℕ) (s : State) → heard text ≡ goes s → GoodNames (namesOf (s .names))
 names-apart text s e =
-    heard-keeps Names names-piece (record { each = λ w m. absurd (List·Memᴰ·not-nil m); apart = λ i j h k p. absurd (omega arith) }) text s e
+    heard-keeps Names names-piece (record { each = λ i h. absurd (omega arith); apart = λ i j h k p. absurd (omega arith) }) text s e

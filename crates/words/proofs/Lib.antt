@@ -15,5 +15,14 @@ pub mod Counts
 pub mod Reached
 pub mod Apart
 pub mod Refusals
+pub mod Numbers
 pub mod Whose
+pub mod Solid
+pub mod Printed
+pub mod Steps
+pub mod Tables
+pub mod Listing
+pub mod RuleLines
+pub mod Text
+pub mod Enough
 pub mod Cases

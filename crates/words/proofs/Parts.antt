@@ -38,7 +38,7 @@ never zero i = refl
 never (suc n) zero = refl
 never (suc n) (suc i) = never n i
 
-none-listed : listed noAtoms ≡ []
+pub none-listed : listed noAtoms ≡ []
 none-listed = atoms-none 0 255 (saidOf noAtoms) (λ m h. never 255 m)
 
 pub body-none : (n : ℕ) → BodyFits n (listed noAtoms)
@@ -55,7 +55,7 @@ module _ (t : List Bool) (a : ℕ) (h : length t ≡ 255) (l : a < 255) where
       stored (yes p) = rw (p, eq-eqb a a refl) (getD-set-same t a true false (rw h l))
       stored (no q) = rw (ne-eqb a m (λ e. q (sym e))) (getD-set-other t a m true false q)
 
-  listed-with : listed (set t a true) ≡ atomsFrom 0 255 (with a (saidOf t))
+  pub listed-with : listed (set t a true) ≡ atomsFrom 0 255 (with a (saidOf t))
   listed-with = atoms-same 0 255 _ _ (λ m p q. stored-with m)
 
   -- an atom that is there already adds nothing

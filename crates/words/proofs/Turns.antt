@@ -22,7 +22,7 @@ use Rattle.words.specs.declared.decision.Decision.the-variants.{Goes as 
 use Rattle.words.specs.declared.step.Fate.{Fate}
 use Rattle.words.specs.declared.step.Fate.the-variants.{Goes, Done, Form, Name, TooMany}
 use Rattle.words.specs.declared.step.Reading.{Reading}
-use Rattle.words.specs.Words.{startOf, endOf, Word, between, wordAt, word, line}
+use Rattle.words.specs.Words.{startOf, endOf, Word, between, wordAt}
 use Rattle.words.specs.Names.{noWord}
 use Rattle.words.specs.Moves.{endedOf}
 use Rattle.words.specs.Reading.{State, known, done, goes, wrong, onDecision, decisionOf, nextLine, openRule, onEnded, onPiece, andThen, followAt, heard, bookOf, start}

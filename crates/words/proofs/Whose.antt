@@ -1,15 +1,14 @@
 -- Whose name a word is: the names of a text that is read stand in it at their places, and the atom told of a word is the one with that name.
 use mathlib.Core.Path.{_≡_, refl, ap, sym, _∙_}
 use mathlib.Core.Logic.{⊎-elim}
-use mathlib.Core.Bool.{false}
 use mathlib.Core.List.{List, [], _∷_}
 use Prim.{tt, Unit}
 use Prim.Native.Nat.{ℕ, zero, suc, _+_, _-_, _<_, _≤_}
 use native.Mathlib.Omega.{arith}
-use lib.ListN.{length, getD, length-map}
+use lib.ListN.{length, getD}
 use Rattle.meaning.specs.Books.{atomNo}
 use Rattle.meaning.proofs.Choice.{lt-yes, lt-no, lt-either, eq-either}
-use Rattle.meaning.proofs.Tests.{lt-or-le, true-and-false}
+use Rattle.meaning.proofs.Tests.{lt-or-le}
 use Rattle.words.specs.declared.answer.Whose.{Whose}
 use Rattle.words.specs.declared.answer.Whose.the-variants.{Atom, Nothing}
 use Rattle.words.specs.declared.due.Ended.{Ended}
@@ -17,18 +16,17 @@ use Rattle.words.specs.declared.due.Ended.the-variants.{Nothing as Blank
 use Rattle.words.specs.declared.decision.Decision.{Decision}
 use Rattle.words.specs.declared.decision.Decision.the-variants.{Goes, Form, Name, TooMany}
 use Rattle.words.specs.Words.{startOf, endOf, Word, Piece, word, line, piecesFrom, piecesAt, pieces}
-use Rattle.words.specs.Names.{noWord, isNamed, numberIn, whoseOf}
+use Rattle.words.specs.Names.{noWord, numberIn, whoseOf}
 use Rattle.words.specs.Moves.{endedOf}
 use Rattle.words.specs.Reading.{State, goes, onDecision, decisionOf, onEnded, onPiece, follow, followAt, heard, start, namesOf}
 use Rattle.words.specs.Text.{GoodNames}
 use Rattle.words.specs.Make.{filled, startsOf, endsOf}
 use Rattle.words.specs.Progress.{InText}
-use Rattle.words.proofs.Names.{bytes-refl, bytes-equal, first-found, first-none}
 use Rattle.words.proofs.Places.{place-number}
 use Rattle.words.proofs.Follow.{word-in}
 use Rattle.words.proofs.Turns.{spelled-done}
 use Rattle.words.proofs.Reached.{Keeps, then-keeps}
-use Rattle.words.proofs.Apart.{name-at}
+use Rattle.words.proofs.Numbers.{number-named, number-of}
 
 unfoldable numberOf : Whose → ℕ
 numberOf (Atom a) = suc (a .0)
@@ -38,10 +36,6 @@ module _ (text : List ℕ) (names : List Word) (t : (i : ℕ) → i < length nam
     (l : List ℕ) where
   abbrev told : Whose
   told = whoseOf text (length names) (filled (startsOf names)) (filled (endsOf names)) l
-
-  number-named : numberIn names l < length names → getD (namesOf names) (numberIn names l) [] ≡ l
-  unfolding numberIn
-  number-named h = name-at names (numberIn names l) ∙ bytes-equal _ l (first-found 0 (length names) (isNamed names l) (omega arith))
 
   told-found : numberIn names l < length names → told ≡ Atom (atomNo (numberIn names l))
   unfolding whoseOf
@@ -56,21 +50,15 @@ module _ (text : List ℕ) (names : List Word) (t : (i : ℕ) → i < length nam
   unfolding numberOf
   whose-named a e = ⊎-elim
       (λ h. let f : suc (numberIn names l) ≡ suc a = ap numberOf (sym (told-found h) ∙ e) in
-      let k : numberIn names l ≡ a = omega arith in (rw k at h, rw k at (number-named h)))
+      let k : numberIn names l ≡ a = omega arith in (rw k at h, rw k at (number-named names l h)))
       (λ h. let f : _≡_ {A = ℕ} 0 (suc a) = ap numberOf (sym (told-nothing h) ∙ e) in absurd (omega arith))
       (lt-or-le (numberIn names l) (length names))
 
   -- and the atom with the name is told
   pub named-whose : (a : ℕ) → a < length names → getD (namesOf names) a [] ≡ l → told ≡ Atom (atomNo a)
-  unfolding numberIn
-  named-whose a h e = ⊎-elim
-      (λ k. let m = length-map names (λ (w : Word). w .bytes) in
-      let same : numberIn names l ≡ a = g .apart (numberIn names l) a (omega arith) (omega arith) (number-named k ∙ sym e) in
-      told-found k ∙ ap (λ n. Atom (atomNo n)) same)
-      (λ k. let b : getD names a noWord .bytes ≡ l = sym (name-at names a) ∙ e in
-      let n : isNamed names l a ≡ false = first-none 0 (length names) (isNamed names l) (omega arith) a (omega arith) (omega arith) in
-      true-and-false (bytes-refl l) (rw b at n))
-      (lt-or-le (numberIn names l) (length names))
+  named-whose a h e =
+      let same = number-of names l g a h e in
+      told-found (omega (arith, same)) ∙ ap (λ n. Atom (atomNo n)) same
 
 -- ---- the names of a text stand in it
 

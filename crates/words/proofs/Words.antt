@@ -53,7 +53,7 @@ start-stops (x ∷ l) =
     (λ e h. start-stops l (omega arith)) (λ e h. e)
 
 -- a byte that is no blank and ends no line belongs to a word
-no-part : (x : ℕ) → blank x ≡ false → (x ≡ 10 → ⊥) → parting x ≡ false
+pub no-part : (x : ℕ) → blank x ≡ false → (x ≡ 10 → ⊥) → parting x ≡ false
 unfolding parting
 no-part x e n = b-no _ _ _ e ∙ ne-eqb x 10 n
 

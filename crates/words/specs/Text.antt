@@ -4,7 +4,7 @@
 --   GoodNames l      each is a name, and no two are the same
 --   textOf b l       the book's text with these names
 use mathlib.Core.Path.{_≡_}
-use mathlib.Core.List.{List, [], _∷_, _++_, List·Memᴰ}
+use mathlib.Core.List.{List, [], _∷_, _++_}
 use Prim.Native.Nat.{ℕ, _<_}
 use lib.ListN.{length, getD}
 use Rattle.meaning.specs.declared.AtomNo.{AtomNo}
@@ -13,7 +13,7 @@ use Rattle.words.specs.declared.term.Term.the-variants.{Name}
 use Rattle.words.specs.Terms.{termOf, ifWord, andWord, notWord, atomsWord}
 
 pub record GoodNames (l : List (List ℕ)) : Type 0 where
-  pub each : (w : List ℕ) → List·Memᴰ w l → termOf w ≡ Name
+  pub each : (i : ℕ) → i < length l → termOf (getD l i []) ≡ Name
   pub apart : (i j : ℕ) → i < length l → j < length l → getD l i [] ≡ getD l j [] → i ≡ j
 
 -- a space in front

@@ -1,7 +1,7 @@
 // The names met so far, by their places in the text.
 ghost use mathlib.Core.Path.{_≡_};
 ghost use Prim.Native.Nat.{_+_, _≤_, _<_};
-ghost use lib.ListN.{length, set};
+ghost use lib.ListN.{set};
 ghost use Rattle.words.specs.Names.{isBetween, placeOf, whoseOf};
 use crate::answer::Whose;
 use crate::term::is_same;

@@ -7,7 +7,10 @@ use Rattle.words.proofs.decision.decide.Tie as tie
 
 returns : tie.Need-returns
 unfolding decided
-returns c = let a = c .before .before .before .before .args in c .on-said .ensures ∙ sym (ap (λ x. decided x (a .fixed) (a .rules) (a .count) (a .a) (a .rule)) (c .before .before .m .given .1))
+returns c =
+    let start = c .before .before .before .before in
+    let a = start .args in
+    c .on-said .ensures ∙ sym (ap (λ x. decided x (a .fixed) (a .rules) (a .count) (a .a) (a .rule)) (c .before .before .m .given .1))
 
 returns-2 : tie.Need-returns-2
 unfolding decided

@@ -19,13 +19,25 @@ unfolding placeOf
 loop-holds c = let a = c .before .before .args in (search needs, search needs, first-begun (a .n) (isSpelled (a .text .now) (a .from .now) (a .to .now) (a .word .now)))
 
 returns : tie.Need-returns Inv-loop μ-loop
-returns c = let k = c .before .before .before .before .before in let a = k .before .before .before .args in (sym (k .loop .inv .2 ∙ first-here (a .n) (isSpelled (a .text .now) (a .from .now) (a .to .now) (a .word .now)) (k .loop .i) (omega arith) (sym (c .before .stands-between .ensures) ∙ c .if1 .taken)), search needs)
+returns c =
+    let turn = c .before .before .before .before .before in
+    let start = turn .before .before .before in
+    let a = start .args in
+    (sym (turn .loop .inv .2 ∙ first-here (a .n) (isSpelled (a .text .now) (a .from .now) (a .to .now) (a .word .now)) (turn .loop .i) (omega arith) (sym (c .before .stands-between .ensures) ∙ c .if1 .taken)), search needs)
 
 loop-again : tie.Need-loop-again Inv-loop μ-loop
-loop-again c = let k = c .before .before .before .before .before in let a = k .before .before .before .args in (search needs, search needs, k .loop .inv .2 ∙ first-turn (a .n) (isSpelled (a .text .now) (a .from .now) (a .to .now) (a .word .now)) (k .loop .i) (omega arith) (sym (c .before .stands-between .ensures) ∙ c .if1 .left))
+loop-again c =
+    let turn = c .before .before .before .before .before in
+    let start = turn .before .before .before in
+    let a = start .args in
+    (search needs, search needs, turn .loop .inv .2 ∙ first-turn (a .n) (isSpelled (a .text .now) (a .from .now) (a .to .now) (a .word .now)) (turn .loop .i) (omega arith) (sym (c .before .stands-between .ensures) ∙ c .if1 .left))
 
 returns-2 : tie.Need-returns-2 Inv-loop μ-loop
-returns-2 c = let k = c .before in let a = k .before .before .before .args in (sym (k .loop .inv .2 ∙ first-over (a .n) (isSpelled (a .text .now) (a .from .now) (a .to .now) (a .word .now)) (k .loop .i) (omega arith) (omega arith)), search needs)
+returns-2 c =
+    let turn = c .before in
+    let start = turn .before .before .before in
+    let a = start .args in
+    (sym (turn .loop .inv .2 ∙ first-over (a .n) (isSpelled (a .text .now) (a .from .now) (a .to .now) (a .word .now)) (turn .loop .i) (omega arith) (omega arith)), search needs)
 
 pub number-of-spec : {M : Type 1} → statement M
 number-of-spec =

@@ -38,19 +38,35 @@ part-copy-front-end : tie.Need-part-copy-front-end
 part-copy-front-end c = front-inside (finished (c .before .before))
 
 returns-2 : tie.Need-returns-2
-returns-2 c = let r = c .before .before .before .before in never-goes (start r .args .text .now) (r .read-text .result) (r .read-text .last .1 .0) (r .read-text .ensures .1) (c .enum-told .given .1)
+returns-2 c =
+    let after-read-text = c .before .before .before .before in
+    never-goes (start after-read-text .args .text .now) (after-read-text .read-text .result) (after-read-text .read-text .last .1 .0) (after-read-text .read-text .ensures .1) (c .enum-told .given .1)
 
 returns-3 : tie.Need-returns-3
-returns-3 c = let r = c .before .before .before .before .before in let a = start r .args in make-wrong (a .text .now) (a .out .now) (a .from .now) (a .to .now) 40 _ (over-form (a .text .now) _ (r .read-text .last .1 .0) (r .read-text .ensures .0) _ (c .before .fate .given .1))
+returns-3 c =
+    let after-read-text = c .before .before .before .before .before in
+    let a = start after-read-text .args in
+    make-wrong (a .text .now) (a .out .now) (a .from .now) (a .to .now) 40 _ (over-form (a .text .now) _ (after-read-text .read-text .last .1 .0) (after-read-text .read-text .ensures .0) _ (c .before .fate .given .1))
 
 returns-4 : tie.Need-returns-4
-returns-4 c = let r = c .before .before .before .before .before in let a = start r .args in make-wrong (a .text .now) (a .out .now) (a .from .now) (a .to .now) 41 _ (over-name (a .text .now) _ (r .read-text .last .1 .0) (r .read-text .ensures .0) _ (c .before .fate2 .given .1))
+returns-4 c =
+    let after-read-text = c .before .before .before .before .before in
+    let a = start after-read-text .args in
+    make-wrong (a .text .now) (a .out .now) (a .from .now) (a .to .now) 41 _ (over-name (a .text .now) _ (after-read-text .read-text .last .1 .0) (after-read-text .read-text .ensures .0) _ (c .before .fate2 .given .1))
 
 returns-5 : tie.Need-returns-5
-returns-5 c = let r = c .before .before .before .before .before in let a = start r .args in make-wrong (a .text .now) (a .out .now) (a .from .now) (a .to .now) 42 _ (over-many (a .text .now) _ (r .read-text .last .1 .0) (r .read-text .ensures .0) _ (c .before .fate3 .given .1))
+returns-5 c =
+    let after-read-text = c .before .before .before .before .before in
+    let a = start after-read-text .args in
+    make-wrong (a .text .now) (a .out .now) (a .from .now) (a .to .now) 42 _ (over-many (a .text .now) _ (after-read-text .read-text .last .1 .0) (after-read-text .read-text .ensures .0) _ (c .before .fate3 .given .1))
 
 returns-6 : tie.Need-returns-6
-returns-6 c = let p = c .before .before .before .before in let f = p .before .before .before .before .before in let o = over (done f) in let a = start (read (done f)) .args in make-given (a .text .now) (a .out .now) (a .from .now) (a .to .now) (o .state) (o .all) _ (finished f .size) (omega arith) _ _ _ (front-copied (finished f) (a .out .now) _ (p .copy-front .ensures)) (ap (λ x. x .names .from) (o .same)) (ap (λ x. x .names .to) (o .same))
+returns-6 c =
+    let after-copy-front = c .before .before .before .before in
+    let after-finish-book = after-copy-front .before .before .before .before .before in
+    let o = over (done after-finish-book) in
+    let a = start (read (done after-finish-book)) .args in
+    make-given (a .text .now) (a .out .now) (a .from .now) (a .to .now) (o .state) (o .all) _ (finished after-finish-book .size) (omega arith) _ _ _ (front-copied (finished after-finish-book) (a .out .now) _ (after-copy-front .copy-front .ensures)) (ap (λ x. x .names .from) (o .same)) (ap (λ x. x .names .to) (o .same))
 
 pub make-spec : {M : Type 1} → statement M
 make-spec =

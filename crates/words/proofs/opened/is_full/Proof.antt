@@ -7,15 +7,24 @@ use Rattle.words.proofs.opened.is_full.Tie as tie
 
 returns : tie.Need-returns
 unfolding full
-returns c = let a = c .before .before .before .before .args in sym (ap (λ x. full x (a .rules) (a .a) (a .rule)) (c .enum-told .given .1))
+returns c =
+    let start = c .before .before .before .before in
+    let a = start .args in
+    sym (ap (λ x. full x (a .rules) (a .a) (a .rule)) (c .enum-told .given .1))
 
 returns-2 : tie.Need-returns-2
 unfolding full
-returns-2 c = let a = c .before .before .before .before .before .before .args in c .is-crowded .ensures ∙ sym (ap (λ x. full x (a .rules) (a .a) (a .rule)) (c .before .before .enum-told2 .given .1))
+returns-2 c =
+    let start = c .before .before .before .before .before .before in
+    let a = start .args in
+    c .is-crowded .ensures ∙ sym (ap (λ x. full x (a .rules) (a .a) (a .rule)) (c .before .before .enum-told2 .given .1))
 
 returns-3 : tie.Need-returns-3
 unfolding full
-returns-3 c = let a = c .before .before .before .before .before .before .args in c .is-crowded2 .ensures ∙ sym (ap (λ x. full x (a .rules) (a .a) (a .rule)) (c .before .before .enum-told3 .given .1))
+returns-3 c =
+    let start = c .before .before .before .before .before .before in
+    let a = start .args in
+    c .is-crowded2 .ensures ∙ sym (ap (λ x. full x (a .rules) (a .a) (a .rule)) (c .before .before .enum-told3 .given .1))
 
 pub is-full-spec : {M : Type 1} → statement M
 is-full-spec =

@@ -19,13 +19,16 @@ loop-holds : tie.Need-loop-holds Inv-loop μ-loop
 loop-holds c = let a = c .before .args in (search needs, search needs, over-begun columnBehind (a .text .now) (a .place) 0 1 refl)
 
 returns : tie.Need-returns Inv-loop μ-loop
-returns c = let k = c .before .before in let a = k .before .before .args in sym (k .loop .inv .2 ∙ over-here columnBehind (a .text .now) (a .place) (k .loop .i) (k .loop .n) (omega arith))
+returns c = let turn = c .before .before in let a = turn .before .before .args in sym (turn .loop .inv .2 ∙ over-here columnBehind (a .text .now) (a .place) (turn .loop .i) (turn .loop .n) (omega arith))
 
 loop-again : tie.Need-loop-again Inv-loop μ-loop
-loop-again c = let k = c .before .before .before .before in let a = k .before .before .args in (search needs, omega arith, rw (c .column-behind .ensures) (k .loop .inv .2 ∙ over-turn columnBehind (a .text .now) (a .place) (k .loop .i) (k .loop .n) (omega arith) (omega arith)))
+loop-again c =
+    let turn = c .before .before .before .before in
+    let a = turn .before .before .args in
+    (search needs, omega arith, rw (c .column-behind .ensures) (turn .loop .inv .2 ∙ over-turn columnBehind (a .text .now) (a .place) (turn .loop .i) (turn .loop .n) (omega arith) (omega arith)))
 
 returns-2 : tie.Need-returns-2 Inv-loop μ-loop
-returns-2 c = let k = c .before in let a = k .before .before .args in sym (k .loop .inv .2 ∙ over-end columnBehind (a .text .now) (a .place) (k .loop .i) (k .loop .n) (omega arith))
+returns-2 c = let turn = c .before in let a = turn .before .before .args in sym (turn .loop .inv .2 ∙ over-end columnBehind (a .text .now) (a .place) (turn .loop .i) (turn .loop .n) (omega arith))
 
 pub column-of-spec : {M : Type 1} → statement M
 column-of-spec =

@@ -8,7 +8,9 @@ returns : tie.Need-returns
 returns c = closed-blank _ _ _ _ (c .enum-told .given .1)
 
 returns-2 : tie.Need-returns-2
-returns-2 c = closed-rule _ _ _ _ (c .before .before .before .before .enum-told2 .given .1) _ _ (c .add-rule .ensures)
+returns-2 c =
+    let matched = c .before .before .before .before in
+    closed-rule _ _ _ _ (matched .enum-told2 .given .1) _ _ (c .add-rule .ensures)
 
 returns-3 : tie.Need-returns-3
 returns-3 c = closed-missing _ _ _ _ (c .enum-told3 .given .1)

@@ -10,19 +10,42 @@ next-token-requires : tie.Need-next-token-requires
 next-token-requires c κs = let s = c .before in on-way _ _ _ (s .pre .0) (s .pre .1) .holds .inside
 
 take-word-requires : tie.Need-take-word-requires
-take-word-requires c κs = let s = c .before .before .before .before .before in let a = s .args in let (p, q, t) = word-ahead (a .text .now) (a .r .at) _ _ (found-word (a .text .now) (a .r .at) _ (c .before .before .before .next-token .ensures) _ _ (c .before .from .given .1)) in (omega arith, t, few-names _ _ _ (on-way _ _ _ (s .pre .0) (s .pre .1)))
+take-word-requires c κs =
+    let after-next-token = c .before .before .before in
+    let start = after-next-token .before .before in
+    let a = start .args in
+    let (p, q, t) = word-ahead (a .text .now) (a .r .at) _ _ (found-word (a .text .now) (a .r .at) _ (after-next-token .next-token .ensures) _ _ (c .before .from .given .1)) in
+    (omega arith, t, few-names _ _ _ (on-way _ _ _ (start .pre .0) (start .pre .1)))
 
 add-take-line : tie.Need-add-take-line
-add-take-line c = let s = c .before .before .before .before .before .before in let a = s .args in let (p, q, t) = found-line (a .text .now) (a .r .at) _ (c .before .before .before .before .next-token .ensures) _ (c .before .before .place .given .1) in search needs
+add-take-line c =
+    let after-next-token = c .before .before .before .before in
+    let start = after-next-token .before .before in
+    let a = start .args in
+    let (p, q, t) = found-line (a .text .now) (a .r .at) _ (after-next-token .next-token .ensures) _ (c .before .before .place .given .1) in
+    search needs
 
 returns : tie.Need-returns
-returns c = let s = c .before .before .before .before .before .before in let a = s .args in word-turn (a .text .now) (a .r) (a .draft .now) (on-way _ _ _ (s .pre .0) (s .pre .1)) _ _ (found-word (a .text .now) (a .r .at) _ (c .before .before .before .before .next-token .ensures) _ _ (c .before .before .from .given .1)) _ (c .take-word .ensures)
+returns c =
+    let after-next-token = c .before .before .before .before in
+    let start = after-next-token .before .before in
+    let a = start .args in
+    word-turn (a .text .now) (a .r) (a .draft .now) (on-way _ _ _ (start .pre .0) (start .pre .1)) _ _ (found-word (a .text .now) (a .r .at) _ (after-next-token .next-token .ensures) _ _ (c .before .before .from .given .1)) _ (c .take-word .ensures)
 
 returns-2 : tie.Need-returns-2
-returns-2 c = let s = c .before .before .before .before .before .before .before in let a = s .args in line-turn (a .text .now) (a .r) (a .draft .now) (on-way _ _ _ (s .pre .0) (s .pre .1)) _ (found-line (a .text .now) (a .r .at) _ (c .before .before .before .before .before .next-token .ensures) _ (c .before .before .before .place .given .1)) _ _ (c .take-line .ensures)
+returns-2 c =
+    let after-next-token = c .before .before .before .before .before in
+    let start = after-next-token .before .before in
+    let a = start .args in
+    let matched = c .before .before .before in
+    line-turn (a .text .now) (a .r) (a .draft .now) (on-way _ _ _ (start .pre .0) (start .pre .1)) _ (found-line (a .text .now) (a .r .at) _ (after-next-token .next-token .ensures) _ (matched .place .given .1)) _ _ (c .take-line .ensures)
 
 returns-3 : tie.Need-returns-3
-returns-3 c = let s = c .before .before .before .before .before .before in let a = s .args in end-turn (a .text .now) (a .r) (a .draft .now) (on-way _ _ _ (s .pre .0) (s .pre .1)) (found-end (a .text .now) (a .r .at) _ (c .before .before .before .before .next-token .ensures) (c .before .before .enum-told .given .1)) _ _ (c .take-line2 .ensures)
+returns-3 c =
+    let after-next-token = c .before .before .before .before in
+    let start = after-next-token .before .before in
+    let a = start .args in
+    end-turn (a .text .now) (a .r) (a .draft .now) (on-way _ _ _ (start .pre .0) (start .pre .1)) (found-end (a .text .now) (a .r .at) _ (after-next-token .next-token .ensures) (c .before .before .enum-told .given .1)) _ _ (c .take-line2 .ensures)
 
 pub step-spec : {M : Type 1} → statement M
 step-spec =

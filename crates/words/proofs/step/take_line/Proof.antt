@@ -5,7 +5,9 @@ use Rattle.words.proofs.step.take_line.Statement.{statement}
 use Rattle.words.proofs.step.take_line.Tie as tie
 
 returns : tie.Need-returns
-returns c = lined _ _ _ _ _ _ _ _ _ (c .before .before .before .end-line .ensures) (c .before .close-rule .ensures) (c .pass-line .ensures)
+returns c =
+    let after-end-line = c .before .before .before in
+    lined _ _ _ _ _ _ _ _ _ (after-end-line .end-line .ensures) (c .before .close-rule .ensures) (c .pass-line .ensures)
 
 pub take-line-spec : {M : Type 1} → statement M
 take-line-spec =

@@ -7,7 +7,9 @@ use Rattle.words.proofs.step.weigh.Tie as tie
 
 returns : tie.Need-returns
 unfolding weighed
-returns c = c .decide .ensures ∙ rw (c .before .move-of .ensures, c .before .before .term-of .ensures, c .before .before .before .number-of .ensures .0) refl
+returns c =
+    let after-number-of = c .before .before .before in
+    c .decide .ensures ∙ rw (c .before .move-of .ensures, c .before .before .term-of .ensures, after-number-of .number-of .ensures .0) refl
 
 pub weigh-spec : {M : Type 1} → statement M
 weigh-spec =

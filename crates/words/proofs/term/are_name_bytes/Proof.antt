@@ -23,13 +23,19 @@ unfolding every
 loop-holds c = (search needs, refl)
 
 returns : tie.Need-returns Inv-loop μ-loop
-returns c = let k = c .before .before .before .before in let w = k .before .before .args .word .now in sym (every-here nameByte w (k .loop .i) 0 (omega arith) (sym (c .before .is-name-byte .ensures) ∙ not-true _ (c .if1 .taken)))
+returns c =
+    let turn = c .before .before .before .before in
+    let w = turn .before .before .args .word .now in
+    sym (every-here nameByte w (turn .loop .i) 0 (omega arith) (sym (c .before .is-name-byte .ensures) ∙ not-true _ (c .if1 .taken)))
 
 loop-again : tie.Need-loop-again Inv-loop μ-loop
-loop-again c = let k = c .before .before .before .before in let w = k .before .before .args .word .now in (search needs, every-all-next nameByte w (k .loop .i) 0 (omega arith) (sym (c .before .is-name-byte .ensures) ∙ not-false _ (c .if1 .left)) (k .loop .inv .1))
+loop-again c =
+    let turn = c .before .before .before .before in
+    let w = turn .before .before .args .word .now in
+    (search needs, every-all-next nameByte w (turn .loop .i) 0 (omega arith) (sym (c .before .is-name-byte .ensures) ∙ not-false _ (c .if1 .left)) (turn .loop .inv .1))
 
 returns-2 : tie.Need-returns-2 Inv-loop μ-loop
-returns-2 c = let k = c .before in let w = k .before .before .args .word .now in sym (every-all-end nameByte w (k .loop .i) (omega arith) (k .loop .inv .1))
+returns-2 c = let turn = c .before in let w = turn .before .before .args .word .now in sym (every-all-end nameByte w (turn .loop .i) (omega arith) (turn .loop .inv .1))
 
 pub are-name-bytes-spec : {M : Type 1} → statement M
 are-name-bytes-spec =

@@ -11,9 +11,12 @@ use Rattle.words.specs.Terms.{nameByte}
 use Rattle.words.proofs.term.is_name_byte.Statement.{statement}
 use Rattle.words.proofs.term.is_name_byte.Tie as tie
 
+abbrev start : tie.Else3 → tie.Start
+start c = c .before .before .before .before .before .before
+
 -- no letter and no digit: one of the signs is left
-signs : (c : tie.Else3) (r : Bool) → (let x = c .before .before .before .before .before .before .args .x in r ≡ ifEq x 95 true (ifEq x 45 true (eqb x 39)))
-    → r ≡ nameByte (c .before .before .before .before .before .before .args .x)
+signs : (c : tie.Else3) (r : Bool) → (let x = start c .args .x in r ≡ ifEq x 95 true (ifEq x 45 true (eqb x 39)))
+    → r ≡ nameByte (start c .args .x)
 unfolding nameByte
 signs c r e =
     let second = c .before .before in
@@ -28,11 +31,17 @@ returns c = sym (b-yes _ _ _ (sym (c .before .is-in-range .ensures) ∙ c .if1 .
 
 returns-2 : tie.Need-returns-2
 unfolding nameByte
-returns-2 c = sym (b-no _ _ _ (sym (c .before .before .before .is-in-range .ensures) ∙ c .before .before .if1 .left) ∙ b-yes _ _ _ (sym (c .before .is-in-range2 .ensures) ∙ c .if2 .taken))
+returns-2 c =
+    let after-is-in-range = c .before .before .before in
+    sym (b-no _ _ _ (sym (after-is-in-range .is-in-range .ensures) ∙ c .before .before .if1 .left) ∙ b-yes _ _ _ (sym (c .before .is-in-range2 .ensures) ∙ c .if2 .taken))
 
 returns-3 : tie.Need-returns-3
 unfolding nameByte
-returns-3 c = sym (b-no _ _ _ (sym (c .before .before .before .before .before .is-in-range .ensures) ∙ c .before .before .before .before .if1 .left) ∙ b-no _ _ _ (sym (c .before .before .before .is-in-range2 .ensures) ∙ c .before .before .if2 .left) ∙ b-yes _ _ _ (sym (c .before .is-in-range3 .ensures) ∙ c .if3 .taken))
+returns-3 c =
+    let after-is-in-range = c .before .before .before .before .before in
+    let tested = c .before .before .before .before in
+    let after-is-in-range2 = c .before .before .before in
+    sym (b-no _ _ _ (sym (after-is-in-range .is-in-range .ensures) ∙ tested .if1 .left) ∙ b-no _ _ _ (sym (after-is-in-range2 .is-in-range2 .ensures) ∙ c .before .before .if2 .left) ∙ b-yes _ _ _ (sym (c .before .is-in-range3 .ensures) ∙ c .if3 .taken))
 
 returns-4 : tie.Need-returns-4
 unfolding nameByte

@@ -9,10 +9,14 @@ returns : tie.Need-returns
 returns c = token-end _ _ _ (c .before .start-of .ensures .0) (omega arith)
 
 returns-2 : tie.Need-returns-2
-returns-2 c = token-line _ _ _ (c .before .before .before .start-of .ensures .0) (omega arith) (c .if2 .taken)
+returns-2 c =
+    let after-start-of = c .before .before .before in
+    token-line _ _ _ (after-start-of .start-of .ensures .0) (omega arith) (c .if2 .taken)
 
 returns-3 : tie.Need-returns-3
-returns-3 c = token-word _ _ _ (c .before .before .before .before .start-of .ensures .0) (omega arith) (c .before .if2 .left) _ (c .end-of .ensures .0)
+returns-3 c =
+    let after-start-of = c .before .before .before .before in
+    token-word _ _ _ (after-start-of .start-of .ensures .0) (omega arith) (c .before .if2 .left) _ (c .end-of .ensures .0)
 
 pub next-token-spec : {M : Type 1} → statement M
 next-token-spec =
