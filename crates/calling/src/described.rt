@@ -105,14 +105,6 @@ pub fn put_whose(text: &[u8], seen: &[u32], n: usize, line: &mut [u8], held: usi
     }
 }
 
-// The first n of these atoms; all of them where there are fewer.
-pub fn first_atoms<'a>(seen: &'a [u32], n: usize) -> &'a [u32] {
-    if seen.len() <= n {
-        return seen;
-    }
-    &seen[..n]
-}
-
 // Copies what the book's atom is called to its row. What is too long for a row is left out whole, and
 // the atom is told by its number alone.
 fn put_described_row(text: &[u8], seen: &[u32], a: u8, names: &mut [u8]) {

@@ -1,7 +1,6 @@
 // The book of a text that a grounder wrote, and what its atoms are called.
 ghost use Prim.Native.Nat.{_≤_};
 ghost use Rattle.io.specs.Counts.{Counts};
-use crate::described::first_atoms;
 use crate::described::put_described;
 use crate::opened::Asked;
 use crate::opened::Opened;
@@ -42,10 +41,10 @@ fn call_atoms(i: usize, text: &[u8], seen: &[u32], atoms: u8, names: &mut [u8]) 
 // The same, with the text's atoms gathered first.
 fn take_names(i: usize, text: &[u8], atoms: u8, names: &mut [u8]) -> Asked {
     let mut seen = [0u32; 255];
-    let Collected::Atoms(n) = collect(text, &mut seen) else {
-        return Asked::Nobody;
-    };
-    call_atoms(i, text, first_atoms(&seen, n), atoms, names)
+    match collect(text, &mut seen) {
+        Collected::Atoms(n) => call_atoms(i, text, &seen[0..n], atoms, names),
+        _ => Asked::Nobody,
+    }
 }
 
 // What is told of a book that was made, with the names put into their rows.

@@ -18,7 +18,6 @@ mod source;
 mod text;
 mod worded;
 
-pub use described::first_atoms;
 pub use described::put_whose;
 pub use grounded::explain_text;
 pub use opened::Asked;

@@ -2,7 +2,6 @@
 use book::Read;
 use book::Shape;
 use book::read_book;
-use calling::first_atoms;
 use calling::put_whose;
 use lparse::Collected;
 use lparse::collect;
@@ -35,7 +34,7 @@ fn show_each(text: &[u8], seen: &[u32], atoms: usize) {
 fn show_text(text: &[u8], atoms: usize) {
     let mut seen = [0u32; 255];
     match collect(text, &mut seen) {
-        Collected::Atoms(n) => show_each(text, first_atoms(&seen, n), atoms),
+        Collected::Atoms(n) => show_each(text, &seen[0..n], atoms),
         _ => {}
     }
 }
