@@ -141,11 +141,23 @@ static void keep_streams(void) {
 static const char *saved;
 static mode_t mode;
 
+static size_t is_option(size_t i) {
+    return i < count && (strcmp(words[i], "--words") == 0 || strcmp(words[i], "--text") == 0);
+}
+
+/* Behind --words and --text, in the place of a book, the words stand one further back. joining has two books. */
+static size_t shift_of(const struct program *program) {
+    size_t first = is_option(1);
+    if (strcmp(program->name, "joining") == 0)
+        return first + is_option(2 + first);
+    return first;
+}
+
 static void mask_for(const struct program *program) {
     struct stat there;
     size_t at = (size_t)program->saved;
-    if (at != 0 && count > 1 && strcmp(words[1], "--words") == 0)
-        at++;
+    if (at != 0)
+        at += shift_of(program);
     if (at == 0 || at >= count || stat(words[at], &there) != 0 || !S_ISREG(there.st_mode))
         return;
     saved = words[at];

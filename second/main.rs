@@ -74,7 +74,7 @@ use std::process::exit;
 const USAGE: &str = "usage:
   second desk                              commands on standard input, one line of answer each
   second readings                          all readings of the book on standard input
-  second table                             the quarterly table of the books named on standard input
+  second table [--words]                   the quarterly table of the books named on standard input; --text likewise
   second cases FOLDER COMMAND...           writes FOLDER/stdin and FOLDER/stdout for desk
   second selftest                          the engine against the definition
   second book WORDSFILE BOOKFILE NAMESFILE rules in words to a book (`-`: standard input)
@@ -91,7 +91,9 @@ fn main() {
     let outcome = match words.as_slice() {
         ["desk"] => desk::run(&mut io::stdin().lock(), &mut io::stdout().lock()).map_err(told),
         ["readings"] => run_readings(),
-        ["table"] => run_table(),
+        ["table"] => run_table(&table::File::Bytes),
+        ["table", "--words"] => run_table(&|text| made(words::make(&text, usize::MAX).map(|(book, _)| book))),
+        ["table", "--text"] => run_table(&|text| made(lparse::import(&text, usize::MAX))),
         ["cases", folder, commands @ ..] if !commands.is_empty() => cases::write(folder, commands),
         ["selftest"] => selftest::run(),
         ["book", text, book, names] => run_book(text, book, names),
@@ -140,8 +142,8 @@ fn run_readings() -> Result<(), String> {
     out.flush().map_err(told)
 }
 
-/// The table of the books whose names stand on standard input, one a line, parted by tabs.
-fn run_table() -> Result<(), String> {
+/// The table of the books whose names stand on standard input, one a line, parted by tabs. `taken` says what the bytes of a file are.
+fn run_table(taken: &dyn Fn(Vec<u8>) -> table::File) -> Result<(), String> {
     let mut names: Vec<Vec<u8>> = read_file("-")?.split(|b| *b == b'\n').map(Vec::from).collect();
     if names.last().map_or(false, |last| last.is_empty()) {
         names.pop();
@@ -150,7 +152,7 @@ fn run_table() -> Result<(), String> {
     if names.len() > table::MOST_BOOKS {
         return writeln!(out, "refused 36").map_err(told);
     }
-    let files: Vec<table::File> = names.iter().map(|name| open_book(name)).collect();
+    let files: Vec<table::File> = names.iter().map(|name| open_book(name, taken)).collect();
     let (lines, _) = table::table(&files, listing::LISTING_LIMIT);
     for (number, mut line) in lines.into_iter().enumerate() {
         if let Some(name) = names.get(number) {
@@ -161,14 +163,19 @@ fn run_table() -> Result<(), String> {
     out.flush().map_err(told)
 }
 
-/// The bytes of a named book; a name that is too long, empty or none is closed.
-fn open_book(name: &[u8]) -> table::File {
+/// The book that was made of a text, or why there is none.
+fn made(answer: Result<Vec<u8>, book::Refusal>) -> table::File {
+    answer.map_or_else(|refusal| table::File::Refused(refusal.number), table::File::Bytes)
+}
+
+/// What a name leads to; one that is too long, empty or none is closed.
+fn open_book(name: &[u8], taken: &dyn Fn(Vec<u8>) -> table::File) -> table::File {
     const LONGEST_NAME: usize = 4_095;
     if name.len() > LONGEST_NAME {
         return table::File::Closed;
     }
     let path = std::ffi::OsStr::from_bytes(name);
-    fs::read(path).map_or(table::File::Closed, table::File::Bytes)
+    fs::read(path).map_or(table::File::Closed, taken)
 }
 
 /// A name as it is printed: what could break a line is `?`.

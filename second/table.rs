@@ -12,6 +12,8 @@ pub enum File {
     Bytes(Vec<u8>),
     /// It can't be opened.
     Closed,
+    /// No book can be made of it; the number of the refusal.
+    Refused(u8),
 }
 
 /// The answer sets of one book: how many there are, and in how many each atom stands.
@@ -73,6 +75,7 @@ fn book_line(file: &File, limit: u64) -> (Vec<String>, Option<Count>, u64) {
     let bytes = match file {
         File::Bytes(bytes) => bytes,
         File::Closed => return (refused(37), None, 0),
+        File::Refused(number) => return (refused(*number), None, 0),
     };
     let book = match Book::read(bytes) {
         Ok(book) => book,

@@ -2,7 +2,7 @@
 use talk::NAME_ROOM;
 
 // Copies the name to the atom's row, where there is room for it and a zero.
-fn put_row(name: &[u8], a: u8, names: &mut [u8]) {
+pub fn put_row(name: &[u8], a: u8, names: &mut [u8]) {
     let at = a as usize * 256;
     if NAME_ROOM <= name.len() || names.len() < at {
         return;

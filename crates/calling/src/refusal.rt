@@ -11,8 +11,8 @@ use words::Worded;
 use words::column_of;
 use words::line_of;
 
-// `refused NUMBER at PLACE: `
-fn put_place(number: u8, place: usize, line: &mut [u8], held: usize) -> usize
+// `refused NUMBER at PLACE: `, with whose place it is before the colon, where that must be said.
+fn put_place(number: u8, place: usize, whose: &[u8], line: &mut [u8], held: usize) -> usize
     requires { ⌜ Counts held (now line) ⌝ }
     ensures { λ r. ⌜ Counts r (now (line .exit)) ⌝ }
 {
@@ -20,6 +20,7 @@ fn put_place(number: u8, place: usize, line: &mut [u8], held: usize) -> usize
     let held = put_number(number as u64, line, held);
     let held = put_text(b" at ", line, held);
     let held = put_number(place as u64, line, held);
+    let held = put_text(whose, line, held);
     put_text(b": ", line, held)
 }
 
@@ -36,11 +37,11 @@ fn put_spot(row: usize, column: usize, line: &mut [u8], held: usize) -> usize
 }
 
 // Writes the line of a refusal: the place, the word that stands there, and what is wrong with it.
-fn explain_word(number: u8, text: &[u8], place: usize, why: &[u8]) {
+fn explain_word(number: u8, text: &[u8], place: usize, whose: &[u8], why: &[u8]) {
     let row = line_of(text, place);
     let column = column_of(text, place);
     let mut line = [0u8; 512];
-    let held = put_place(number, place, &mut line, 0);
+    let held = put_place(number, place, whose, &mut line, 0);
     let held = put_spot(row, column, &mut line, held);
     let held = put_name(word_at(text, place), &mut line, held);
     let held = put_text(why, &mut line, held);
@@ -49,32 +50,32 @@ fn explain_word(number: u8, text: &[u8], place: usize, why: &[u8]) {
 }
 
 // What is wrong with a word that cannot stand there, or that is missing.
-fn explain_form(text: &[u8], place: usize) {
+fn explain_form(text: &[u8], place: usize, whose: &[u8]) {
     let word = word_at(text, place);
     if word.len() == 0 {
-        explain_word(40, text, place, b"a word is missing");
+        explain_word(40, text, place, whose, b"a word is missing");
         return;
     }
-    explain_word(40, text, place, b" cannot stand here");
+    explain_word(40, text, place, whose, b" cannot stand here");
 }
 
 // What is wrong with a name: it is listed twice, or not at all.
-fn explain_name(text: &[u8], place: usize) {
+fn explain_name(text: &[u8], place: usize, whose: &[u8]) {
     if is_listing(text, place) {
-        explain_word(41, text, place, b" is listed twice");
+        explain_word(41, text, place, whose, b" is listed twice");
         return;
     }
-    explain_word(41, text, place, b" is not in the list of atoms");
+    explain_word(41, text, place, whose, b" is not in the list of atoms");
 }
 
-// Writes why the text is refused, in one line.
-pub fn explain_words(text: &[u8], answer: Worded) {
+// Writes why the text is refused, in one line. `whose` says which book it is, where there are two.
+pub fn explain_words(text: &[u8], answer: Worded, whose: &[u8]) {
     let many = b" is one too many: up to 255 names, 255 rules, and 16 atoms of each kind in a rule";
     match answer {
         Worded::Book(_) => {}
-        Worded::Form(place) => explain_form(text, place),
-        Worded::Name(place) => explain_name(text, place),
-        Worded::TooMany(place) => explain_word(42, text, place, many),
+        Worded::Form(place) => explain_form(text, place, whose),
+        Worded::Name(place) => explain_name(text, place, whose),
+        Worded::TooMany(place) => explain_word(42, text, place, whose, many),
         Worded::NoRoom => print(b"refused 43: the buffer is shorter than the book\n"),
     }
 }

@@ -4,6 +4,7 @@
 //
 //     checking BOOKFILE PAPERFILE
 //     checking --words WORDSFILE PAPERFILE
+//     checking --text TEXTFILE PAPERFILE
 
 ghost use Rattle.io.specs.Counts.{Counts};
 use calling::open_book;

@@ -1,14 +1,19 @@
 // Writes a book as a text for other solvers to standard output: `exporting BOOKFILE | clasp 0` lists
-// its readings, atom n under the name xn. A damaged book is refused with its number and place.
+// its readings, atom n under the name xn, whatever it is called in words or in a grounder's text: by
+// these names the text is restored. A damaged book is refused with its number and place.
 //
 //     exporting BOOKFILE
+//     exporting --words WORDSFILE
+//     exporting --text TEXTFILE
 use aspif::Exported;
 use aspif::TEXT_ROOM;
 use aspif::export;
+use calling::open_book;
+use calling::shift;
 use talk::BOOK_ROOM;
+use talk::NAMES_ROOM;
 use talk::explain_book;
 use talk::first_bytes;
-use talk::open_call;
 use talk::print;
 
 // Writes the text of a good book, or why the bytes are none. The longest text has room.
@@ -23,9 +28,11 @@ fn print_text(book: &[u8]) {
 
 fn main() {
     let mut book = [0u8; BOOK_ROOM];
-    let taken = open_call(os::arg_count() == 2, b"exporting BOOKFILE", &mut book);
-    if taken.good {
-        let n = taken.count;
+    let mut names = [0u8; NAMES_ROOM];
+    let is_right = os::arg_count() == 2 + shift();
+    let opened = open_book(is_right, b"exporting BOOKFILE", &mut book, &mut names);
+    if opened.good {
+        let n = opened.count;
         print_text(&book[..n]);
     }
 }

@@ -1,5 +1,5 @@
 // The arguments: BOOKFILE ATOM PAPERFILE [LIMIT] [--replace], or without ATOM where the paper is about
-// none; --words WORDSFILE in the place of BOOKFILE shifts the others by one.
+// none; --words WORDSFILE or --text TEXTFILE in the place of BOOKFILE shifts the others by one.
 ghost use Prim.Native.Nat.{_≤_};
 use calling::shift;
 use meaning::Claim;

@@ -4,7 +4,7 @@
 //     BOOKFILE ATOM PAPERFILE [LIMIT] [--replace]     of naming and clearing
 //     BOOKFILE PAPERFILE [LIMIT] [--replace]          of contradicting, whose paper is about no atom
 //
-// and --words WORDSFILE in the place of BOOKFILE.
+// and --words WORDSFILE or --text TEXTFILE in the place of BOOKFILE.
 
 ghost use Prim.Native.Nat.{_≤_};
 ghost use Rattle.io.specs.Counts.{Counts};
@@ -22,6 +22,7 @@ use arguments::is_right;
 use arguments::read_limit;
 use atom::complain_of_number;
 use atom::take_atom;
+use calling::Asked;
 use calling::Opened;
 use calling::open_book;
 use meaning::AtomNo;
@@ -46,7 +47,7 @@ fn file_claim(book: &[u8], claim: Claim, must: usize, names: &[u8])
 }
 
 // Reads the atom, and names or clears it.
-fn file_atom(book: &[u8], kind: Kind, names: &[u8], asked: u8) {
+fn file_atom(book: &[u8], kind: Kind, names: &[u8], asked: Asked) {
     let Number::Value(atom) = take_atom(names, asked) else {
         return;
     };

@@ -8,20 +8,15 @@ mod atoms;
 
 use atoms::show_atoms;
 use book::BOOK_BYTES;
+use calling::TEXT_ROOM;
+use calling::explain_text;
+use calling::read_text;
 use lparse::Imported;
 use lparse::import;
-use meaning::Kind;
 use saving::is_replacing;
 use saving::save_book;
-use talk::Refused;
-use talk::complain;
-use talk::explain;
+use talk::complain_of_call;
 use talk::first_bytes;
-use talk::open_call;
-
-// Room for the longest text that is taken, and one byte more, so that a longer one is told and not
-// cut.
-const TEXT_ROOM: usize = 200001;
 
 // The arguments that must be there, the program's own name among them.
 const MUST: usize = 3;
@@ -35,13 +30,6 @@ fn is_right() -> bool {
     count == MUST
 }
 
-// Says that the text is longer than what is taken.
-fn complain_of_length() {
-    let mut path = io::buffer();
-    let n = os::arg(1, &mut path);
-    complain(&path[..n], b"it has over 200,000 bytes");
-}
-
 // Saves the book in the file that the second argument names, and says what its atoms are.
 fn save_made(text: &[u8], book: &[u8]) {
     if save_book(2, book, is_replacing(MUST)) {
@@ -49,31 +37,31 @@ fn save_made(text: &[u8], book: &[u8]) {
     }
 }
 
-// Makes the book of the text, or says why there is none. A refusal of a text speaks of no claim.
+// Makes the book of the text, or says why there is none.
 fn import_text(text: &[u8]) {
     let mut room = [0u8; BOOK_BYTES];
-    match import(text, &mut room) {
-        Imported::Book(n) => save_made(text, first_bytes(&room, n)),
-        Imported::Format(place) => explain(Refused::At(30, place), Kind::Naming, 0),
-        Imported::Kind(place) => explain(Refused::At(31, place), Kind::Naming, 0),
-        Imported::NoFit => explain(Refused::Plain(32), Kind::Naming, 0),
+    let answer = import(text, &mut room);
+    let Imported::Book(n) = answer else {
+        explain_text(answer, b"");
+        return;
+    };
+    save_made(text, first_bytes(&room, n));
+}
+
+// Reads the text, and makes its book.
+fn import_argument() {
+    let mut text = [0u8; TEXT_ROOM];
+    let taken = read_text(1, &mut text);
+    if taken.good {
+        let n = taken.count;
+        import_text(&text[..n]);
     }
 }
 
 fn main() {
-    let mut text = [0u8; TEXT_ROOM];
-    let taken = open_call(
-        is_right(),
-        b"importing TEXTFILE BOOKFILE [--replace]",
-        &mut text,
-    );
-    if !taken.good {
+    if !is_right() {
+        complain_of_call(b"importing TEXTFILE BOOKFILE [--replace]");
         return;
     }
-    let n = taken.count;
-    if n == TEXT_ROOM {
-        complain_of_length();
-        return;
-    }
-    import_text(&text[..n]);
+    import_argument();
 }

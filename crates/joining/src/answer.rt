@@ -1,5 +1,6 @@
 // What joining answers, in one line.
 use crate::arguments::is_to_replace;
+use crate::arguments::saved;
 use book::BOOK_BYTES;
 use book::Read;
 use book::read_book;
@@ -14,6 +15,7 @@ use talk::explain_book_of;
 use talk::first_bytes;
 use talk::print;
 use talk::put_number;
+use talk::put_size;
 use talk::put_text;
 use walk::Found;
 use walk::find;
@@ -24,14 +26,12 @@ fn tell_joined(book: &[u8], has: &[u8]) {
     let Read::Good(shape) = read_book(book) else {
         return;
     };
-    if !save_book(3, book, is_to_replace()) {
+    if !save_book(saved(), book, is_to_replace()) {
         return;
     }
     let mut line = [0u8; 128];
-    let held = put_text(b"joined: rules ", &mut line, 0);
-    let held = put_number(shape.rules as u64, &mut line, held);
-    let held = put_text(b" atoms ", &mut line, held);
-    let held = put_number(shape.atoms as u64, &mut line, held);
+    let held = put_text(b"joined: ", &mut line, 0);
+    let held = put_size(shape, &mut line, held);
     let held = put_text(b"; ", &mut line, held);
     let held = put_text(has, &mut line, held);
     let held = put_text(b"\n", &mut line, held);

@@ -3,49 +3,65 @@
 // search stops, and a book file that was there before stays as it was.
 //
 //     joining FIRSTBOOK SECONDBOOK BOOKFILE [L1 L2] [--replace]
+//
+// In the place of FIRSTBOOK and of SECONDBOOK may stand --words WORDSFILE or --text TEXTFILE.
 
 mod answer;
 mod arguments;
 
 use answer::tell_log;
+use arguments::FIRST;
 use arguments::is_right;
 use arguments::read_limit;
+use arguments::second;
+use calling::open_at;
 use talk::BOOK_ROOM;
+use talk::NAMES_ROOM;
 use talk::Number;
-use talk::open_call;
+use talk::complain_of_call;
 use talk::print;
-use talk::read_argument;
 
 // Reads the limits of the two searches, and joins the books.
 fn join_books<'a>(first: &'a [u8], second: &'a [u8]) {
     let bad = b"bad limit: L1 and L2 are numbers up to 4294967295\n";
-    let Number::Value(limit) = read_limit(4) else {
+    let Number::Value(limit) = read_limit(0) else {
         print(bad);
         return;
     };
-    let Number::Value(other) = read_limit(5) else {
+    let Number::Value(other) = read_limit(1) else {
         print(bad);
         return;
     };
     tell_log(first, second, limit, other);
 }
 
-// Reads the second book, and joins it to the first.
+// Opens the second book, and joins it to the first.
 fn join_to(first: &[u8]) {
-    let mut second = [0u8; BOOK_ROOM];
-    let taken = read_argument(2, &mut second);
-    if taken.good {
-        let n = taken.count;
-        join_books(first, &second[..n]);
+    let mut other = [0u8; BOOK_ROOM];
+    let mut names = [0u8; NAMES_ROOM];
+    let opened = open_at(second(), b" in the second book", &mut other, &mut names);
+    if opened.good {
+        let n = opened.count;
+        join_books(first, &other[..n]);
+    }
+}
+
+// Opens the first book, and joins the second to it. Names are not told: two crews may give one name to
+// two atoms.
+fn join_arguments() {
+    let mut first = [0u8; BOOK_ROOM];
+    let mut names = [0u8; NAMES_ROOM];
+    let opened = open_at(FIRST, b" in the first book", &mut first, &mut names);
+    if opened.good {
+        let n = opened.count;
+        join_to(&first[..n]);
     }
 }
 
 fn main() {
-    let usage = b"joining FIRSTBOOK SECONDBOOK BOOKFILE [L1 L2] [--replace]";
-    let mut first = [0u8; BOOK_ROOM];
-    let taken = open_call(is_right(), usage, &mut first);
-    if taken.good {
-        let n = taken.count;
-        join_to(&first[..n]);
+    if !is_right() {
+        complain_of_call(b"joining FIRSTBOOK SECONDBOOK BOOKFILE [L1 L2] [--replace]");
+        return;
     }
+    join_arguments();
 }

@@ -17,6 +17,7 @@ use talk::Refused;
 use talk::print;
 use talk::put_number;
 use talk::put_refused;
+use talk::put_size;
 use talk::put_text;
 use talk::refused_book;
 use walk::Page;
@@ -65,10 +66,7 @@ fn print_refused(refused: Refused, line_end: u8) {
 // Writes `rules R atoms A` and the line end: the first line of a listing.
 fn print_start(shape: Shape, line_end: u8) {
     let mut line = [0u8; 128];
-    let held = put_text(b"rules ", &mut line, 0);
-    let held = put_number(shape.rules as u64, &mut line, held);
-    let held = put_text(b" atoms ", &mut line, held);
-    let held = put_number(shape.atoms as u64, &mut line, held);
+    let held = put_size(shape, &mut line, 0);
     let held = put_text(&[line_end], &mut line, held);
     print(&line[..held]);
 }

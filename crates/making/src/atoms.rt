@@ -10,6 +10,7 @@ use meaning::RuleNo;
 use talk::name_of;
 use talk::print;
 use talk::put_number;
+use talk::put_size;
 use talk::put_text;
 
 // Whether the part of a body has the atom.
@@ -64,10 +65,8 @@ fn count_uses(book: &[u8], shape: Shape, a: u8) -> u8
 // Writes how large the book is.
 fn show_size(shape: Shape) {
     let mut line = [0u8; 64];
-    let held = put_text(b"made: rules ", &mut line, 0);
-    let held = put_number(shape.rules as u64, &mut line, held);
-    let held = put_text(b" atoms ", &mut line, held);
-    let held = put_number(shape.atoms as u64, &mut line, held);
+    let held = put_text(b"made: ", &mut line, 0);
+    let held = put_size(shape, &mut line, held);
     let held = put_text(b"\n", &mut line, held);
     print(&line[..held]);
 }

@@ -54,7 +54,7 @@ fn show_made(book: &[u8], names: &[u8], is_listed: bool) {
 fn make_argument() {
     let mut book = [0u8; BOOK_ROOM];
     let mut names = [0u8; NAMES_ROOM];
-    let opened = open_words(1, &mut book, &mut names);
+    let opened = open_words(1, b"", &mut book, &mut names);
     if !opened.good {
         return;
     }

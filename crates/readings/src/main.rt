@@ -1,16 +1,18 @@
-// Lists all readings of the book on standard input, or of rules in words, then with names.
+// Lists all readings of the book on standard input, or of rules in words or of a grounder's text, then
+// with names.
 //
 //     readings < BOOKFILE
 //     readings --words WORDSFILE
+//     readings --text TEXTFILE
 
-use calling::open_words;
+use calling::open_at;
 use calling::shift;
 
-// Lists the readings of the words in the file that the second argument names.
-fn list_words() {
+// Lists the readings of the words or of the text in the file that the second argument names.
+fn list_named() {
     let mut book = [0u8; talk::BOOK_ROOM];
     let mut names = [0u8; talk::NAMES_ROOM];
-    let opened = open_words(2, &mut book, &mut names);
+    let opened = open_at(1, b"", &mut book, &mut names);
     if opened.good {
         let n = opened.count;
         let m = opened.names;
@@ -31,7 +33,7 @@ fn list_input() {
 fn main() {
     let count = os::arg_count();
     if count == 3 && shift() == 1 {
-        list_words();
+        list_named();
         return;
     }
     if count != 1 {

@@ -16,7 +16,7 @@ use talk::explain;
 use talk::first_bytes;
 use talk::open_call;
 use talk::print;
-use talk::put_number;
+use talk::put_size;
 use talk::put_text;
 
 // Room for a text: one byte more than is taken, so that a longer file is refused and not cut.
@@ -37,10 +37,8 @@ fn save_restored(book: &[u8]) {
         return;
     }
     let mut line = [0u8; 64];
-    let held = put_text(b"restored: rules ", &mut line, 0);
-    let held = put_number(shape.rules as u64, &mut line, held);
-    let held = put_text(b" atoms ", &mut line, held);
-    let held = put_number(shape.atoms as u64, &mut line, held);
+    let held = put_text(b"restored: ", &mut line, 0);
+    let held = put_size(shape, &mut line, held);
     let held = put_text(b"\n", &mut line, held);
     print(&line[..held]);
 }

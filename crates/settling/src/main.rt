@@ -4,6 +4,7 @@
 //
 //     settling BOOKFILE
 //     settling --words WORDSFILE
+//     settling --text TEXTFILE
 
 mod atoms;
 mod rules;

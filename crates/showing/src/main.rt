@@ -1,9 +1,11 @@
 // Shows the rules of a book in words, one a line, so that one sees that the bytes are the rules
 // agreed on; then how many atoms there are, and which have no rule. A damaged book is refused with
-// its number and place. Of rules in words each atom is shown by its name and number.
+// its number and place. Of rules in words and of a grounder's text each atom is shown by its name and
+// number.
 //
 //     showing BOOKFILE
 //     showing --words WORDSFILE
+//     showing --text TEXTFILE
 
 mod atoms;
 

@@ -2,8 +2,9 @@
 // after a last line feed there is no further name.
 ghost use Prim.Native.Nat.{_<_, _≤_};
 ghost use lib.ListN.{length};
+use crate::turn::LAYOUT;
+use crate::turn::with_name;
 use bytes::scan::find;
-use tabling::Layout;
 use tabling::MOST_BOOKS;
 use tabling::Table;
 use talk::print;
@@ -13,13 +14,6 @@ use talk::put_text;
 // Room for 64 names of 4,095 bytes and their line ends, and one byte more, so that a longer input is
 // told and not cut.
 pub const ROOM: usize = 64 * 4096 + 1;
-
-// Words parted by tabs, as a spreadsheet takes them.
-const LAYOUT: Layout = Layout {
-    separator: b'\t',
-    line_end: b'\n',
-    has_names: true,
-};
 
 // The end of the name that starts at `at`.
 fn end_of_name(names: &[u8], at: usize) -> usize
@@ -64,14 +58,6 @@ fn say_how_far(number: usize, count: usize) {
     let held = put_number(count as u64, &mut line, held);
     let held = put_text(b"\n", &mut line, held);
     io::write_all(libc::STDERR_FILENO, &line[..held]);
-}
-
-// Takes the turn of the book behind the name.
-fn with_name(table: Table, name: &[u8]) -> Table {
-    let mut book = [0u8; talk::BOOK_ROOM];
-    let taken = talk::read_quietly(name, &mut book);
-    let n = taken.count;
-    table.with_book(taken.good, &book[..n], name, LAYOUT)
 }
 
 // Writes the lines of all names.

@@ -5,6 +5,7 @@ use crate::line::print_totals;
 use crate::line::print_without;
 use counting::Line;
 use counting::Totals;
+use counting::Turn;
 use counting::take_turn;
 use listing::LIMIT;
 use meaning::Colouring;
@@ -35,16 +36,19 @@ impl Table {
         totals: Totals::NOTHING,
     };
 
-    // Takes the turn of the next book and writes its line; `is_open` says whether its name could be
-    // opened and read. A book behind the last that a table has changes nothing.
-    pub fn with_book(self, is_open: bool, book: &[u8], name: &[u8], layout: Layout) -> Table {
+    // Writes the line of the next book. A book behind the last that a table has changes nothing.
+    fn with_turn(
+        self,
+        turn: Turn,
+        counts: &[u32; Colouring::ATOMS],
+        name: &[u8],
+        layout: Layout,
+    ) -> Table {
         if 63 < self.books {
             return self;
         }
-        let mut counts = [0u32; Colouring::ATOMS];
-        let turn = take_turn(is_open, book, LIMIT, self.totals, &mut counts);
         let line = turn.line;
-        print_book(self.books as u64 + 1, name, line, &counts, layout);
+        print_book(self.books as u64 + 1, name, line, counts, layout);
         let mut without = self.without;
         without[self.books as usize] = is_without(line);
         let totals = turn.totals;
@@ -53,6 +57,24 @@ impl Table {
             without,
             totals,
         }
+    }
+
+    // Takes the turn of the next book and writes its line; `is_open` says whether its name could be
+    // opened and read.
+    pub fn with_book(self, is_open: bool, book: &[u8], name: &[u8], layout: Layout) -> Table {
+        let mut counts = [0u32; Colouring::ATOMS];
+        let turn = take_turn(is_open, book, LIMIT, self.totals, &mut counts);
+        self.with_turn(turn, &counts, name, layout)
+    }
+
+    // Writes the line of a text of which no book was made, for which this number stands.
+    pub fn with_refused(self, number: u8, name: &[u8], layout: Layout) -> Table {
+        let counts = [0u32; Colouring::ATOMS];
+        let turn = Turn {
+            line: Line::Refused(number),
+            totals: self.totals,
+        };
+        self.with_turn(turn, &counts, name, layout)
     }
 
     // Writes the last two lines.

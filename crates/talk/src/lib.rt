@@ -16,6 +16,7 @@ mod part;
 mod refusals;
 mod rule;
 mod sentences;
+mod size;
 mod words;
 
 pub use file::BOOK_ROOM;
@@ -51,6 +52,8 @@ pub use sentences::explain;
 pub use sentences::explain_book;
 pub use sentences::explain_book_of;
 pub use sentences::explain_paper;
+pub use sentences::explain_text_of;
 pub use sentences::put_refused;
+pub use size::put_size;
 pub use words::first_word;
 pub use words::other_words;

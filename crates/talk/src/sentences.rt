@@ -144,8 +144,8 @@ pub fn put_refused(refused: Refused, line: &mut [u8], held: usize) -> usize
     }
 }
 
-// `refused NUMBER at PLACE: SENTENCE`, or `refused NUMBER: SENTENCE` where there is no place. Behind
-// the place stands whose it is, where that must be said.
+// `refused NUMBER at PLACE: SENTENCE`, or `refused NUMBER: SENTENCE` where there is no place. Before
+// the colon stands whose it is, where that must be said.
 fn put_explained(
     refused: Refused,
     whose: &[u8],
@@ -168,6 +168,7 @@ fn put_explained(
         }
         Refused::Plain(number) => {
             let held = put_refused_number(number, line, held);
+            let held = put_text(whose, line, held);
             let held = put_text(b": ", line, held);
             put_sentence(number, kind, about, line, held)
         }
@@ -196,6 +197,15 @@ pub fn explain_book_of(why: Refusal, whose: &[u8], book: &[u8]) {
 // The same of the one book that there is.
 pub fn explain_book(why: Refusal, book: &[u8]) {
     explain_book_of(why, b"", book);
+}
+
+// Writes why a text that a grounder wrote is refused, which speaks of no claim. `whose` says of which
+// book it is the text, where there are two.
+pub fn explain_text_of(refused: Refused, whose: &[u8]) {
+    let mut line = [0u8; 256];
+    let held = put_explained(refused, whose, Kind::Naming, 0, &mut line, 0);
+    let held = put_text(b"\n", &mut line, held);
+    print(&line[..held]);
 }
 
 // Writes why the paper is refused, with a hint where its bytes look like something else.

@@ -2,8 +2,8 @@
 use native.Mathlib.Omega.{arith}
 use borrow.Author.Needs.{needs}
 use Rattle.io.proofs.Counting.{counts}
-use Rattle.calling.proofs.source.open_made.Statement.{statement}
-use Rattle.calling.proofs.source.open_made.Tie as tie
+use Rattle.calling.proofs.worded.open_made.Statement.{statement}
+use Rattle.calling.proofs.worded.open_made.Tie as tie
 
 returns-2 : tie.Need-returns-2
 returns-2 c = (counts _ _ (omega arith), counts _ _ (omega arith))

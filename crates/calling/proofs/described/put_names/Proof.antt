@@ -4,8 +4,8 @@ use Prim.Native.Nat.{_-_, _≤_}
 use lib.ListN.{length}
 use borrow.Author.Needs.{needs}
 use Rattle.io.specs.Counts.{Counts}
-use Rattle.importing.proofs.atoms.put_names.Statement.{statement}
-use Rattle.importing.proofs.atoms.put_names.Tie as tie
+use Rattle.calling.proofs.described.put_names.Statement.{statement}
+use Rattle.calling.proofs.described.put_names.Tie as tie
 
 abbrev Inv-loop : tie.InvT-loop
 Inv-loop text a line₀ held now-held₀ k₀ line now-held k = (k ≤ 64) × Counts now-held line × (length line ≡ length line₀)
