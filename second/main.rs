@@ -83,7 +83,6 @@ const USAGE: &str = "usage:
   second plain BOOKFILE [NAMESFILE]        a book to a text that gives it again, without names x0, x1 ..
   second making WORDSFILE                  what the program making prints of rules in words
   second paper STEPSFILE PAPERFILE         steps in words to a paper (`-`: standard input)
-  second steps PAPERFILE                   a paper to steps in words
   second explain BOOKFILE PAPERFILE        a paper step by step, as explaining prints it, but for its last line
   second explain --words WORDSFILE PAPERFILE  the same with the names of the words
   second random SEED                       a random book to standard output";
@@ -104,7 +103,6 @@ fn main() {
         ["plain", book, names] => run_plain(book, Some(names)),
         ["making", text] => run_making(text),
         ["paper", text, paper] => run_paper(text, paper),
-        ["steps", paper] => run_steps(paper),
         ["explain", "--words", text, paper] => run_explain_words(text, paper),
         ["explain", book, paper] => run_explain(book, paper),
         ["random", seed] => run_random(seed),
@@ -225,11 +223,6 @@ fn read_names(path: Option<&str>) -> Result<Option<Vec<String>>, String> {
 /// Nothing is written where the words have an error.
 fn run_paper(text: &str, paper: &str) -> Result<(), String> {
     write_file(paper, &steps::read_steps(&read_text(text)?)?)
-}
-
-fn run_steps(paper: &str) -> Result<(), String> {
-    print!("{}", steps::write_steps(&read_file(paper)?)?);
-    Ok(())
 }
 
 /// A book that is refused has no line.
