@@ -10,20 +10,24 @@ const TRAILER: usize = 6;
 
 /// Which rules are on and which are off, by rule number.
 #[derive(Clone)]
-struct Colours {
-    on: [bool; 256],
-    off: [bool; 256],
+pub struct Colours {
+    pub on: [bool; 256],
+    pub off: [bool; 256],
 }
 
-struct Checker<'a> {
-    book: &'a Book,
-    paper: &'a [u8],
-    claim: Claim,
-    witness_start: usize,
+impl Colours {
+    pub const EMPTY: Colours = Colours { on: [false; 256], off: [false; 256] };
+}
+
+pub struct Checker<'a> {
+    pub book: &'a Book,
+    pub paper: &'a [u8],
+    pub claim: Claim,
+    pub witness_start: usize,
 }
 
 /// A step as its bytes say it, before its condition is looked at.
-enum Step {
+pub enum Step {
     On(usize),
     Off(usize),
     Starve(Vec<usize>),
@@ -38,43 +42,56 @@ pub fn check(book_bytes: &[u8], paper: &[u8]) -> Result<Claim, Refusal> {
 }
 
 pub fn check_paper(book: &Book, paper: &[u8]) -> Result<Claim, Refusal> {
-    let length = paper.len();
-    if length < TRAILER || length > LONGEST {
-        return Err(Refusal::at(20, 0));
-    }
-    let claim = match paper[length - 2..] {
-        [0x50, 0x46] => certain(paper[length - 6]),
-        [0x50, 0x43] => clear(paper[length - 6]),
-        [0x50, 0x4e] => Claim::NoReading,
-        _ => return Err(Refusal::at(21, length - 2)),
-    };
-    let witness_count = paper[length - 5] as usize;
-    let witness_start = two_bytes(paper, length - 4);
-    if witness_start + witness_count + TRAILER != length {
-        return Err(Refusal::at(22, length - 4));
-    }
-    let is_claimed = match claim {
-        Claim::Certain(atom) | Claim::Clear(atom) => (atom.byte() as usize) < book.atoms,
-        Claim::NoReading => paper[length - 6] == 0,
-    };
-    if !is_claimed {
-        return Err(Refusal::at(23, length - 6));
-    }
-    let checker = Checker { book, paper, claim, witness_start };
-    let empty = Colours { on: [false; 256], off: [false; 256] };
-    let end = checker.branch(0, empty)?;
-    if end != witness_start {
+    let checker = Checker::open(book, paper)?;
+    let end = checker.branch(0, Colours::EMPTY)?;
+    if end != checker.witness_start {
         return Err(Refusal::at(26, end));
     }
-    match claim {
-        Claim::NoReading if witness_count > 0 => return Err(Refusal::at(27, witness_start)),
-        Claim::NoReading => (),
-        _ => checker.witness()?,
-    }
-    Ok(claim)
+    checker.grounds()?;
+    Ok(checker.claim)
 }
 
-impl Checker<'_> {
+impl<'a> Checker<'a> {
+    /// The paper's length, mark and trailer.
+    pub fn open(book: &'a Book, paper: &'a [u8]) -> Result<Checker<'a>, Refusal> {
+        let length = paper.len();
+        if length < TRAILER || length > LONGEST {
+            return Err(Refusal::at(20, 0));
+        }
+        let claim = match paper[length - 2..] {
+            [0x50, 0x46] => certain(paper[length - 6]),
+            [0x50, 0x43] => clear(paper[length - 6]),
+            [0x50, 0x4e] => Claim::NoReading,
+            _ => return Err(Refusal::at(21, length - 2)),
+        };
+        let witness_start = two_bytes(paper, length - 4);
+        if witness_start + paper[length - 5] as usize + TRAILER != length {
+            return Err(Refusal::at(22, length - 4));
+        }
+        let is_claimed = match claim {
+            Claim::Certain(atom) | Claim::Clear(atom) => (atom.byte() as usize) < book.atoms,
+            Claim::NoReading => paper[length - 6] == 0,
+        };
+        if !is_claimed {
+            return Err(Refusal::at(23, length - 6));
+        }
+        Ok(Checker { book, paper, claim, witness_start })
+    }
+
+    /// The rules that the witness lists.
+    pub fn listed(&self) -> &'a [u8] {
+        &self.paper[self.witness_start..self.paper.len() - TRAILER]
+    }
+
+    /// A witness; none where the claim is that there is no answer set.
+    pub fn grounds(&self) -> Result<(), Refusal> {
+        match self.claim {
+            Claim::NoReading if self.listed().is_empty() => Ok(()),
+            Claim::NoReading => Err(Refusal::at(27, self.witness_start)),
+            _ => self.witness(),
+        }
+    }
+
     /// Checks a branch from `place` on and gives the place after it.
     fn branch(&self, mut place: usize, mut colours: Colours) -> Result<usize, Refusal> {
         loop {
@@ -103,7 +120,7 @@ impl Checker<'_> {
     }
 
     /// Reads the step at `place`: refusal 24, whatever is wrong with its bytes.
-    fn step(&self, place: usize) -> Result<(Step, usize), Refusal> {
+    pub fn step(&self, place: usize) -> Result<(Step, usize), Refusal> {
         let bad = Refusal::at(24, place);
         if place >= self.witness_start {
             return Err(bad);
@@ -146,12 +163,12 @@ impl Checker<'_> {
         }
     }
 
-    fn is_derived(&self, atom: Atom, colours: &Colours) -> bool {
+    pub fn is_derived(&self, atom: Atom, colours: &Colours) -> bool {
         let rules = &self.book.rules;
         (0..rules.len()).any(|r| colours.on[r] && rules[r].head == atom)
     }
 
-    fn all_rules_off(&self, atom: Atom, colours: &Colours, listed: &[usize]) -> bool {
+    pub fn all_rules_off(&self, atom: Atom, colours: &Colours, listed: &[usize]) -> bool {
         let rules = &self.book.rules;
         let gone = |r: usize| colours.off[r] || listed.binary_search(&r).is_ok();
         (0..rules.len()).all(|r| rules[r].head != atom || gone(r))
@@ -165,7 +182,7 @@ impl Checker<'_> {
         }
     }
 
-    fn holds(&self, step: &Step, colours: &Colours) -> bool {
+    pub fn holds(&self, step: &Step, colours: &Colours) -> bool {
         let rules = &self.book.rules;
         match step {
             Step::On(r) => {
@@ -187,7 +204,7 @@ impl Checker<'_> {
     /// for negative atoms; last the rules that are not listed.
     fn witness(&self) -> Result<(), Refusal> {
         let rules = &self.book.rules;
-        let listed = &self.paper[self.witness_start..self.paper.len() - TRAILER];
+        let listed = self.listed();
         let mut seen = [false; 256];
         let mut in_x = [false; 256];
         for (offset, r) in listed.iter().enumerate() {

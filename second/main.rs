@@ -30,6 +30,7 @@ mod clash;
 mod closing;
 mod crews;
 mod desk;
+mod explain;
 mod forged;
 mod layout;
 mod legal;
@@ -82,7 +83,8 @@ const USAGE: &str = "usage:
   second plain BOOKFILE [NAMESFILE]        a book to a text that gives it again, without names x0, x1 ..
   second making WORDSFILE                  what the program making prints of rules in words
   second paper STEPSFILE PAPERFILE         steps in words to a paper (`-`: standard input)
-  second steps PAPERFILE                   a paper to steps in words
+  second explain BOOKFILE PAPERFILE        a paper step by step, as explaining prints it, but for its last line
+  second explain --words WORDSFILE PAPERFILE  the same with the names of the words
   second random SEED                       a random book to standard output";
 
 fn main() {
@@ -103,7 +105,8 @@ fn main() {
         ["plain", book, names] => run_plain(book, Some(names)),
         ["making", text] => run_making(text),
         ["paper", text, paper] => run_paper(text, paper),
-        ["steps", paper] => run_steps(paper),
+        ["explain", "--words", text, paper] => run_explain_words(text, paper),
+        ["explain", book, paper] => run_explain(book, paper),
         ["random", seed] => run_random(seed),
         _ => Err(USAGE.to_string()),
     };
@@ -229,8 +232,18 @@ fn run_paper(text: &str, paper: &str) -> Result<(), String> {
     write_file(paper, &steps::read_steps(&read_text(text)?)?)
 }
 
-fn run_steps(paper: &str) -> Result<(), String> {
-    print!("{}", steps::write_steps(&read_file(paper)?)?);
+/// A book that is refused has no line.
+fn run_explain(book: &str, paper: &str) -> Result<(), String> {
+    if let Ok(book) = book::Book::read(&read_file(book)?) {
+        print!("{}", explain::explain(&book, None, &read_file(paper)?));
+    }
+    Ok(())
+}
+
+fn run_explain_words(text: &str, paper: &str) -> Result<(), String> {
+    let text = read_file(text)?;
+    let named = words::read_words(&text).map_err(|refusal| making::refused(&text, refusal))?;
+    print!("{}", explain::explain(&named.book, Some(&named.names), &read_file(paper)?));
     Ok(())
 }
 

@@ -1,6 +1,6 @@
 -- The whole check, one law for each answer: the book's refusals, then the paper's length, mark and trailer, then its steps and its witness.
 -- Each is the definition with the tests before it decided. Document 01, "Numbers given back".
-use mathlib.Core.Path.{_≡_, refl, sym, _∙_, ap}
+use mathlib.Core.Path.{_≡_, refl, sym, _∙_, ap, subst}
 use mathlib.Core.Bool.{Bool, true, false}
 use mathlib.Core.List.{List}
 use Prim.Native.Nat.{ℕ, suc, _+_, _-_, _≤_, _<_}
@@ -29,7 +29,8 @@ use Rattle.checker.specs.declared.witness.Verdict.{Verdict}
 use Rattle.checker.specs.declared.witness.Verdict.the-variants.{Right, Wrong}
 use Rattle.checker.specs.Branches.{Walked, done, BranchTo}
 use Rattle.checker.specs.Witness.{Check, fine, wrong, witnessVerdict, groundsVerdict}
-use Rattle.checker.specs.Parts.{verdict}
+use Rattle.checker.specs.declared.trailer.Ending.{Ending}
+use Rattle.checker.specs.Parts.{verdict, endTold, EndFits, EndsAs}
 use Rattle.checker.specs.Check.{witnessTold, branchTold, stepsTold, stated, trailerTold, markedTold, paperOf, checkRead, checkOf}
 use Rattle.checker.proofs.Marked.{markIn}
 
@@ -72,6 +73,18 @@ module _ (b : Book) (k : Claim) (s : List ℕ) (from w : ℕ) where
     pub grounds-none : w ≡ 0 → fine ≡ groundsVerdict k b s from w
     unfolding groundsVerdict
     grounds-none z = rw e (sym (eq-yes _ _ _ _ z))
+
+-- ---- what the last bytes come to
+
+module _ {b : Book} {s : List ℕ} {x : Told Claim} {e : Ending} (p : EndsAs b s x e) where
+  pub ends-told : {y : Told Claim} → x ≡ y → EndsAs b s y e
+  ends-told q = record { told = p .told ∙ q; fits = p .fits }
+
+  pub ends-by : {f : Ending} → e ≡ f → endTold b s f ≡ x
+  ends-by q = ap (endTold b s) (sym q) ∙ p .told
+
+  pub ends-fit : {f : Ending} → e ≡ f → EndFits s f
+  ends-fit q = subst (EndFits s) q (p .fits)
 
 -- ---- the length, the mark and the trailer
 
@@ -131,9 +144,9 @@ module _ (b : Book) (s : List ℕ) where
       unfolding trailerTold
       byte-wrong e = trailer-read ∙ eq-yes _ _ _ _ z ∙ b-no _ _ _ (rw (← atoms, ← found) e)
 
-      pub byte-good : v ≡ true → (x : Told Claim) → x ≡ stepsTold b k s w from → x ≡ readTold k
+      pub byte-good : v ≡ true → readTold k ≡ stepsTold b k s w from
       unfolding trailerTold
-      byte-good e x f = f ∙ sym (trailer-read ∙ eq-yes _ _ _ _ z ∙ b-yes _ _ _ (rw (← atoms, ← found) e))
+      byte-good e = trailer-read ∙ eq-yes _ _ _ _ z ∙ b-yes _ _ _ (rw (← atoms, ← found) e)
 
 -- ---- the book
 

@@ -35,6 +35,7 @@ use Rattle.checker.specs.declared.witness.Verdict.{Verdict}
 use Rattle.checker.specs.declared.witness.Verdict.the-variants.{Right, Wrong}
 use Rattle.checker.specs.Parts.{verdict}
 use Rattle.checker.specs.Witness.{fine, wrong, andThen, follows, orderOf, blockedOf, restFails, listOf, witnessVerdict}
+use Rattle.checker.proofs.Witnesses.{then-both}
 use Rattle.checker.proofs.Lists.{part-is, below-rest}
 use Rattle.checker.proofs.Conditions.{positive-every, negative-some}
 
@@ -164,6 +165,10 @@ module _ (b : Book) where
 
   pub order-below : (at : ℕ) (l : List ℕ) → orderOf b at [] l ≡ fine → Below (count b) l
   order-below at l e = record { at = order-at at [] l e }
+
+  pub witness-below : (s : List ℕ) (from w : ℕ) → witnessVerdict b s from w ≡ fine → Below (count b) (take w (drop from s))
+  unfolding witnessVerdict listOf
+  witness-below s from w e = order-below from _ (then-both _ _ e .0)
 
 -- ---- negative atoms
 

@@ -33,7 +33,7 @@ fine-yes t at c = b-either (λ x. x ≡ fine → (t ≡ true) × (c ≡ fine)) t
 fine-no : (t : Bool) (at : ℕ) (c : Check) → ifb t (wrong at) c ≡ fine → (t ≡ false) × (c ≡ fine)
 fine-no t at c = b-either (λ x. x ≡ fine → (t ≡ false) × (c ≡ fine)) t (wrong at) c (λ p e. not-fine e) (λ p e. (p, e))
 
-then-both : (c d : Check) → andThen c d ≡ fine → (c ≡ fine) × (d ≡ fine)
+pub then-both : (c d : Check) → andThen c d ≡ fine → (c ≡ fine) × (d ≡ fine)
 unfolding andThen
 then-both fine d e = (refl, e)
 then-both (wrong at) d e = not-fine e

@@ -8,6 +8,8 @@
 --   Runs b k s from at c ran   what running the steps of a branch promises
 --   walked w, verdict v   what a branch and a witness come to
 --   Ends at from w        a branch that is done ends past its start, and not past the witness
+--   endTold b s e         what is told of a paper whose last bytes come to e: what its steps come to, or 20 to 23
+--   EndsAs b s x e        what reading a trailer promises: this is x, and the witness of a good one ends at it
 use mathlib.Core.Path.{_≡_}
 use mathlib.Core.List.{List, [], _∷_, map}
 use Prim.Native.Nat.{ℕ, _+_, _<_, _≤_}
@@ -17,6 +19,8 @@ use Rattle.meaning.specs.Books.{ruleNo, Book, count, InBook}
 use Rattle.meaning.specs.Colours.{Pair, onSide, offSide, put}
 use Rattle.meaning.specs.declared.kind.Claim.{Claim}
 use Rattle.meaning.specs.Written.{written, pair}
+use Rattle.meaning.specs.Told.{Told, refusedAt}
+use Rattle.meaning.specs.Paper.{paperBytes}
 use Rattle.book.specs.declared.reader.Shape.{Shape}
 use Rattle.book.specs.Format.{ReadAs}
 use Rattle.book.specs.Tables.{Below}
@@ -27,11 +31,14 @@ use Rattle.checker.specs.declared.step.Stop.the-variants.{End, Split, Fo
 use Rattle.checker.specs.declared.run.Ran.{Ran}
 use Rattle.checker.specs.declared.branch.Walked.{Walked as Branched}
 use Rattle.checker.specs.declared.branch.Walked.the-variants.{Done, Form as BadForm, Fails as BadFails}
+use Rattle.checker.specs.declared.trailer.Ending.{Ending}
+use Rattle.checker.specs.declared.trailer.Ending.the-variants.{Good, Length, Mark, Count, Atom}
 use Rattle.checker.specs.declared.witness.Verdict.{Verdict}
 use Rattle.checker.specs.declared.witness.Verdict.the-variants.{Right, Wrong}
 use Rattle.checker.specs.Steps.{Stepped, goes, parts, ends, fails, stepOf}
 use Rattle.checker.specs.Branches.{Walked, done, wrongAt}
 use Rattle.checker.specs.Witness.{Check, fine, wrong}
+use Rattle.checker.specs.Check.{stepsTold}
 
 -- the rules that a list of m bytes names
 abbrev pub listed : List ℕ → ℕ → ℕ → List RuleNo
@@ -96,3 +103,21 @@ pub data Ends (at from : ℕ) : Walked → Type 0 where
 abbrev pub verdict : Verdict → Check
 verdict Right = fine
 verdict (Wrong at) = wrong at
+
+abbrev pub endTold : Book → List ℕ → Ending → Told Claim
+endTold b s (Good t) = stepsTold b (t .claim) s (t .count) (t .from)
+endTold b s Length = refusedAt 20 0
+endTold b s (Mark at) = refusedAt 21 at
+endTold b s (Count at) = refusedAt 22 at
+endTold b s (Atom at) = refusedAt 23 at
+
+abbrev pub EndFits : List ℕ → Ending → Type 0
+EndFits s (Good t) = (t .from + t .count + 6 ≡ length s) × (length s ≤ paperBytes)
+EndFits s Length = Unit {0}
+EndFits s (Mark at) = Unit {0}
+EndFits s (Count at) = Unit {0}
+EndFits s (Atom at) = Unit {0}
+
+pub record EndsAs (b : Book) (s : List ℕ) (x : Told Claim) (e : Ending) : Type 0 where
+  pub told : endTold b s e ≡ x
+  pub fits : EndFits s e

@@ -67,7 +67,7 @@ pub fn is_uncoloured<'a>(r: RuleNo, on: &'a [u64; 4], off: &'a [u64; 4]) -> bool
 }
 
 // Some rule is in both sets.
-fn is_clashing<'a>(rules: u8, on: &'a [u64; 4], off: &'a [u64; 4]) -> bool
+pub fn is_clashing<'a>(rules: u8, on: &'a [u64; 4], off: &'a [u64; 4]) -> bool
     ensures { λ b. ⌜ b ≡ someBelow rules (λ n.
         of (listed (now (on .entry))) (ruleNo n) && of (listed (now (off .entry))) (ruleNo n)) ⌝ }
 {
@@ -76,7 +76,7 @@ fn is_clashing<'a>(rules: u8, on: &'a [u64; 4], off: &'a [u64; 4]) -> bool
 }
 
 // The atom is the head of a rule of the set.
-fn is_head(book: &[u8], shape: Shape, a: AtomNo, set: &[u64; 4]) -> bool
+pub fn is_head(book: &[u8], shape: Shape, a: AtomNo, set: &[u64; 4]) -> bool
     requires { ⌜ ReadAs (now book) shape ⌝ }
     ensures { λ b. ⌜ b ≡ heads (bookIn (now (book .entry))) (of (listed (now (set .entry)))) a ⌝ }
 {
@@ -93,7 +93,7 @@ fn is_head(book: &[u8], shape: Shape, a: AtomNo, set: &[u64; 4]) -> bool
 }
 
 // All rules with the atom as head are in the set.
-fn is_lost(book: &[u8], shape: Shape, a: AtomNo, set: &[u64; 4]) -> bool
+pub fn is_lost(book: &[u8], shape: Shape, a: AtomNo, set: &[u64; 4]) -> bool
     requires { ⌜ ReadAs (now book) shape ⌝ }
     ensures { λ b. ⌜ b ≡ allIn (bookIn (now (book .entry))) (of (listed (now (set .entry)))) a ⌝ }
 {

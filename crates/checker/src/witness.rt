@@ -121,7 +121,7 @@ fn rest_fails(book: &[u8], shape: Shape, set: &[u64; 4], headed: &[bool; Colouri
 }
 
 // The whole witness: its order, its negative atoms, then the rules that it doesn't list.
-fn check_witness(book: &[u8], shape: Shape, paper: &[u8], trailer: Trailer) -> Verdict
+pub fn check_witness(book: &[u8], shape: Shape, paper: &[u8], trailer: Trailer) -> Verdict
     requires { ⌜ ReadAs (now book) shape
         × (trailer .from + trailer .count + 6 ≡ length (now paper))
         × (length (now paper) ≤ paperBytes) ⌝ }

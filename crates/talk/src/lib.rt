@@ -5,6 +5,7 @@
 // Functions that give a value promise which. Of those that read or write a file no contract can say
 // what they read or write; their comments do.
 
+mod checked;
 mod file;
 mod hexadecimal;
 mod hints;
@@ -19,6 +20,7 @@ mod sentences;
 mod size;
 mod words;
 
+pub use checked::tell_checked;
 pub use file::BOOK_ROOM;
 pub use file::PAPER_ROOM;
 pub use file::Taken;
@@ -47,6 +49,7 @@ pub use refusals::Refused;
 pub use refusals::refused_book;
 pub use refusals::refused_name;
 pub use refusals::refused_paper;
+pub use rule::put_rule;
 pub use rule::show_rule;
 pub use sentences::explain;
 pub use sentences::explain_book;

@@ -74,6 +74,25 @@ fn put_label(r: RuleNo, word: &[u8], line: &mut [u8]) -> usize
     put_text(b": ", line, held)
 }
 
+// The rule in words: its head, and its body where it has one.
+pub fn put_rule(
+    book: &[u8],
+    shape: Shape,
+    r: RuleNo,
+    names: &[u8],
+    line: &mut [u8],
+    held: usize,
+) -> usize
+    requires { ⌜ ReadAs (now book) shape × (r .0 < shape .rules) × Counts held (now line) ⌝ }
+    ensures { λ n. ⌜ Counts n (now (line .exit)) ⌝ }
+{
+    let held = put_called(names, head(book, shape, r).0, line, held);
+    let body = positives(book, shape, r);
+    let held = put_part(names, body, true, b"", line, held);
+    let others = negatives(book, shape, r);
+    put_part(names, others, body.len() == 0, b"not ", line, held)
+}
+
 // Writes the rule, with the word behind its number, and the line end. The longest line has 33
 // atoms, under 14 bytes and a name each.
 pub fn show_rule(book: &[u8], shape: Shape, r: RuleNo, word: &[u8], names: &[u8])
@@ -81,11 +100,7 @@ pub fn show_rule(book: &[u8], shape: Shape, r: RuleNo, word: &[u8], names: &[u8]
 {
     let mut line = [0u8; 9216];
     let held = put_label(r, word, &mut line);
-    let held = put_called(names, head(book, shape, r).0, &mut line, held);
-    let body = positives(book, shape, r);
-    let held = put_part(names, body, true, b"", &mut line, held);
-    let others = negatives(book, shape, r);
-    let held = put_part(names, others, body.len() == 0, b"not ", &mut line, held);
+    let held = put_rule(book, shape, r, names, &mut line, held);
     let held = put_text(b"\n", &mut line, held);
     print(&line[..held]);
 }

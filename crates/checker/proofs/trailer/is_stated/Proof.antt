@@ -1,8 +1,8 @@
 -- The case that was taken tells the claim.
 use borrow.Author.Needs.{needs}
 use Rattle.checker.proofs.PaperChecked.{stated-about, stated-nothing}
-use Rattle.checker.proofs.paper.is_stated.Statement.{statement}
-use Rattle.checker.proofs.paper.is_stated.Tie as tie
+use Rattle.checker.proofs.trailer.is_stated.Statement.{statement}
+use Rattle.checker.proofs.trailer.is_stated.Tie as tie
 
 returns : tie.Need-returns
 returns c = stated-about _ _ _ (c .before .before .claim .given .1)
