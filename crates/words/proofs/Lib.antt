@@ -15,5 +15,6 @@ pub mod Counts
 pub mod Reached
 pub mod Apart
 pub mod Refusals
+pub mod Rows
 pub mod Whose
 pub mod Cases
