@@ -21,7 +21,7 @@ use Rattle.words.specs.Rows.{bookSaid}
 use Rattle.words.proofs.Reached.{words-fit}
 use Rattle.words.proofs.Apart.{names-apart}
 use Rattle.words.proofs.Whose.{heard-spelled, whose-named, named-whose}
-use Rattle.words.proofs.Rows.{Made, said-book, refused-row, refused-43, make-keeps, told-made, said-made}
+use Rattle.words.proofs.Told.{Made, said-book, refused-row, refused-43, make-keeps, told-made, said-made}
 use Rattle.demands.specs.Engine.{Engine, ours}
 use Rattle.demands.specs.Damaged.{GoodBook}
 use Rattle.demands.specs.Demand3.{Sound}

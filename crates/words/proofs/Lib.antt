@@ -16,5 +16,6 @@ pub mod Reached
 pub mod Apart
 pub mod Refusals
 pub mod Rows
+pub mod Told
 pub mod Whose
 pub mod Cases

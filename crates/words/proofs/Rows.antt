@@ -1,21 +1,18 @@
--- When a text is refused, and when a book is made of it: the rows of the table (specs/Rows), both ways, and what the buffers hold.
+-- A text is refused by 40, 41 or 42 exactly if that row of the table holds at the place (specs/Rows): each decision about a word has its reason,
+-- and by the reason the decision is just that.
 use mathlib.Core.Path.{_≡_, refl, ap, sym, _∙_, subst}
-use mathlib.Core.Logic.{_↔_, inl, inr, ⊎-elim}
+use mathlib.Core.Logic.{inl, inr, ⊎-elim}
 use mathlib.Core.Bool.{Bool, true, false}
-use mathlib.Core.List.{List, _∷_, _++_}
+use mathlib.Core.List.{List}
 use Prim.{tt, Unit}
 use Prim.Native.Nat.{ℕ, _<_, _≤_}
 use native.Mathlib.Omega.{arith}
 use lib.Dec.{leb}
-use lib.ListN.{length, getD, drop, length-map}
+use lib.ListN.{length, getD}
 use borrow.Author.Tests.{le-leb, leb-true}
-use Rattle.meaning.specs.Books.{Rule}
-use Rattle.meaning.specs.Told.{Told, success, refusedWith, refusedAt, refused}
 use Rattle.meaning.proofs.Choice.{b-yes, b-no, lt-yes, lt-no, eq-no, b-either, lt-either, eq-either}
-use Rattle.meaning.proofs.Tests.{lt-or-le, decided as either-way, true-and-false, apart}
-use Rattle.meaning.proofs.Told.{success-one}
+use Rattle.meaning.proofs.Tests.{lt-or-le, decided as either-way, true-and-false}
 use Rattle.book.specs.Making.{listed}
-use Rattle.book.specs.Writing.{bytesOfBook}
 use Rattle.words.specs.declared.due.Due.{Due}
 use Rattle.words.specs.declared.due.Standing.{Standing}
 use Rattle.words.specs.declared.due.Standing.the-variants.{Head, Positive, Negative}
@@ -27,14 +24,13 @@ use Rattle.words.specs.declared.due.Ended.{Ended}
 use Rattle.words.specs.declared.due.Ended.the-variants.{Nothing as Blank, Rule as Closes, Missing}
 use Rattle.words.specs.declared.decision.Decision.{Decision}
 use Rattle.words.specs.declared.decision.Decision.the-variants.{Goes, Form, Name, TooMany}
-use Rattle.words.specs.Words.{Word, Piece, word, line, pieces}
-use Rattle.words.specs.Names.{noWord, isNamed, numberIn}
+use Rattle.words.specs.Words.{Word, Piece, word, line}
+use Rattle.words.specs.Names.{isNamed, numberIn}
 use Rattle.words.specs.Moves.{endedOf}
-use Rattle.words.specs.Reading.{State, Outcome, goes, wrong, crowded, full, stands, named, noted, begun, onSaid, decided, onDecision, decisionOf, onEnded, onPiece, heard, start, bookOf, Says, says, refused as unread, said, wordsIn, namesOf}
-use Rattle.words.specs.Make.{filled, startsOf, endsOf, Answer, only, handOver, makeHeard, makeOf}
-use Rattle.words.specs.Rows.{Comes, movesTo, Has, Allowed, Seventeenth, WrongForm, no-place, list-behind-rule, WrongName, unlisted, listed-twice, OneTooMany, listed-name, new-name, rule, positive, negative, WrongAt, form, missing, name, many, bookSaid, TooLong}
+use Rattle.words.specs.Reading.{State, Outcome, goes, wrong, crowded, full, stands, named, noted, begun, onSaid, decided, onDecision, decisionOf, onEnded, onPiece, heard}
+use Rattle.words.specs.Rows.{Comes, movesTo, Has, Allowed, Seventeenth, WrongForm, no-place, list-behind-rule, WrongName, unlisted, listed-twice, OneTooMany, listed-name, new-name, rule, positive, negative, WrongAt, form, missing, name, many}
 use Rattle.words.proofs.Names.{bytes-refl, bytes-equal, first-found, first-none}
-use Rattle.words.proofs.Refusals.{Refused, refused-first, first-refused}
+use Rattle.words.proofs.Refusals.{refused-first, first-refused}
 
 -- ---- names that there are
 
@@ -169,7 +165,7 @@ module _ (text : List ℕ) where
   piece-row (word w) s c = word-row w s c (decisionOf (w .bytes) s) (move-reason s w (movesTo s w) refl)
   piece-row (line at) s c = line-row at s c (endedOf (s .due)) refl
 
-  heard-row : (i at : ℕ) → heard text ≡ wrong i at → WrongAt text i at
+  pub heard-row : (i at : ℕ) → heard text ≡ wrong i at → WrongAt text i at
   unfolding Row
   heard-row i at e =
       let r = refused-first text i at e in
@@ -188,148 +184,9 @@ module _ (text : List ℕ) where
     refused = e;
   })
 
-  row-heard : (i at : ℕ) → WrongAt text i at → heard text ≡ wrong i at
+  pub row-heard : (i at : ℕ) → WrongAt text i at → heard text ≡ wrong i at
   unfolding onPiece onDecision onEnded
   row-heard i at (form {w} {s} c r) = comes-heard c 40 (w .place) (ap (λ d. onDecision d w s) (form-decided s w r))
   row-heard i at (missing {s = s} c e) = comes-heard c 40 at (ap (λ x. onEnded x at s) e)
   row-heard i at (name {w} {s} c r) = comes-heard c 41 (w .place) (ap (λ d. onDecision d w s) (name-decided s w r))
   row-heard i at (many {w} {s} c r) = comes-heard c 42 (w .place) (ap (λ d. onDecision d w s) (many-decided s w r))
-
--- ---- what is told
-
-unfoldable heardBy : Told ℕ → Outcome → Outcome
-heardBy (success n) h = h
-heardBy (refusedWith i l) h = h
-heardBy (refusedAt i at) h = wrong i at
-heardBy (refused i) h = h
-
--- what a text that is read to its end says
-said-read : (h : Outcome) (names : List (List ℕ)) (rules : List Rule) → said h ≡ says names rules
-    → (s : State) × (h ≡ goes s) × (namesOf (s .names) ≡ names) × (s .rules ≡ rules)
-unfolding said
-said-read (goes s) names rules e = (s, refl, ap namesIn e, ap rulesIn e)
-  where
-    namesIn : Says → List (List ℕ)
-    namesIn (says l rs) = l
-    namesIn (unread i at) = names
-
-    rulesIn : Says → List Rule
-    rulesIn (says l rs) = rs
-    rulesIn (unread i at) = rules
-said-read (wrong i at) names rules e = apart (cc)
-
--- the book of what is said is that of the state
-pub said-book : (s : State) → bookOf s ≡ bookSaid (namesOf (s .names)) (s .rules)
-said-book s = ap (λ n. record { atoms = n; rules = s .rules }) (sym (length-map (s .names) (λ (w : Word). w .bytes)))
-
--- a book was made of the text: of what it says, byte for byte, with the later bytes kept, and with the places of its names
-pub record Made (text out from to : List ℕ) (n : ℕ) : Type 0 where
-  pub state : State
-  pub read : heard text ≡ goes state
-  pub size : length (bytesOfBook (bookOf state)) ≡ n
-  pub room : n ≤ length out
-  pub given : makeOf text out from to ≡ record {
-    told = success n;
-    book = bytesOfBook (bookOf state) ++ drop n out;
-    from = filled (startsOf (state .names));
-    to = filled (endsOf (state .names));
-  }
-
-module _ (text out from to : List ℕ) where
-  goes-told : (s : State) (i at : ℕ) → handOver s out from to .told ≡ refusedAt i at → goes s ≡ wrong i at
-  unfolding handOver
-  goes-told s i at = lt-either (λ (x : Answer). x .told ≡ refusedAt i at → goes s ≡ wrong i at) (length out) (length (bytesOfBook (bookOf s))) _ _
-      (λ h e. apart (cc)) (λ h e. apart (cc))
-
-  told-heard : (i at : ℕ) (h : Outcome) → makeHeard h out from to .told ≡ refusedAt i at → h ≡ wrong i at
-  unfolding makeHeard heardBy
-  told-heard i at (goes s) e = goes-told s i at e
-  told-heard i at (wrong j p) e = ap (λ (t : Told ℕ). heardBy t (wrong j p)) e
-
-  -- 40, 41 and 42, each exactly if its row holds; no other number has a place
-  pub refused-row : (i at : ℕ) → (makeOf text out from to .told ≡ refusedAt i at) ↔ WrongAt text i at
-  unfolding makeHeard
-  refused-row i at = (
-    λ e. heard-row text i at (told-heard i at (heard text) e),
-    λ r. ap (λ (h : Outcome). makeHeard h out from to .told) (row-heard text i at r),
-  )
-
-  short-told : (s : State) → handOver s out from to .told ≡ refused 43 → length out < length (bytesOfBook (bookOf s))
-  unfolding handOver
-  short-told s = lt-either (λ (x : Answer). x .told ≡ refused 43 → length out < length (bytesOfBook (bookOf s))) (length out)
-      (length (bytesOfBook (bookOf s))) _ _ (λ h e. h) (λ h e. apart (cc))
-
-  told-long : (h : Outcome) → heard text ≡ h → makeHeard h out from to .told ≡ refused 43 → TooLong text out
-  unfolding makeHeard said
-  told-long (goes s) k e = record {
-    names = namesOf (s .names);
-    rules = s .rules;
-    read = ap said k;
-    short = subst (λ b. length out < length (bytesOfBook b)) (said-book s) (short-told s e);
-  }
-  told-long (wrong i at) k e = apart (cc)
-
-  long-told : TooLong text out → makeOf text out from to .told ≡ refused 43
-  unfolding makeHeard handOver
-  long-told t =
-      let (s, e, f, g) = said-read (heard text) (t .names) (t .rules) (t .read) in
-      let same : bookOf s ≡ bookSaid (t .names) (t .rules) = said-book s ∙ λ i. bookSaid (f i) (g i) in
-      ap (λ (h : Outcome). makeHeard h out from to .told) e
-      ∙ ap (λ (x : Answer). x .told) (lt-yes _ _ _ _ (subst (λ b. length out < length (bytesOfBook b)) (sym same) (t .short)))
-
-  pub refused-43 : (makeOf text out from to .told ≡ refused 43) ↔ TooLong text out
-  refused-43 = (told-long (heard text) refl, long-told)
-
-  keeps-heard : (h : Outcome) → ((n : ℕ) → makeHeard h out from to .told ≡ success n → ⊥)
-      → makeHeard h out from to ≡ only (makeHeard h out from to .told) out from to
-  unfolding makeHeard handOver
-  keeps-heard (goes s) = lt-either (λ (x : Answer). ((n : ℕ) → x .told ≡ success n → ⊥) → x ≡ only (x .told) out from to) (length out)
-      (length (bytesOfBook (bookOf s))) _ _ (λ h f. refl) (λ h f. absurd (f _ refl))
-  keeps-heard (wrong i at) = λ f. refl
-
-  -- nothing is written on a refusal
-  pub make-keeps : ((n : ℕ) → makeOf text out from to .told ≡ success n → ⊥)
-      → makeOf text out from to ≡ only (makeOf text out from to .told) out from to
-  make-keeps = keeps-heard (heard text)
-
-  goes-given : (s : State) → heard text ≡ goes s → length (bytesOfBook (bookOf s)) ≤ length out → makeOf text out from to ≡ record {
-    told = success (length (bytesOfBook (bookOf s)));
-    book = bytesOfBook (bookOf s) ++ drop (length (bytesOfBook (bookOf s))) out;
-    from = filled (startsOf (s .names));
-    to = filled (endsOf (s .names));
-  }
-  unfolding makeHeard handOver
-  goes-given s e h = ap (λ (x : Outcome). makeHeard x out from to) e ∙ lt-no _ _ _ _ h
-
-  made-goes : (s : State) → heard text ≡ goes s → length (bytesOfBook (bookOf s)) ≤ length out
-      → Made text out from to (length (bytesOfBook (bookOf s)))
-  made-goes s e h = record { state = s; read = e; size = refl; room = h; given = goes-given s e h }
-
-  success-told : (s : State) (n : ℕ) → handOver s out from to .told ≡ success n
-      → (length (bytesOfBook (bookOf s)) ≤ length out) × (length (bytesOfBook (bookOf s)) ≡ n)
-  unfolding handOver
-  success-told s n = lt-either
-      (λ (x : Answer). x .told ≡ success n → (length (bytesOfBook (bookOf s)) ≤ length out) × (length (bytesOfBook (bookOf s)) ≡ n))
-      (length out) (length (bytesOfBook (bookOf s))) _ _ (λ h e. apart (cc)) (λ h e. (h, success-one e))
-
-  made-heard : (n : ℕ) (h : Outcome) → heard text ≡ h → makeHeard h out from to .told ≡ success n → Made text out from to n
-  unfolding makeHeard
-  made-heard n (goes s) e t = let (h, f) = success-told s n t in subst (Made text out from to) f (made-goes s e h)
-  made-heard n (wrong i at) e t = apart (cc)
-
-  -- a book that is told was made so
-  pub told-made : (n : ℕ) → makeOf text out from to .told ≡ success n → Made text out from to n
-  told-made n = made-heard n (heard text) refl
-
-  -- and every text that is read is made to its book, where the buffer has room for it
-  pub said-made : (names : List (List ℕ)) (rules : List Rule) → wordsIn text ≡ says names rules
-      → length (bytesOfBook (bookSaid names rules)) ≤ length out
-      → (makeOf text out from to .told ≡ success (length (bytesOfBook (bookSaid names rules))))
-      × (makeOf text out from to .book ≡ bytesOfBook (bookSaid names rules) ++ drop (length (bytesOfBook (bookSaid names rules))) out)
-  said-made names rules e h =
-      let (s, k, f, g) = said-read (heard text) names rules e in
-      let same : bookOf s ≡ bookSaid names rules = said-book s ∙ λ i. bookSaid (f i) (g i) in
-      let given = goes-given s k (subst (λ b. length (bytesOfBook b) ≤ length out) (sym same) h) in
-      subst (λ b. (makeOf text out from to .told ≡ success (length (bytesOfBook b)))
-      × (makeOf text out from to .book ≡ bytesOfBook b ++ drop (length (bytesOfBook b)) out)) same
-      (ap (λ (x : Answer). x .told) given, ap (λ (x : Answer). x .book) given)
