@@ -29,3 +29,5 @@ pub mod Shown
 pub mod UselessShown
 pub mod NoneBeside
 pub mod UselessNone
+pub mod OurNames
+pub mod UselessNames

@@ -14,7 +14,7 @@ use Rattle.meaning.proofs.Choice.{b-yes, b-no, eq-yes, eq-no, lt-yes, eq-either
 use Rattle.book.specs.Rows.{Bytes}
 use Rattle.walk.specs.Events.{Event}
 use Rattle.walk.specs.Readings.{readingsIn}
-use Rattle.walk.specs.Tries.{Kth, Needs, to-reading, to-end, lastClash}
+use Rattle.walk.specs.Tries.{Needs, to-reading, to-end, lastClash}
 use Rattle.walk.specs.Run.{rowOf, State}
 use Rattle.walk.specs.Find.{set, toldBy, findAlong}
 use Rattle.walk.specs.Shown.{ListGood, AllShown, shownEvents}
@@ -28,7 +28,7 @@ use Rattle.walk.proofs.ShownReadings.{shown-readings, shown-only}
 use Rattle.walk.proofs.GoodLists.{list-good, good-list}
 use Rattle.walk.proofs.Selecting.{shown-bad-book, shown-good-book}
 use Rattle.demands.specs.Damaged.{GoodBook, DamagedBook}
-use Rattle.demands.specs.DemandShown.{Finder, atoms, ShownCall, RefusesShown, DemandShown}
+use Rattle.demands.specs.DemandShown.{Finder, atoms, ShownCall, DemandShown}
 use Rattle.demands.proofs.Damaged.{every-book, damaged-bad, good-read, good-is}
 use Rattle.demands.proofs.Calls.{along, book-fits}
 

@@ -7,6 +7,7 @@ pub mod FindsBy
 pub mod Demand3
 pub mod DemandShown
 pub mod DemandNone
+pub mod DemandNames
 pub mod Printed
 pub mod Worked
 pub mod Forged
@@ -19,3 +20,4 @@ pub mod Choices
 pub mod UselessImports
 pub mod UselessShown
 pub mod UselessNone
+pub mod UselessNames

@@ -16,6 +16,8 @@ pub mod Reached
 pub mod Apart
 pub mod Refusals
 pub mod Numbers
+pub mod Rows
+pub mod Told
 pub mod Whose
 pub mod Solid
 pub mod Printed

@@ -38,7 +38,7 @@ known-more l w from to e f h =
 
 -- ---- looking for a word
 
-filled-at : (f : Word → ℕ) (l : List Word) (i : ℕ) → f noWord ≡ 0 → i < length l → getD (filled (map f l)) i 0 ≡ f (getD l i noWord)
+pub filled-at : (f : Word → ℕ) (l : List Word) (i : ℕ) → f noWord ≡ 0 → i < length l → getD (filled (map f l)) i 0 ≡ f (getD l i noWord)
 unfolding filled
 filled-at f l i z h =
     List·getD-append (map f l) _ 0 i (rw (length-map l f) h) ∙ ap (λ d. getD (map f l) i d) (sym z) ∙ List·getD-map f l i noWord

@@ -5,6 +5,7 @@ pub mod Terms
 pub mod Moves
 pub mod Reading
 pub mod Make
+pub mod Rows
 pub mod Progress
 pub mod Text
 pub mod Lines
