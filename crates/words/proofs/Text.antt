@@ -1,6 +1,6 @@
 -- Every book has a text, and is the same book behind it: the text of a book with good names says these names and the book's rules. So what a
 -- text says, printed again, says the same.
-use mathlib.Core.Path.{_≡_, refl, ap, sym, _∙_, subst}
+use mathlib.Core.Path.{_≡_, refl, sym, subst}
 use mathlib.Core.List.{List, [], _∷_, _++_, List·Memᴰ}
 use Prim.{tt, Unit}
 use Prim.Native.Nat.{ℕ, suc, _+_, _≤_, _<_}
@@ -8,17 +8,16 @@ use native.Mathlib.Omega.{arith}
 use lib.ListN.{length, getD, drop}
 use Rattle.meaning.specs.Books.{Rule, Book, count}
 use Rattle.meaning.specs.Told.{success}
-use Rattle.meaning.proofs.Choice.{lt-no}
-use Rattle.meaning.proofs.Tests.{apart}
 use Rattle.book.specs.Writing.{RuleFits, Fits, bytesOfBook}
 use Rattle.words.specs.declared.due.Due.the-variants.{Listing}
 use Rattle.words.specs.declared.decision.Act.the-variants.{Fix}
 use Rattle.words.specs.Words.{piecesAt}
 use Rattle.words.specs.Terms.{atomsWord}
 use Rattle.words.specs.Moves.{endedOf}
-use Rattle.words.specs.Reading.{State, done, Outcome, goes, wrong, followAt, heard, start, bookOf, Says, says, refused, namesOf, said, wordsIn}
-use Rattle.words.specs.Make.{Answer, handOver, makeHeard, makeOf}
+use Rattle.words.specs.Reading.{done, Outcome, goes, wrong, followAt, heard, start, Says, says, refused, namesOf, said, wordsIn}
+use Rattle.words.specs.Make.{makeOf}
 use Rattle.words.specs.Text.{GoodNames, ruleLines, textOf}
+use Rattle.words.specs.Rows.{bookSaid}
 use Rattle.words.proofs.Reached.{words-fit}
 use Rattle.words.proofs.Apart.{names-long, names-apart}
 use Rattle.words.proofs.Solid.{Solid, All, atoms-solid, name-solid}
@@ -26,6 +25,7 @@ use Rattle.words.proofs.Printed.{wordsFrom, names-from, line-read}
 use Rattle.words.proofs.Steps.{atoms-begin, step-goes, step-blank}
 use Rattle.words.proofs.Listing.{names-listed}
 use Rattle.words.proofs.RuleLines.{rules-read}
+use Rattle.words.proofs.Told.{said-made}
 
 all-solid : (l : List (List ℕ)) → ((i : ℕ) → i < length l → Solid (getD l i [])) → All Solid l
 unfolding All
@@ -71,30 +71,13 @@ again-read s l rs e = subst Again e (heard-again s (heard s) refl)
 
 -- ---- from a book to its bytes
 
-unfoldable bookSaid : Says → Book
-bookSaid (says l rs) = record { atoms = length l; rules = rs }
-bookSaid (refused i place) = record { atoms = 0; rules = [] }
-
-heard-book : (o : Outcome) (l : List (List ℕ)) (rs : List Rule) → said o ≡ says l rs
-    → (s : State) × (o ≡ goes s) × (bookOf s ≡ record { atoms = length l; rules = rs })
-unfolding said bookSaid
-heard-book (goes s) l rs e =
-    (s, refl, (λ i. record { atoms = sym (names-long (s .names)) i; rules = s .rules }) ∙ ap bookSaid e)
-heard-book (wrong i place) l rs e = apart (cc)
-
-handed : (s : State) (b : Book) → bookOf s ≡ b → (out from to : List ℕ) → length (bytesOfBook b) ≤ length out
-    → (handOver s out from to .told ≡ success (length (bytesOfBook b)))
-    × (handOver s out from to .book ≡ bytesOfBook b ++ drop (length (bytesOfBook b)) out)
-unfolding handOver
-handed s b q out from to h = rw q (ap (λ (a : Answer). a .told) (lt-no _ _ _ _ h), ap (λ (a : Answer). a .book) (lt-no _ _ _ _ h))
-
 -- the text of a book, made a book, is the same bytes
 pub text-made : (b : Book) (l : List (List ℕ)) → Fits b → GoodNames l → length l ≡ b .atoms
     → (out from to : List ℕ) → length (bytesOfBook b) ≤ length out
     → (makeOf (textOf b l) out from to .told ≡ success (length (bytesOfBook b)))
     × (makeOf (textOf b l) out from to .book ≡ bytesOfBook b ++ drop (length (bytesOfBook b)) out)
-unfolding makeHeard
-text-made b l f g e out from to h =
-    let (s, o, q) = heard-book (heard (textOf b l)) l (b .rules) (text-read b l f g e) in
-    let r : bookOf s ≡ b = q ∙ (λ i. record { atoms = e i; rules = b .rules }) in
-    rw o (handed s b r out from to h)
+text-made b l f g e out from to =
+    let same : bookSaid l (b .rules) ≡ b = λ i. record { atoms = e i; rules = b .rules } in
+    subst (λ c. length (bytesOfBook c) ≤ length out → (makeOf (textOf b l) out from to .told ≡ success (length (bytesOfBook c)))
+    × (makeOf (textOf b l) out from to .book ≡ bytesOfBook c ++ drop (length (bytesOfBook c)) out)) same
+    (said-made (textOf b l) out from to l (b .rules) (text-read b l f g e))
