@@ -9,8 +9,7 @@ use Rattle.meaning.specs.declared.AtomNo.{AtomNo}
 use Rattle.meaning.specs.declared.RuleNo.{RuleNo}
 use Rattle.meaning.specs.Sets.{every, some}
 use Rattle.meaning.specs.Books.{Atoms, rule}
-use Rattle.meaning.specs.Written.{of}
-use Rattle.meaning.specs.Colours.{Pair, heads, allIn, mayOn, blocked, starved}
+use Rattle.meaning.specs.Colours.{Pair, heads, allIn, mayOn, blocked}
 use Rattle.book.specs.declared.reader.Shape.{Shape}
 use Rattle.book.specs.Format.{bookIn, ReadAs}
 use Rattle.book.specs.Tables.{atomTable, atomsIn}
@@ -49,9 +48,3 @@ module _ (s : List ℕ) (h : Shape) (e : ReadAs s h) (n : h .atoms < 256) (r : R
     pub is-blocked-blocked : some (atomsIn headed) (rule (bookIn s) r .neg) ≡ blocked (bookIn s) c r
     unfolding blocked
     is-blocked-blocked = rw (f, some-table _ _ neg-small)
-
--- the nested search asks the rules themselves
-pub is-starved-starved : (s : List ℕ) (r : RuleNo) (c : Pair) (off : List Bool) → of off ≡ c .off
-    → some (allIn (bookIn s) (of off)) (rule (bookIn s) r .pos) ≡ starved (bookIn s) c r
-unfolding starved
-is-starved-starved s r c off e = rw e

@@ -14,7 +14,6 @@ use Rattle.meaning.specs.declared.AtomNo.{AtomNo}
 use Rattle.meaning.specs.Sets.{everyBelow, someBelow}
 use Rattle.meaning.specs.Books.{Atoms, Rules, atomNo, ruleNo, sameAtom, Book, count, rule, everyRule, someRule}
 use Rattle.meaning.specs.Bits.{tableFrom}
-use Rattle.meaning.specs.Written.{of}
 use Rattle.meaning.specs.Colours.{heads, allIn}
 use Rattle.meaning.proofs.Tests.{or-left, or-right}
 use Rattle.meaning.proofs.Sets.{all-next}
@@ -63,11 +62,6 @@ table-set x y a v h e f =
 pub other-atom : (a c : AtomNo) → (c .0 ≡ a .0 → ⊥) → sameAtom a c ≡ false
 unfolding sameAtom
 other-atom a c n = ne-eqb (a .0) (c .0) (λ e. n (sym e))
-
--- what is read at a place of a set of rules
-pub of-place : (l : List Bool) (n r : ℕ) (v : Bool) → n ≡ r → getD l n false ≡ v → of l (ruleNo r) ≡ v
-unfolding of
-of-place l n r v e h = rw (← e) h
 
 -- ---- heads, as far as rule k
 

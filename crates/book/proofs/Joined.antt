@@ -21,11 +21,9 @@ use Rattle.meaning.proofs.Cases.{choice}
 use Rattle.meaning.proofs.JoinedCases.{fact}
 use Rattle.book.specs.declared.reader.Shape.{Shape}
 use Rattle.book.specs.Format.{good, readOf, bookOf, bookIn, ReadAs}
-use Rattle.book.specs.Rows.{Bytes}
 use Rattle.book.specs.Writing.{atomBytes, BodyFits, RuleFits, Fits}
 use Rattle.book.specs.Writing.{recordBytes, recordsBytes, indexBytes, trailerBytes, bytesOfBook}
-use Rattle.book.proofs.Shape.{told-good, good-fits, good-rules-fit}
-use Rattle.book.proofs.Writing.{write-read}
+use Rattle.book.proofs.Shape.{good-rules-fit}
 use Rattle.book.proofs.ReadBack.{book-length, read-write}
 use Rattle.book.proofs.Places.{shape-good, shape-atoms, shape-count}
 use Rattle.book.proofs.Made.{records-append}
@@ -123,7 +121,7 @@ pub joined-fits-only : (b c : Book) → Fits (joined b c) → (b .atoms + c .ato
 unfolding joined
 joined-fits-only b c f = (f .atoms, rw (joined-count b c) at (f .rules))
 
--- ---- the same of bytes that were read as good, for whoever has their shapes
+-- ---- bytes that were read as good, for whoever has their shape
 
 -- a shape's counts are bytes
 pub shape-keeps : (s : List ℕ) (h : Shape) → ReadAs s h → h .atoms ≤ 255 → h .rules ≤ 255 → Fits (bookIn s)
@@ -132,36 +130,6 @@ shape-keeps s h e few-atoms few-rules = record {
   rules = rw (shape-count s h e) few-rules;
   each = λ q m. rw (shape-atoms s h e) (good-rules-fit (shape-good s h e) q m);
 }
-
-module _ (s : List ℕ) (h : Shape) (bytes : Bytes s) (e : ReadAs s h) where
-  read-good : readOf s ≡ good (h .atoms) (h .rules) (h .index) (bookIn s .rules)
-  unfolding bookIn
-  read-good = told-good (readOf s) _ _ _ e
-
-  shape-fits : Fits (bookIn s)
-  unfolding bookIn
-  shape-fits = good-fits s _ _ _ _ bytes read-good
-
-  shape-written : bytesOfBook (bookIn s) ≡ s
-  shape-written = write-read s _ _ _ _ bytes read-good
-
-  pub shape-own : Own (bookIn s)
-  shape-own = fits-own _ shape-fits
-
-module _ (s t : List ℕ) (h g : Shape) (bytes : Bytes s) (others : Bytes t) (e : ReadAs s h) (d : ReadAs t g)
-    (few-atoms : h .atoms + g .atoms ≤ 255) (few-rules : h .rules + g .rules ≤ 255) where
-  atoms-both : bookIn s .atoms + bookIn t .atoms ≤ 255
-  atoms-both = rw (shape-atoms s h e, shape-atoms t g d) few-atoms
-
-  rules-both : count (bookIn s) + count (bookIn t) ≤ 255
-  rules-both = rw (shape-count s h e, shape-count t g d) few-rules
-
-  pub read-joined-fits : Fits (joined (bookIn s) (bookIn t))
-  read-joined-fits = joined-fits _ _ (shape-fits s h bytes e) (shape-fits t g others d) atoms-both rules-both
-
-  pub read-joined-length : length (bytesOfBook (joined (bookIn s) (bookIn t))) ≡ length s + length t - 6
-  read-joined-length = joined-length _ _ (shape-fits s h bytes e) (shape-fits t g others d) atoms-both rules-both
-      ∙ rw (shape-written s h bytes e, shape-written t g others d)
 
 -- ---- worked bytes
 

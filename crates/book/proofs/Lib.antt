@@ -17,7 +17,9 @@ pub mod Bodies
 pub mod Places
 pub mod Asked
 pub mod AtomsFrom
+pub mod Puts
 pub mod Made
+pub mod MadeIndex
 pub mod Joined
 pub mod RowStores
 pub mod RuleRows

@@ -59,9 +59,9 @@ after-put-item2 c = c .before .before .before .before .before
 abbrev after-put-part : tie.After-put-part2 → tie.After-put-part
 after-put-part c = c .before .before .before .before .before
 
--- all the way, from behind the last part
-abbrev headed : tie.After-put-part2 → tie.After-wide
-headed c = c .before .before .before .before .before .before .before .before .before .before .before .before .before .before .before .before .before
+-- all the way, from where the line's end is put
+abbrev headed : tie.After-put-text-arg2 → tie.After-wide
+headed c = c .before .before .before .before .before .before .before .before .before .before .before .before .before .before .before .before .before .before .before .before .before
 
 put-item-requires : tie.Need-put-item-requires
 put-item-requires c κs = omega (arith, room (c .before))
@@ -86,7 +86,7 @@ put-part-requires-2 c κs =
 
 put-text-requires : tie.Need-put-text-requires
 put-text-requires c κs =
-    let fits = room (headed (c .before .before .before .before)) in
+    let fits = room (headed c) in
     omega (arith, fits)
 
 returns : tie.Need-returns
@@ -95,7 +95,7 @@ returns c =
     let part = after-put-part part2 in
     let item2 = after-put-item2 part in
     let item = after-put-item item2 in
-    let w = headed part2 in
+    let w = after-wide item in
     line-stored (put w) _ _ _ (head-put w) (positives-put w) (negatives-put w)
     (item .put-item .ensures) (item2 .put-item2 .ensures) (part .put-part .ensures)
     (part2 .put-part2 .ensures) (c .before .before .put-text .ensures)

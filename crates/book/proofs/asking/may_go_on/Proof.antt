@@ -29,8 +29,11 @@ module _ (c : tie.After-every-headed) where
       ∙ every-headed _ _ (start .pre .2) _ _ (pos-small _ (start .args .shape) (start .pre .0) n (start .args .r) (start .pre .1))
 
 module _ (c : tie.After-every-lost) where
+  abbrev after-every-headed : tie.After-every-headed
+  after-every-headed = c .before .before .before
+
   abbrev entry : tie.Start
-  entry = start (c .before .before .before)
+  entry = start after-every-headed
 
   lost : c .every-lost .result ≡ every (allIn (bookIn (entry .args .book .now)) (of (listed (entry .args .off .now)))) (rule (bookIn (entry .args .book .now)) (entry .args .r) .neg)
   lost =
@@ -44,7 +47,7 @@ returns c = sym (not-first _ (sym (headed (c .before)) ∙ not-true _ (c .if1 .t
 
 returns-2 : tie.Need-returns-2
 unfolding mayOn
-returns-2 c = then-decides (sym (headed (c .before .before .before)) ∙ not-false _ (c .before .before .if1 .left)) (lost c)
+returns-2 c = then-decides (sym (headed (after-every-headed c)) ∙ not-false _ (c .before .before .if1 .left)) (lost c)
 
 pub may-go-on-spec : {M : Type 1} → statement M
 may-go-on-spec =

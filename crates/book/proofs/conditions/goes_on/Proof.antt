@@ -24,9 +24,9 @@ returns c =
 
 every-in-requires-2 : tie.Need-every-in-requires-2
 every-in-requires-2 c κs =
-    let s = c .before .before .before .before .before in
-    let n : s .args .shape .atoms < 256 = search needs in
-    neg-below _ (s .args .shape) (s .pre .0) (s .args .r) (s .pre .1) n _ (c .negatives .ensures)
+    let start = c .before .before .before .before .before in
+    let n : start .args .shape .atoms < 256 = search needs in
+    neg-below _ (start .args .shape) (start .pre .0) (start .args .r) (start .pre .1) n _ (c .negatives .ensures)
 
 returns-2 : tie.Need-returns-2
 returns-2 c =

@@ -55,13 +55,13 @@ module _ (l : tie.At-loop Inv-loop μ-loop Inv-atoms μ-atoms) where
 
 atoms-again : tie.Need-atoms-again Inv-loop μ-loop Inv-atoms μ-atoms
 atoms-again c =
-    let t = c .before .before .before in
-    let w = t .before in
-    let l = w .before .before .before in
-    let k = outer l in
-    let n = shape-count _ (start l .args .shape) (start l .pre .0) in
-    let e = not-all-in (bookIn (start l .args .book .now)) (of (listed (start l .args .off .now))) (l .loop .q) _ _ (omega arith)
-    (c .before .before .head .ensures) (c .if3 .taken) (sym (w .has .ensures) ∙ not-true _ (t .if2 .taken)) in (
+    let tested = c .before .before .before in
+    let w = tested .before in
+    let turn = w .before .before .before in
+    let k = outer turn in
+    let n = shape-count _ (start turn .args .shape) (start turn .pre .0) in
+    let e = not-all-in (bookIn (start turn .args .book .now)) (of (listed (start turn .args .off .now))) (turn .loop .q) _ _ (omega arith)
+    (c .before .before .head .ensures) (c .if3 .taken) (sym (w .has .ensures) ∙ not-true _ (tested .if2 .taken)) in (
       search needs,
       k .atoms .inv .1 ∙ some-turn _ (k .before .positives .result .now) (k .atoms .i) (omega arith) ∙ rw e,
       k .atoms .inv .2,
@@ -69,18 +69,17 @@ atoms-again c =
 
 loop-again : tie.Need-loop-again Inv-loop μ-loop Inv-atoms μ-atoms
 loop-again c =
-    let l = c .before .before .before .before in (
+    let turn = c .before .before .before .before in (
       search needs,
-      ⊎-elim (λ w. all-at-other _ _ (l .loop .q) _ _ (w .1 .ensures) (w .3 .left) (l .loop .inv .1))
-          (λ w. all-at-skip _ _ (l .loop .q) _
-          (sym (c .before .has .ensures) ∙ not-false _ (w .left)) (l .loop .inv .1))
+      ⊎-elim (λ w. all-at-other _ _ (turn .loop .q) _ _ (w .1 .ensures) (w .3 .left) (turn .loop .inv .1))
+          (λ w. all-at-skip _ _ (turn .loop .q) _
+          (sym (c .before .has .ensures) ∙ not-false _ (w .left)) (turn .loop .inv .1))
           (c .if2 .came),
     )
 
 returns : tie.Need-returns Inv-loop μ-loop Inv-atoms μ-atoms
 returns c =
     let k = c .before in
-    let s = k .before .before .before in
     k .atoms .inv .2
     ∙ sym
     (sym (some-part _ _ _ (k .before .positives .ensures)) ∙ k .atoms .inv .1
@@ -89,9 +88,8 @@ returns c =
 returns-2 : tie.Need-returns-2 Inv-loop μ-loop Inv-atoms μ-atoms
 returns-2 c =
     let l = c .before .before in
-    let k = l .before .before .before in
-    let s = k .before .before .before in
-    let n = shape-count _ (s .args .shape) (s .pre .0) in
+    let k = outer l in
+    let n = shape-count _ (start l .args .shape) (start l .pre .0) in
     sym
     (sym (some-part _ _ _ (k .before .positives .ensures)) ∙ k .atoms .inv .1
     ∙ some-turn _ (k .before .positives .result .now) (k .atoms .i) (omega arith)

@@ -47,10 +47,10 @@ add-t8 c =
 
 returns-3 : tie.Need-returns-3
 returns-3 c =
-    let e = c .before .before .before in
-    let tested = e .before .before .before .before in
-    let r = room e in
-    let a = start (e .before) .args in
+    let earlier = c .before .before .before in
+    let tested = earlier .before .before .before .before in
+    let r = room earlier in
+    let a = start (earlier .before) .args in
     adds-made _ _ (listed (a .pos .now)) (listed (a .neg .now)) (not-false _ (tested .if1 .left)) r (listed-small (a .pos .now) (room-pos _ _ _ _ r))
     (listed-small (a .neg .now) (room-neg _ _ _ _ r)) (c .before .write-record .ensures)
 

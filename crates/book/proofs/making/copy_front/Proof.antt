@@ -4,7 +4,7 @@ use Prim.Native.Nat.{_-_, _≤_}
 use native.Mathlib.Omega.{arith}
 use borrow.Author.Needs.{needs}
 use lib.ListN.{length, length-set}
-use Rattle.book.proofs.Made.{copied, copy-turn, copy-end}
+use Rattle.book.proofs.Puts.{copied, copy-turn, copy-end}
 use Rattle.book.proofs.making.copy_front.Statement.{statement}
 use Rattle.book.proofs.making.copy_front.Tie as tie
 

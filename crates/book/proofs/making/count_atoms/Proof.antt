@@ -7,7 +7,7 @@ use borrow.Author.Needs.{needs}
 use lib.ListN.{length}
 use Rattle.book.specs.Making.{saidOf, atomsFrom}
 use Rattle.book.proofs.AtomsFrom.{atoms-length}
-use Rattle.book.proofs.Made.{count-none, count-in, count-out}
+use Rattle.book.proofs.Puts.{count-none, count-in, count-out}
 use Rattle.book.proofs.making.count_atoms.Statement.{statement}
 use Rattle.book.proofs.making.count_atoms.Tie as tie
 
@@ -22,18 +22,18 @@ loop-holds c = (search needs, count-none (c .args .table .now))
 
 add-n : tie.Need-add-n Inv-loop μ-loop
 add-n c =
-    let k = c .before .before .before in
-    let h = atoms-length 0 (k .loop .a) (saidOf (k .before .args .table .now)) in
+    let turn = c .before .before .before in
+    let h = atoms-length 0 (turn .loop .a) (saidOf (turn .before .args .table .now)) in
     search needs
 
 loop-again : tie.Need-loop-again Inv-loop μ-loop
 loop-again c =
-    let k = c .before .before .before in
-    let t = k .before .args .table .now in (
+    let turn = c .before .before .before in
+    let t = turn .before .args .table .now in (
       search needs,
       ⊎-elim
-          (λ w. count-in t (k .loop .a) (k .loop .inv .1) (w .0 .taken) (w .1))
-          (λ w. count-out t (k .loop .a) (k .loop .inv .1) (w .0 .left) (w .1)) (c .if1 .came),
+          (λ w. count-in t (turn .loop .a) (turn .loop .inv .1) (w .0 .taken) (w .1))
+          (λ w. count-out t (turn .loop .a) (turn .loop .inv .1) (w .0 .left) (w .1)) (c .if1 .came),
     )
 
 returns : tie.Need-returns Inv-loop μ-loop

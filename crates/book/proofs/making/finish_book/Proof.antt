@@ -3,7 +3,9 @@ use Prim.Native.Nat.{_≤_}
 use native.Mathlib.Omega.{arith}
 use borrow.Author.Needs.{needs}
 use Rattle.book.specs.Writing.{trailerBytes}
-use Rattle.book.proofs.Made.{puts-then, made-whole, whole-size, index-ends, finished}
+use Rattle.book.proofs.Puts.{puts-then}
+use Rattle.book.proofs.Made.{made-whole, whole-size}
+use Rattle.book.proofs.MadeIndex.{index-ends, finished}
 use Rattle.book.proofs.making.finish_book.Statement.{statement}
 use Rattle.book.proofs.making.finish_book.Tie as tie
 

@@ -6,7 +6,7 @@ use native.Mathlib.Omega.{arith}
 use borrow.Author.Needs.{needs}
 use Rattle.book.specs.Writing.{atomBytes}
 use Rattle.book.specs.Making.{saidOf, atomsFrom, Puts}
-use Rattle.book.proofs.Made.{atoms-begun, atoms-put, atoms-skipped, atoms-room}
+use Rattle.book.proofs.Puts.{atoms-begun, atoms-put, atoms-skipped, atoms-room}
 use Rattle.book.proofs.making.write_atoms.Statement.{statement}
 use Rattle.book.proofs.making.write_atoms.Tie as tie
 
@@ -21,22 +21,22 @@ loop-holds c = (search needs, atoms-begun (c .args .table .now) _ _)
 
 write-byte-requires : tie.Need-write-byte-requires Inv-loop μ-loop
 write-byte-requires c κs =
-    let k = c .before .before .before .before .before in
-    let a = k .before .args in
-    let w = c .before .before .before in
-    atoms-room (a .table .now) (a .at) _ (k .loop .inv .1) (omega arith) (rw (← w .wide .ensures .0) (c .before .if1 .taken))
-    (k .before .pre)
+    let turn = c .before .before .before .before .before in
+    let a = turn .before .args in
+    let after-wide = c .before .before .before in
+    atoms-room (a .table .now) (a .at) _ (turn .loop .inv .1) (omega arith) (rw (← after-wide .wide .ensures .0) (c .before .if1 .taken))
+    (turn .before .pre)
 
 loop-again : tie.Need-loop-again Inv-loop μ-loop
 loop-again c =
-    let k = c .before .before .before .before in
-    let a = k .before .args in
+    let turn = c .before .before .before .before in
+    let a = turn .before .args in
     let t = a .table .now in
     let e = c .before .before .wide .ensures .0 in (
       search needs,
       ⊎-elim
-          (λ w. rw (w .3, w .4) (atoms-put t (a .at) _ (k .loop .inv .1) e (w .0 .taken) (w .2 .ensures)))
-          (λ w. rw (w .1, w .2) (atoms-skipped t (a .at) _ (k .loop .inv .1) e (w .0 .left))) (c .if1 .came),
+          (λ w. rw (w .3, w .4) (atoms-put t (a .at) _ (turn .loop .inv .1) e (w .0 .taken) (w .2 .ensures)))
+          (λ w. rw (w .1, w .2) (atoms-skipped t (a .at) _ (turn .loop .inv .1) e (w .0 .left))) (c .if1 .came),
     )
 
 returns : tie.Need-returns Inv-loop μ-loop

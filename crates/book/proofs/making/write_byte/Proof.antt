@@ -1,7 +1,7 @@
 -- One byte is stored.
 use native.Mathlib.Omega.{arith}
 use borrow.Author.Needs.{needs}
-use Rattle.book.proofs.Made.{puts-one}
+use Rattle.book.proofs.Puts.{puts-one}
 use Rattle.book.proofs.making.write_byte.Statement.{statement}
 use Rattle.book.proofs.making.write_byte.Tie as tie
 

@@ -7,8 +7,8 @@ use borrow.Author.Needs.{needs}
 use lib.ListN.{length}
 use Rattle.meaning.specs.Books.{Rule}
 use Rattle.book.specs.Making.{Made}
-use Rattle.book.proofs.Made.{Whole, made-whole, whole-size, Indexed, indexed-none, indexed-inside, indexed-room, indexed-more}
-use Rattle.book.proofs.Made.{indexed-all}
+use Rattle.book.proofs.Made.{Whole, made-whole, whole-size}
+use Rattle.book.proofs.MadeIndex.{Indexed, indexed-none, indexed-inside, indexed-room, indexed-more, indexed-all}
 use Rattle.book.proofs.making.write_index.Statement.{statement}
 use Rattle.book.proofs.making.write_index.Tie as tie
 
@@ -50,20 +50,22 @@ write-number-requires c κs =
     (indexed-room (held t l g) (turn t .loop .inv .1 l g) (more t l g), omega (arith, inside t, small t))
 
 size-at-requires : tie.Need-size-at-requires Inv-loop μ-loop
-size-at-requires c κs = let t = c .before .before .before in omega (arith, inside t, small t)
+size-at-requires c κs =
+    let tested = c .before .before .before in
+    omega (arith, inside tested, small tested)
 
 add-start : tie.Need-add-start Inv-loop μ-loop
 add-start c =
-    let t = c .before .before .before .before in
-    let i = inside t in
-    let s = small t in
+    let tested = c .before .before .before .before in
+    let i = inside tested in
+    let s = small tested in
     search needs
 
 loop-again : tie.Need-loop-again Inv-loop μ-loop
 loop-again c =
-    let t = c .before .before .before .before in (
+    let tested = c .before .before .before .before in (
       omega arith,
-      λ l g. indexed-more (held t l g) (turn t .loop .inv .1 l g) (more t l g) (c .before .before .write-number .ensures)
+      λ l g. indexed-more (held tested l g) (turn tested .loop .inv .1 l g) (more tested l g) (c .before .before .write-number .ensures)
           (c .size-at .ensures .0) (search needs),
     )
 

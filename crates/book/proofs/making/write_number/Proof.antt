@@ -1,7 +1,7 @@
 -- Two bytes, one behind the other.
 use native.Mathlib.Omega.{arith}
 use borrow.Author.Needs.{needs}
-use Rattle.book.proofs.Made.{puts-then}
+use Rattle.book.proofs.Puts.{puts-then}
 use Rattle.book.proofs.making.write_number.Statement.{statement}
 use Rattle.book.proofs.making.write_number.Tie as tie
 

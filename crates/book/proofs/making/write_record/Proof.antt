@@ -4,7 +4,7 @@ use borrow.Author.Needs.{needs}
 use lib.ListN.{length-map}
 use Rattle.book.specs.Writing.{recordBytes}
 use Rattle.book.specs.Making.{listed}
-use Rattle.book.proofs.Made.{puts-then, puts-as}
+use Rattle.book.proofs.Puts.{puts-then, puts-as}
 use Rattle.book.proofs.making.write_record.Statement.{statement}
 use Rattle.book.proofs.making.write_record.Tie as tie
 

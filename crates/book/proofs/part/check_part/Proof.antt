@@ -23,24 +23,24 @@ loop-holds c = (search needs, rw add-zero)
 
 returns : tie.Need-returns Inv-loop μ-loop
 returns c =
-    let k = c .before .before .before in
+    let turn = c .before .before .before in
     sym
-    (k .loop .inv .1 ∙ part-turn (k .before .args .s .now) (k .loop .i) _ _ _ (omega arith)
+    (turn .loop .inv .1 ∙ part-turn (turn .before .args .s .now) (turn .loop .i) _ _ _ (omega arith)
     ∙ lt-no _ _ _ _ (omega arith))
 
 returns-2 : tie.Need-returns-2 Inv-loop μ-loop
 returns-2 c =
-    let k = c .before .before .before .before in
+    let turn = c .before .before .before .before in
     sym
-    (k .loop .inv .1 ∙ part-turn (k .before .args .s .now) (k .loop .i) _ _ _ (omega arith)
+    (turn .loop .inv .1 ∙ part-turn (turn .before .args .s .now) (turn .loop .i) _ _ _ (omega arith)
     ∙ lt-yes _ _ _ _ (omega arith) ∙ lt-yes _ _ _ _ (omega arith))
 
 loop-again : tie.Need-loop-again Inv-loop μ-loop
 loop-again c =
-    let k = c .before .before .before .before in (
+    let turn = c .before .before .before .before in (
       search needs,
       rw (← add-assoc)
-          (k .loop .inv .1 ∙ part-turn (k .before .args .s .now) (k .loop .i) _ _ _ (omega arith)
+          (turn .loop .inv .1 ∙ part-turn (turn .before .args .s .now) (turn .loop .i) _ _ _ (omega arith)
           ∙ lt-yes _ _ _ _ (omega arith) ∙ lt-no _ _ _ _ (omega arith)),
     )
 

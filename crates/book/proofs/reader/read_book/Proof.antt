@@ -61,8 +61,8 @@ module _ (c : tie.After-check-records) where
 
 returns-6 : tie.Need-returns-6
 returns-6 c =
-    let p = c .before .before .before in
-    read-wrong (framed p) _ (p .check-records .ensures) _ _ (ap checked (c .before .why .given .1))
+    let after-check-records = c .before .before .before in
+    read-wrong (framed after-check-records) _ (after-check-records .check-records .ensures) _ _ (ap checked (c .before .why .given .1))
 
 returns-7 : tie.Need-returns-7
 returns-7 c =

@@ -49,20 +49,20 @@ returns-5 c = sym (bytes (c .before .before) ∙ bytes-head _ _ _ _ _ (omega ari
 
 returns-6 : tie.Need-returns-6
 returns-6 c =
-    let p = c .before .before .before in
-    let earlier = p .before .before .before .before in
+    let after-check-part = c .before .before .before in
+    let earlier = after-check-part .before .before .before .before in
     sym
     (bytes earlier ∙ bytes-parts _ _ _ _ _ (omega arith)
-    ∙ after-wrong _ _ _ (p .check-part .ensures) _ _ (ap checked (c .before .why .given .1)))
+    ∙ after-wrong _ _ _ (after-check-part .check-part .ensures) _ _ (ap checked (c .before .why .given .1)))
 
 returns-7 : tie.Need-returns-7
 returns-7 c =
-    let p = c .before .before .before .before in
-    let earlier = p .before .before .before .before in
+    let after-check-part = c .before .before .before .before in
+    let earlier = after-check-part .before .before .before .before in
     c .check-part2 .ensures
     ∙ sym
     (bytes earlier ∙ bytes-parts _ _ _ _ _ (omega arith)
-    ∙ after-fine _ _ _ (p .check-part .ensures) (ap checked (c .before .before .enum-told .given .1)))
+    ∙ after-fine _ _ _ (after-check-part .check-part .ensures) (ap checked (c .before .before .enum-told .given .1)))
 
 pub check-record-spec : {M : Type 1} → statement M
 check-record-spec =

@@ -27,9 +27,9 @@ loop-holds c = (search needs, search needs, rw sub-zero)
 
 returns : tie.Need-returns Inv-loop μ-loop
 returns c =
-    let k = c .before .before .before in
+    let turn = c .before .before .before in
     sym
-    (k .loop .inv .2 ∙ records-turn _ _ _ (k .before .before .args .rules) (k .loop .rule) _ (omega arith)
+    (turn .loop .inv .2 ∙ records-turn _ _ _ (turn .before .before .args .rules) (turn .loop .rule) _ (omega arith)
     ∙ eq-no _ _ _ _ (λ e. omega arith))
 
 -- the record that starts where the index says is found: the turn of the loop, the start, and what is asked of it and of the rest
@@ -66,8 +66,8 @@ module _ (c : tie.After-enum-told Inv-loop μ-loop) where
 
 returns-2 : tie.Need-returns-2 Inv-loop μ-loop
 returns-2 c =
-    let p = c .before .before .before in
-    sym (asked p ∙ after-wrong _ _ _ (p .check-record .ensures) _ _ (ap checked (c .before .why .given .1)))
+    let after-check-record = c .before .before .before in
+    sym (asked after-check-record ∙ after-wrong _ _ _ (after-check-record .check-record .ensures) _ _ (ap checked (c .before .why .given .1)))
 
 record-length-requires : tie.Need-record-length-requires Inv-loop μ-loop
 record-length-requires c κs = record-fine _ _ _ (right (c .before)) .room

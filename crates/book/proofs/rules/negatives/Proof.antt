@@ -7,10 +7,10 @@ use Rattle.book.proofs.rules.negatives.Tie as tie
 
 returns : tie.Need-returns
 returns c =
-    let w = c .before .before .before in
-    let p = w .before .before in
-    part-taken (p .before .before .args .book .now) (p .start-of .result + 3 + w .wide .result) _ _ _ (c .before .wide2 .ensures .0)
-    (rw (← w .wide .ensures .0) at (p .start-of .ensures .neg))
+    let after-wide = c .before .before .before in
+    let p = after-wide .before .before in
+    part-taken (p .before .before .args .book .now) (p .start-of .result + 3 + after-wide .wide .result) _ _ _ (c .before .wide2 .ensures .0)
+    (rw (← after-wide .wide .ensures .0) at (p .start-of .ensures .neg))
 
 pub negatives-spec : {M : Type 1} → statement M
 negatives-spec =

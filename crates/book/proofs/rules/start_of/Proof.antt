@@ -21,10 +21,10 @@ u16-at-requires c κs =
 
 returns : tie.Need-returns
 returns c =
-    let k = c .before .before .before .before in
-    rule-at _ (k .args .shape) (k .pre .0) (k .args .r) (k .pre .1) _
+    let start = c .before .before .before .before in
+    rule-at _ (start .args .shape) (start .pre .0) (start .args .r) (start .pre .1) _
     (c .u16-at .ensures .0
-    ∙ ap (λ i. u16At (k .args .book .now) (k .args .shape .index + 2 * i)) (c .before .before .wide .ensures .0))
+    ∙ ap (λ i. u16At (start .args .book .now) (start .args .shape .index + 2 * i)) (c .before .before .wide .ensures .0))
 
 pub start-of-spec : {M : Type 1} → statement M
 start-of-spec = tie.close (tie.spec (λ c κs. search needs) (λ c. search needs) add-u16-at u16-at-requires returns)

@@ -22,15 +22,15 @@ loop-holds c = (omega arith, c .before .pre .1, refl)
 
 enter-requires : tie.Need-enter-requires Inv-loop μ-loop
 enter-requires c κs =
-    let k = c .before .before .before .before in
-    (omega (arith, c .wide .ensures .1, k .before .before .pre .0), k .loop .inv .1)
+    let turn = c .before .before .before .before in
+    (omega (arith, c .wide .ensures .1, turn .before .before .pre .0), turn .loop .inv .1)
 
 loop-again : tie.Need-loop-again Inv-loop μ-loop
 loop-again c =
     let w = c .before in
-    let k = w .before .before .before .before in
-    let s = k .before .before in
-    (search needs, c .enter .ensures .1, part-again _ _ (s .args .part .now) (k .loop .i) _ _ (k .loop .inv .2) (w .wide .result) _ (omega arith) (w .wide .ensures .0) (c .enter .ensures .0))
+    let turn = w .before .before .before .before in
+    let s = turn .before .before in
+    (search needs, c .enter .ensures .1, part-again _ _ (s .args .part .now) (turn .loop .i) _ _ (turn .loop .inv .2) (w .wide .result) _ (omega arith) (w .wide .ensures .0) (c .enter .ensures .0))
 
 returns : tie.Need-returns Inv-loop μ-loop
 returns c =

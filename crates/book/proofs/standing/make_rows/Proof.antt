@@ -21,20 +21,20 @@ loop-holds c = (omega arith, length-replicate {A = ℕ} 3072 0, rows-none _)
 
 enter-rule-requires : tie.Need-enter-rule-requires Inv-loop μ-loop
 enter-rule-requires c κs =
-    let k = c .before .before .before in
-    let start = k .before .before .before in
-    (start .pre, omega arith, k .loop .inv .1)
+    let turn = c .before .before .before in
+    let start = turn .before .before .before in
+    (start .pre, omega arith, turn .loop .inv .1)
 
 loop-again : tie.Need-loop-again Inv-loop μ-loop
 loop-again c =
-    let k = c .before .before .before .before in
-    (search needs, c .enter-rule .ensures .1, rows-more _ (k .loop .r) _ _ (k .loop .inv .2) (c .enter-rule .ensures .0))
+    let turn = c .before .before .before .before in
+    (search needs, c .enter-rule .ensures .1, rows-more _ (turn .loop .r) _ _ (turn .loop .inv .2) (c .enter-rule .ensures .0))
 
 returns : tie.Need-returns Inv-loop μ-loop
 returns c =
     let k = c .before .before in
-    let s = k .before .before .before in
-    rows-end _ (s .args .shape) (s .pre) (search needs) (k .loop .r) _ (omega arith) (k .loop .inv .1) (k .loop .inv .2)
+    let start = k .before .before .before in
+    rows-end _ (start .args .shape) (start .pre) (search needs) (k .loop .r) _ (omega arith) (k .loop .inv .1) (k .loop .inv .2)
 
 pub make-rows-spec : {M : Type 1} → statement M
 make-rows-spec =
