@@ -2,12 +2,13 @@
 // one that is measured.
 
 use crate::book::Book;
-use crate::closing::{close_chosen, close_first};
+use crate::closing::{close, close_or_clash};
 use crate::colouring::{Colouring, Side};
 use crate::desk;
 use crate::draft::Draft;
 use crate::numbers::RuleNo;
 use crate::rows::Rows;
+use crate::set::Rules;
 use crate::year;
 
 /// Lines of document 01's worked books, of its refusals, and of what is no command.
@@ -69,18 +70,19 @@ fn closings() -> Result<(), String> {
     let bytes = draft.bytes();
     let book = Book::read(&bytes).map_err(|refusal| format!("refused {}", refusal.number))?;
     let rows = Rows::new(&book);
-    let mut c = close_first(&book, &rows);
+    let mut c = close(&book, &rows, Rules::EMPTY, Rules::EMPTY);
     expect("the first closing", &told(&c), &(vec![5], vec![], vec![0; 8]))?;
     let mut other = c;
-    close_chosen(&book, &rows, &mut other, RuleNo(0), Side::On);
+    let ended = close_or_clash(&book, &rows, &mut other, RuleNo(0), Side::On);
+    expect("rule 0 on ends", &ended, &true)?;
     expect(
         "rule 0 on",
         &told(&other),
         &(vec![0, 2, 3, 4, 5], vec![1], vec![1, 1, 1, 1, 1, 0, 0, 0]),
     )?;
-    close_chosen(&book, &rows, &mut c, RuleNo(0), Side::Off);
+    close_or_clash(&book, &rows, &mut c, RuleNo(0), Side::Off);
     expect("rule 0 off", &told(&c), &(vec![1, 5], vec![0, 2, 3, 4], vec![1, 1, 1, 1, 1, 0, 0, 0]))?;
-    close_chosen(&book, &rows, &mut c, RuleNo(6), Side::On);
+    close_or_clash(&book, &rows, &mut c, RuleNo(6), Side::On);
     expect(
         "rule 6 on",
         &told(&c),

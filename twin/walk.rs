@@ -2,7 +2,7 @@
 // walks from the closed colouring: with the lowest uncoloured rule on, then with it off.
 
 use crate::book::{Book, Refusal};
-use crate::closing::{close_chosen, close_first};
+use crate::closing::{close, close_or_clash};
 use crate::colouring::{Colouring, Side};
 use crate::numbers::{Number, RuleNo};
 use crate::rows::Rows;
@@ -44,11 +44,11 @@ pub fn find(bytes: &[u8], k: u32, limit: u32, answer: &mut [u8]) -> Found {
     }
     let rows = Rows::new(&book);
     let mut walk =
-        Walk { book: &book, rows: &rows, k, limit, tries: 0, sets: 0, clash: None, answer };
+        Walk { book: &book, rows: &rows, k, limit, tries: 0, sets: 0, origin: None, answer };
     match walk.start() {
         Err(Halt::Found) => Found::Set(walk.tries),
         Err(Halt::Limit) => Found::Stopped,
-        Ok(()) => Found::Fewer { tries: walk.tries, sets: walk.sets, clash: walk.clash },
+        Ok(()) => Found::Fewer { tries: walk.tries, sets: walk.sets, clash: walk.clash() },
     }
 }
 
@@ -59,22 +59,40 @@ struct Walk<'a> {
     limit: u32,
     tries: u32,
     sets: u32,
-    clash: Option<RuleNo>,
+    /// The sets, on and off, from which the last contradictory try was closed.
+    origin: Option<(Rules, Rules)>,
     answer: &'a mut [u8],
 }
 
 impl<'a> Walk<'a> {
+    /// The first closing, which never comes to a contradiction.
     fn start(&mut self) -> Result<(), Halt> {
         self.count_try()?;
-        self.go_on(&close_first(self.book, self.rows))
+        self.go_on(&close(self.book, self.rows, Rules::EMPTY, Rules::EMPTY))
     }
 
     /// One try with the rule chosen, and what follows it.
     fn choose(&mut self, d: &Colouring, r: RuleNo, side: Side) -> Result<(), Halt> {
         self.count_try()?;
         let mut c = *d;
-        close_chosen(self.book, self.rows, &mut c, r, side);
-        self.go_on(&c)
+        if close_or_clash(self.book, self.rows, &mut c, r, side) {
+            return self.go_on(&c);
+        }
+        let (mut on, mut off) = (d.on, d.off);
+        match side {
+            Side::On => on.insert(r),
+            Side::Off => off.insert(r),
+        }
+        self.origin = Some((on, off));
+        Ok(())
+    }
+
+    /// The rule of the last contradictory try: the one closing that goes on to its end after a
+    /// contradiction.
+    fn clash(&self) -> Option<RuleNo> {
+        let (on, off) = self.origin?;
+        let closed = close(self.book, self.rows, on, off);
+        closed.on.intersection(&closed.off).lowest()
     }
 
     fn count_try(&mut self) -> Result<(), Halt> {
@@ -85,12 +103,8 @@ impl<'a> Walk<'a> {
         Ok(())
     }
 
-    /// Walks on from a closed colouring.
+    /// Walks on from a closed colouring without contradiction.
     fn go_on(&mut self, d: &Colouring) -> Result<(), Halt> {
-        if let Some(r) = d.on.intersection(&d.off).lowest() {
-            self.clash = Some(r);
-            return Ok(());
-        }
         match self.rows.all.difference(&d.coloured()).lowest() {
             None => self.meet(&d.on),
             Some(r) => {

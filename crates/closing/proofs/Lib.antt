@@ -16,6 +16,7 @@ pub mod Suspecting
 pub mod Clearing
 pub mod Dropping
 pub mod Closed
+pub mod Leaving
 pub mod Picked
 pub mod Left
 pub mod Laws

@@ -1,6 +1,6 @@
 -- The way down to a reading (specs/Levels; request 8, V7), level by level as in Events: it ends at the colouring that the walk met, so the
 -- levels told of the k-th reading are those of its colouring. And what the code of src/levels.rt keeps to on its way.
-use mathlib.Core.Path.{_≡_, refl, sym, _∙_, ap}
+use mathlib.Core.Path.{_≡_, refl, sym, _∙_, ap, subst}
 use mathlib.Core.Logic.{⊎-elim}
 use mathlib.Core.Bool.{Bool, true, false}
 use mathlib.Core.List.{List, [], _∷_, List·Memᴰ, List·Memᴰ·head, List·Memᴰ·tail, List·Memᴰ·not-nil, List·Memᴰ·cases-cons}
@@ -19,11 +19,14 @@ use Rattle.meaning.proofs.Written.{Sized, sized-nothing, sized-chosen}
 use Rattle.meaning.proofs.Closing.{close-sized}
 use Rattle.meaning.proofs.Tests.{apart}
 use Rattle.closing.specs.Left.{left, Shallow}
+use Rattle.closing.specs.Taken.{taken, Ready, Takes}
+use Rattle.closing.specs.declared.choice.Choice.{Choice}
+use Rattle.closing.specs.declared.choice.Choice.the-variants.{On, Off}
 use Rattle.closing.proofs.Left.{left-count}
 use Rattle.walk.specs.Events.{Event, clash, fork, reading, quiet, events}
 use Rattle.walk.specs.Readings.{readingOf, readingsIn}
 use Rattle.walk.specs.Tries.{Kth}
-use Rattle.walk.specs.Levels.{sideOf, afterDown, downIn, down}
+use Rattle.walk.specs.Levels.{sideOf, choiceOf, afterDown, downIn, down}
 use Rattle.walk.proofs.Events.{Closes, Forks, below-sized, below-left, fork-falls, fork-shallow, Walk, at-clash, at-reading, at-fork, walks}
 use Rattle.walk.proofs.Forks.{side-on, side-off}
 use Rattle.walk.proofs.Readings.{walk-sound}
@@ -107,15 +110,33 @@ module _ (b : Book) (fits : count b ≤ 255) where
 
 -- ---- what the code keeps to on its way down
 
--- the side of a rule, by the test whether it generates the set
-module _ (b : Book) (x : Atoms) (r : RuleNo) (d : Tables) {e : Tables} {g : Bool} (q : g ≡ generating b x r) where
-  pub follow-on : g ≡ true → e ≡ chosen onSide r d → e ≡ chosen (sideOf (generating b x r)) r d
-  unfolding sideOf
-  follow-on t f = rw (sym q ∙ t) f
+-- the choice of a rule, by the test whether it generates the set
+module _ (r : RuleNo) {g h : Bool} (q : g ≡ h) where
+  pub follow-on : g ≡ true → On r ≡ choiceOf h r
+  unfolding choiceOf
+  follow-on t = ap (λ (x : Bool). choiceOf x r) (sym t ∙ q)
 
-  pub follow-off : g ≡ false → e ≡ chosen offSide r d → e ≡ chosen (sideOf (generating b x r)) r d
-  unfolding sideOf
-  follow-off t f = rw (sym q ∙ t) f
+  pub follow-off : g ≡ false → Off r ≡ choiceOf h r
+  unfolding choiceOf
+  follow-off t = ap (λ (x : Bool). choiceOf x r) (sym t ∙ q)
+
+-- what it comes to where it is taken
+module _ (g : Bool) (r : RuleNo) {k : Choice} (e : k ≡ choiceOf g r) (d : Tables) where
+  pub follow-taken : taken k d ≡ chosen (sideOf g) r d
+  unfolding choiceOf sideOf
+  follow-taken = ap (λ (j : Choice). taken j d) e ∙ each g
+    where
+      each : (g : Bool) → taken (choiceOf g r) d ≡ chosen (sideOf g) r d
+      each true = refl
+      each false = refl
+
+  pub follow-takes : {b : Book} → Ready b d r → Takes b d k
+  unfolding choiceOf
+  follow-takes {b} ready = subst (Takes b d) (sym e) (each g)
+    where
+      each : (g : Bool) → Takes b d (choiceOf g r)
+      each true = ready
+      each false = ready
 
 pub record Descends (b : Book) (x : Atoms) (c : Tables) : Type 0 where
   pub sized : Sized c

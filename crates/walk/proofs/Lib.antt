@@ -45,5 +45,6 @@ pub mod SameRules
 pub mod Searching
 pub mod ShownSets
 pub mod Remembering
+pub mod ToldClash
 pub mod GoodLists
 pub mod Selecting

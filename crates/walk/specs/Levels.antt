@@ -24,6 +24,8 @@ use Rattle.meaning.specs.Written.{of, levelOf, nothing, chosen, pair}
 use Rattle.meaning.specs.Computed.{close}
 use Rattle.meaning.specs.Lowest.{Pick, none, one, lowest, clashed}
 use Rattle.book.specs.Format.{BookRead, good, bad, readOf}
+use Rattle.closing.specs.declared.choice.Choice.{Choice}
+use Rattle.closing.specs.declared.choice.Choice.the-variants.{On, Off}
 use Rattle.walk.specs.Events.{events}
 use Rattle.walk.specs.Run.{State, run}
 use Rattle.walk.specs.Find.{startOf, toldBy}
@@ -55,6 +57,11 @@ dropped m e = record { on = kept m e (e .on); off = kept m e (e .off) }
 unfoldable pub sideOf : Bool → Side
 sideOf true = onSide
 sideOf false = offSide
+
+-- the choice of the rule on that side
+unfoldable pub choiceOf : Bool → RuleNo → Choice
+choiceOf true r = On r
+choiceOf false r = Off r
 
 -- after a closing that gave d: it ends at a contradiction and where every rule has a colour
 unfoldable pub afterDown : Book → Tables → Atoms → Pick → Pick → (Tables → Tables) → Tables

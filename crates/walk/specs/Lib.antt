@@ -7,6 +7,7 @@ pub mod Find
 pub mod Page
 pub mod Listing
 pub mod Room
+pub mod Origin
 pub mod Levels
 pub mod Shown
 pub mod FirstAlike

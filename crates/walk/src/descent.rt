@@ -6,12 +6,12 @@ ghost use lib.ListN.{length, take};
 ghost use Rattle.meaning.specs.AnswerSet.{generating};
 ghost use Rattle.meaning.specs.Told.{Answered};
 ghost use Rattle.meaning.specs.Buffers.{writeAt};
-ghost use Rattle.meaning.specs.Written.{written, nothing, chosen};
+ghost use Rattle.meaning.specs.Written.{written, nothing};
 ghost use Rattle.book.specs.Format.{bookIn, ReadAs};
 ghost use Rattle.book.specs.RuleRows.{RuleRows};
 ghost use Rattle.walk.specs.Find.{told};
 ghost use Rattle.walk.specs.Page.{setIn};
-ghost use Rattle.walk.specs.Levels.{sideOf, down, levelsIn, levelsOf};
+ghost use Rattle.walk.specs.Levels.{choiceOf, down, levelsIn, levelsOf};
 use crate::colours::lowest_uncoloured;
 use crate::kth::Found;
 use crate::kth::kth_by;
@@ -22,22 +22,22 @@ use book::Read;
 use book::Shape;
 use book::make_rows;
 use book::read_book;
+use closing::Choice;
 use closing::Picked;
-use closing::close;
+use closing::close_chosen;
 use meaning::Colouring;
 use meaning::RuleNo;
 
 // The choice that the row's set makes: the rule goes on if it generates the set.
-fn follow(book: &[u8], shape: Shape, d: Colouring, r: RuleNo, row: &[u8]) -> Colouring
-    requires { ⌜ ReadAs (now book) shape × (r .0 < shape .rules) × (d .level < 255) ⌝ }
-    ensures { λ c. ⌜ written c ≡ chosen
-        (sideOf (generating (bookIn (now (book .entry))) (setIn (now (row .entry))) r)) r
-        (written d) ⌝ }
+fn follow(book: &[u8], shape: Shape, r: RuleNo, row: &[u8]) -> Choice
+    requires { ⌜ ReadAs (now book) shape × (r .0 < shape .rules) ⌝ }
+    ensures { λ k. ⌜ k ≡
+        choiceOf (generating (bookIn (now (book .entry))) (setIn (now (row .entry))) r) r ⌝ }
 {
     if generates(book, shape, r, row) {
-        return d.choose_on(r);
+        return Choice::On(r);
     }
-    d.choose_off(r)
+    Choice::Off(r)
 }
 
 // The closed colouring to which the choices of the row's set lead: one closing a level, and no try.
@@ -46,8 +46,9 @@ fn descend(book: &[u8], shape: Shape, rows: &[u64; 3072], row: &[u8]) -> Colouri
     ensures { λ d. ⌜ written d ≡ down (bookIn (now (book .entry))) nothing (setIn (now (row .entry))) ⌝ }
 {
     let mut c = Colouring::empty();
+    let mut choice = Choice::Nothing;
     loop {
-        let closed = close(book, shape, rows, c);
+        let closed = close_chosen(book, shape, rows, c, choice);
         let clash = closed.clash;
         let d = closed.colours;
         if let Picked::Rule(_) = clash {
@@ -56,7 +57,8 @@ fn descend(book: &[u8], shape: Shape, rows: &[u64; 3072], row: &[u8]) -> Colouri
         let Picked::Rule(r) = lowest_uncoloured(shape.rules, d.on, d.off) else {
             return d;
         };
-        c = follow(book, shape, d, r, row);
+        choice = follow(book, shape, r, row);
+        c = d;
     }
 }
 

@@ -10,6 +10,7 @@ ghost use Rattle.book.specs.RuleRows.{RuleRows};
 ghost use Rattle.walk.specs.Events.{events};
 ghost use Rattle.walk.specs.Run.{State, run};
 ghost use Rattle.walk.specs.Find.{told, toldBy, startOf, findOf};
+use crate::origin::tell_clash;
 use crate::tally::Halt;
 use crate::tally::Tally;
 use crate::walk::walk;
@@ -61,7 +62,8 @@ pub fn kth_by(
         clash: RuleNo(255),
         halt: Halt::Going,
     };
-    walk(
+    let mut origin = [0u64; 8];
+    let t = walk(
         book,
         shape,
         rows,
@@ -71,8 +73,10 @@ pub fn kth_by(
         1,
         limit,
         start,
+        &mut origin,
         answer,
-    )
+    );
+    tell_clash(book, shape, rows, &origin, t)
 }
 
 // The same by rows of its own.

@@ -9,6 +9,7 @@ mod kth;
 mod list;
 mod memory;
 mod met;
+mod origin;
 mod page_answer;
 mod pages;
 mod part;

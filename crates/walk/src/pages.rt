@@ -41,7 +41,7 @@ fn tell(t: Tally) -> Page
     }
 }
 
-// The next page of a good book.
+// The next page of a good book. Nobody is told the rule of a contradictory try, so its origin is left.
 fn page_in(book: &[u8], shape: Shape, limit: u32, tries: u32, last: &[u8], out: &mut [u8]) -> Page
     requires { ⌜ ReadAs (now book) shape ⌝ }
     ensures { λ r. ⌜ _≡_ {A = Answered PageEnd} (record { told = told r; buffer = now (out .exit) })
@@ -59,6 +59,7 @@ fn page_in(book: &[u8], shape: Shape, limit: u32, tries: u32, last: &[u8], out: 
     };
     let mut rows = [0u64; 3072];
     make_rows(book, shape, &mut rows);
+    let mut origin = [0u64; 8];
     if tries == 0 {
         return tell(walk(
             book,
@@ -70,6 +71,7 @@ fn page_in(book: &[u8], shape: Shape, limit: u32, tries: u32, last: &[u8], out: 
             room,
             limit,
             start,
+            &mut origin,
             out,
         ));
     }
@@ -84,6 +86,7 @@ fn page_in(book: &[u8], shape: Shape, limit: u32, tries: u32, last: &[u8], out: 
         room,
         limit,
         start,
+        &mut origin,
         out,
     ))
 }

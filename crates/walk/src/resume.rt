@@ -16,6 +16,7 @@ ghost use Rattle.walk.specs.Events.{rest};
 ghost use Rattle.walk.specs.Run.{State, run};
 ghost use Rattle.walk.specs.Page.{setIn};
 ghost use Rattle.walk.specs.Room.{Room};
+ghost use Rattle.walk.specs.Origin.{toldClash};
 use crate::bytes::in_row;
 use crate::colours::lowest_uncoloured;
 use crate::tally::Tally;
@@ -25,7 +26,7 @@ use book::negatives;
 use book::positives;
 use closing::Choice;
 use closing::Picked;
-use closing::close_chosen;
+use closing::close_or_clash;
 use meaning::AtomNo;
 use meaning::Colouring;
 use meaning::RuleNo;
@@ -78,6 +79,7 @@ pub fn resume(
     room: usize,
     limit: u32,
     t: Tally,
+    origin: &mut [u64; 8],
     out: &mut [u8],
 ) -> Tally
     requires { ⌜ ReadAs (now book) shape
@@ -85,12 +87,13 @@ pub fn resume(
         × Shallow (bookIn (now book)) (taken choice (written c))
         × RuleRows (bookIn (now book)) (now rows)
         × Takes (bookIn (now book)) (written c) choice ⌝ }
-    ensures { λ r. ⌜ _≡_ {A = State} (record { tally = r; out = now (out .exit) })
+    ensures { λ r. ⌜ _≡_ {A = State}
+        (record { tally = toldClash (bookIn (now (book .entry))) (now (origin .exit)) r; out = now (out .exit) })
         (run (bookIn (now (book .entry))) (record { pass = pass; room = room; limit = limit })
-        (record { tally = t; out = now (out .entry) })
+        (record { tally = toldClash (bookIn (now (book .entry))) (now (origin .entry)) t; out = now (out .entry) })
         (rest (bookIn (now (book .entry))) (taken choice (written c)) (setIn (now (last .entry))))) ⌝ }
 {
-    let closed = close_chosen(book, shape, rows, c, choice);
+    let closed = close_or_clash(book, shape, rows, c, choice);
     let clash = closed.clash;
     if let Picked::Rule(_) = clash {
         return t;
@@ -111,6 +114,7 @@ pub fn resume(
             room,
             limit,
             t,
+            origin,
             out,
         );
     }
@@ -125,6 +129,7 @@ pub fn resume(
         room,
         limit,
         t,
+        origin,
         out,
     );
     walk(
@@ -137,6 +142,7 @@ pub fn resume(
         room,
         limit,
         first,
+        origin,
         out,
     )
 }

@@ -17,7 +17,7 @@ use crate::verdict::Verdict;
 use book::Shape;
 use closing::Choice;
 use closing::Picked;
-use closing::close_chosen;
+use closing::close_or_clash;
 use meaning::Bits;
 use meaning::Colouring;
 
@@ -50,7 +50,7 @@ pub fn first_alike(
     ensures { λ v. ⌜ TellsFirst (bookIn (now (book .entry))) (now (inside .entry)) (on .w)
         (taken choice (written c)) v ⌝ }
 {
-    let closed = close_chosen(book, shape, rows, c, choice);
+    let closed = close_or_clash(book, shape, rows, c, choice);
     let clash = closed.clash;
     if let Picked::Rule(_) = clash {
         return Verdict::Nobody;

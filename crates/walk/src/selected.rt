@@ -15,6 +15,7 @@ use crate::kth::Found;
 use crate::kth::tell;
 use crate::list::is_good_list;
 use crate::list::mask_of;
+use crate::origin::tell_clash;
 use crate::tally::Halt;
 use crate::tally::Tally;
 use crate::walk::walk_shown;
@@ -54,8 +55,9 @@ fn kth_shown(
     let mask = mask_of(shown);
     let w = mask.w;
     let every = shown.len() == shape.atoms as usize;
+    let mut origin = [0u64; 8];
     let mut seen = [0u64; 2048];
-    walk_shown(
+    let t = walk_shown(
         book,
         shape,
         &rows,
@@ -67,9 +69,11 @@ fn kth_shown(
         1,
         limit,
         start,
+        &mut origin,
         &mut seen,
         answer,
-    )
+    );
+    tell_clash(book, shape, &rows, &origin, t)
 }
 
 // Writes the k-th reading's row to the front of the answer buffer, or says why not. Readings that

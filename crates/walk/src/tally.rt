@@ -42,10 +42,11 @@ impl Tally {
         ensures { λ t. ⌜ t ≡
             record { tries = self .tries; sets = self .sets; clash = self .clash; halt = Limit } ⌝ }
     {
+        let sets = self.sets;
         let clash = self.clash;
         Tally {
             tries: self.tries,
-            sets: self.sets,
+            sets,
             clash,
             halt: Halt::Limit,
         }

@@ -9,24 +9,28 @@ ghost use Rattle.closing.specs.Taken.{taken, Takes};
 ghost use Rattle.walk.specs.Events.{events};
 ghost use Rattle.walk.specs.Run.{State, run};
 ghost use Rattle.walk.specs.Room.{Room};
+ghost use Rattle.walk.specs.Origin.{toldClash};
 ghost use Rattle.walk.specs.FirstAlike.{counts, countedBy};
 ghost use Rattle.walk.specs.Search.{shownIn, Remembers};
 use crate::colours::lowest_uncoloured;
 use crate::counts::does_count;
 use crate::met::meet;
+use crate::origin::keep_origin;
 use crate::tally::Halt;
 use crate::tally::Tally;
 use book::Shape;
 use closing::Choice;
 use closing::Picked;
-use closing::close_chosen;
+use closing::close_or_clash;
 use meaning::Colouring;
+use meaning::RuleNo;
 
 // Walks on from the colouring c with the choice taken: one try, and after it first with a rule on,
 // then with it off, each from the colouring before that choice. Every reading counts, or only those that no earlier
 // one matches on the shown atoms, which are the mask; the memory holds what was found to count.
 // It ends because each choice leaves fewer rules without a colour: closing takes no colour away, and
-// the chosen rule, which had none, gets one. So it goes at most 255 levels deep.
+// the chosen rule, which had none, gets one. So it goes at most 255 levels deep. A closing is left at
+// its first contradiction: the rule of the last one is told by whoever needs it, from its origin.
 pub fn walk_shown(
     book: &[u8],
     shape: Shape,
@@ -39,6 +43,7 @@ pub fn walk_shown(
     room: usize,
     limit: u32,
     t: Tally,
+    origin: &mut [u64; 8],
     seen: &mut [u64],
     out: &mut [u8],
 ) -> Tally
@@ -48,9 +53,10 @@ pub fn walk_shown(
         × RuleRows (bookIn (now book)) (now rows)
         × Remembers every (bookIn (now book)) (shownIn (now mask)) (now seen) (t .sets)
         × Takes (bookIn (now book)) (written c) choice ⌝ }
-    ensures { λ r. ⌜ (_≡_ {A = State} (record { tally = r; out = now (out .exit) })
+    ensures { λ r. ⌜ (_≡_ {A = State}
+        (record { tally = toldClash (bookIn (now (book .entry))) (now (origin .exit)) r; out = now (out .exit) })
         (run (bookIn (now (book .entry))) (record { pass = pass; room = room; limit = limit })
-        (record { tally = t; out = now (out .entry) })
+        (record { tally = toldClash (bookIn (now (book .entry))) (now (origin .entry)) t; out = now (out .entry) })
         (countedBy (bookIn (now (book .entry)))
         (counts every (bookIn (now (book .entry))) (shownIn (now (mask .entry))))
         (events (bookIn (now (book .entry))) (taken choice (written c))))))
@@ -69,12 +75,13 @@ pub fn walk_shown(
             halt: Halt::Limit,
         };
     }
-    let closed = close_chosen(book, shape, rows, c, choice);
+    let closed = close_or_clash(book, shape, rows, c, choice);
     let clash = closed.clash;
-    if let Picked::Rule(r) = clash {
-        return t.clashed(r);
-    }
     let d = closed.colours;
+    if let Picked::Rule(_) = clash {
+        keep_origin(d.on, d.off, origin);
+        return t.clashed(RuleNo(0));
+    }
     let Picked::Rule(r) = lowest_uncoloured(shape.rules, d.on, d.off) else {
         if !does_count(book, shape, rows, d.on, every, mask, t.sets, seen) {
             return t.tried(t.sets, Halt::Going);
@@ -94,6 +101,7 @@ pub fn walk_shown(
         room,
         limit,
         forked,
+        origin,
         seen,
         out,
     );
@@ -109,6 +117,7 @@ pub fn walk_shown(
         room,
         limit,
         first,
+        origin,
         seen,
         out,
     )
@@ -125,6 +134,7 @@ pub fn walk(
     room: usize,
     limit: u32,
     t: Tally,
+    origin: &mut [u64; 8],
     out: &mut [u8],
 ) -> Tally
     requires { ⌜ ReadAs (now book) shape
@@ -132,9 +142,11 @@ pub fn walk(
         × Shallow (bookIn (now book)) (taken choice (written c))
         × RuleRows (bookIn (now book)) (now rows)
         × Takes (bookIn (now book)) (written c) choice ⌝ }
-    ensures { λ r. ⌜ _≡_ {A = State} (record { tally = r; out = now (out .exit) })
+    ensures { λ r. ⌜ _≡_ {A = State}
+        (record { tally = toldClash (bookIn (now (book .entry))) (now (origin .exit)) r; out = now (out .exit) })
         (run (bookIn (now (book .entry))) (record { pass = pass; room = room; limit = limit })
-        (record { tally = t; out = now (out .entry) }) (events (bookIn (now (book .entry))) (taken choice (written c)))) ⌝ }
+        (record { tally = toldClash (bookIn (now (book .entry))) (now (origin .entry)) t; out = now (out .entry) })
+        (events (bookIn (now (book .entry))) (taken choice (written c)))) ⌝ }
 {
     let mask = [0u64; 4];
     let mut seen = [0u64; 1];
@@ -150,6 +162,7 @@ pub fn walk(
         room,
         limit,
         t,
+        origin,
         &mut seen,
         out,
     )

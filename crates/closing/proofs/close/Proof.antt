@@ -15,6 +15,7 @@ use Rattle.closing.proofs.Good.{Good, good-few}
 use Rattle.closing.proofs.Propagating.{sized-coloured}
 use Rattle.closing.proofs.Closed.{UnderWay, closes-start, propagated-to, propagated-off, closes-propagated, dropped-above}
 use Rattle.closing.proofs.Closed.{closes-dropped, dropped-settled, closed-behind, closes-end, clash-end}
+use Rattle.closing.proofs.Leaving.{never-left}
 use Rattle.closing.proofs.close.Statement.{statement}
 use Rattle.closing.proofs.close.Tie as tie
 
@@ -102,7 +103,7 @@ returns c =
     let s = entry p in
     let n = shape-count _ _ (s .pre .0) in
     let z = closes-end _ (few p) (written (s .args .c)) (start-good s .1) (k .close-propagated .last .1 .1 .1 .1 .0) (k .close-propagated .last .1 .1 .1 .1 .1 .0)
-    (closed-behind _ (followed q) (k .close-propagated .ensures)) n (c .ended .ensures .0) in
+    (closed-behind _ (followed q) (never-left (k .close-propagated .ensures))) n (c .ended .ensures .0) in
     (z, clash-end _ _ n z _ _ (ap pair (c .ended .ensures .0)) (c .ended .ensures .1))
 
 pub close-spec : {M : Type 1} → statement M

@@ -1,43 +1,11 @@
--- Each choice is closed as it may be.
-use mathlib.Core.Path.{_≡_, sym, subst}
+-- A closing that may not be left goes on to its end.
 use borrow.Author.Needs.{needs}
-use Rattle.meaning.specs.Books.{Book}
-use Rattle.meaning.specs.Written.{Tables, written, pair}
-use Rattle.meaning.specs.Computed.{close}
-use Rattle.meaning.specs.Lowest.{Pick, clashed}
-use Rattle.closing.specs.declared.choice.Choice.{Choice}
-use Rattle.closing.specs.Taken.{taken, Takes}
+use Rattle.closing.proofs.Leaving.{ends-told}
 use Rattle.closing.proofs.close_chosen.Statement.{statement}
 use Rattle.closing.proofs.close_chosen.Tie as tie
 
-abbrev Told : Book → Tables → Tables → Pick → Choice → Type 0
-Told b d x p k = (x ≡ close b (taken k d)) × (p ≡ clashed b (pair (close b (taken k d))))
-
-told : (b : Book) (d x : Tables) (p : Pick) {j k : Choice} → j ≡ k → Told b d x p k → Told b d x p j
-told b d x p e t = subst (Told b d x p) (sym e) t
-
-close-on-requires : tie.Need-close-on-requires
-close-on-requires c κs =
-    let k = c .before in
-    let s = k .before .before .before in
-    (s .pre .0, s .pre .1, subst (Takes _ (written (s .args .d))) (k .choice .given .1) (s .pre .2))
-
-close-off-requires : tie.Need-close-off-requires
-close-off-requires c κs =
-    let k = c .before in
-    let s = k .before .before .before in
-    (s .pre .0, s .pre .1, subst (Takes _ (written (s .args .d))) (k .choice2 .given .1) (s .pre .2))
-
 returns : tie.Need-returns
-returns c = told _ _ _ _ (c .before .enum-told .given .1) (c .close .ensures)
-
-returns-2 : tie.Need-returns-2
-returns-2 c = told _ _ _ _ (c .before .before .choice .given .1) (c .close-on .ensures)
-
-returns-3 : tie.Need-returns-3
-returns-3 c = told _ _ _ _ (c .before .before .choice2 .given .1) (c .close-off .ensures)
+returns c = ends-told (c .close-taken .ensures)
 
 pub close-chosen-spec : {M : Type 1} → statement M
-close-chosen-spec =
-    tie.close (tie.spec (λ c. search needs) (λ c κs. search needs) (λ c. search needs) close-on-requires (λ c. search needs) close-off-requires
-    returns returns-2 returns-3)
+close-chosen-spec = tie.close (tie.spec (λ c κs. search needs) returns)

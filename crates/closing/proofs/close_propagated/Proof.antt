@@ -1,5 +1,6 @@
 -- The invariant: the sets go on from the start within every closed pair above it (UnderWay), nothing follows from them but by support, and
--- with the old rules off, which are off, all others are supported. A turn that goes on has put a rule off. Where nothing is unsupported the pair is closed. Blueprint C2.
+-- with the old rules off, which are off, all others are supported. A turn that goes on has put a rule off. Where nothing is unsupported the
+-- pair is closed, and what is reached at the start of a turn may be left at a contradiction. Blueprint C2.
 use mathlib.Core.Path.{sym, subst}
 use mathlib.Core.List.{List}
 use Prim.Native.Nat.{ℕ}
@@ -13,35 +14,41 @@ use Rattle.meaning.specs.Propagation.{Propagated}
 use Rattle.meaning.specs.Suspects.{Settled}
 use Rattle.meaning.proofs.Remaining.{remaining}
 use Rattle.book.specs.Format.{bookIn}
+use Rattle.book.proofs.Places.{shape-count}
 use Rattle.closing.proofs.Good.{Good, good-few}
 use Rattle.closing.proofs.Propagating.{sized-coloured}
 use Rattle.closing.proofs.Closed.{UnderWay, closes-start, propagated-to, closes-propagated, propagated-no-more, dropped-above}
 use Rattle.closing.proofs.Closed.{closes-dropped, dropped-settled, dropped-less, propagated-off, closed-to}
+use Rattle.closing.proofs.Leaving.{ends-left, ends-closed}
 use Rattle.closing.proofs.close_propagated.Statement.{statement}
 use Rattle.closing.proofs.close_propagated.Tie as tie
 
 abbrev Inv-loop : tie.InvT-loop
-Inv-loop book shape rows on₀ off₀ old₀ on off old =
+Inv-loop book shape rows on₀ off₀ early old₀ on off old =
     UnderWay (bookIn book) (lent (listed on₀) (listed off₀)) (lent (listed on) (listed off))
     × Propagated (bookIn book) (lent (listed on) (listed off))
     × Settled (bookIn book) (of (listed old))
     × Under (bookIn book) (of (listed old)) (of (listed off))
 
 abbrev μ-loop : tie.MeasureT-loop
-μ-loop book shape rows on₀ off₀ old₀ on off old = remaining (bookIn book) (lent (listed on) (listed off))
+μ-loop book shape rows on₀ off₀ early old₀ on off old = remaining (bookIn book) (lent (listed on) (listed off))
 
 good : (s : tie.Start Inv-loop μ-loop) → Good (s .args .book .now) (s .args .shape)
 good s = search needs
 
 -- ---- the places on the way, with what is known there
 
+-- where a turn begins, the start of the function
+abbrev start : tie.At-loop Inv-loop μ-loop → tie.Start Inv-loop μ-loop
+start l = l .before .before .before
+
 -- behind the rules that nothing holds up: where the turn began, and the start of the function
 module _ (d : tie.After-drop-suspects Inv-loop μ-loop) where
   abbrev turn : tie.At-loop Inv-loop μ-loop
-  turn = d .before .before .before .before .before .before
+  turn = d .before .before .before .before .before .before .before .before .before .before
 
   abbrev entry : tie.Start Inv-loop μ-loop
-  entry = turn .before .before .before
+  entry = start turn
 
   abbrev first : Pair
   first = lent (listed (entry .args .on .now)) (listed (entry .args .off .now))
@@ -62,18 +69,27 @@ before-it c = c .before .before .before .before .before
 loop-holds : tie.Need-loop-holds Inv-loop μ-loop
 loop-holds c = let s = c .before .before in (closes-start _ _, s .pre .2, s .pre .3, s .pre .4)
 
-drop-suspects-requires : tie.Need-drop-suspects-requires Inv-loop μ-loop
-drop-suspects-requires c κs =
-    let l = c .before .before .before .before .before in
-    let s = l .before .before .before in
-    (s .pre .0, s .pre .1, l .loop .inv .2, l .loop .inv .3)
-
+-- the closing is left at the start of a turn
 returns : tie.Need-returns Inv-loop μ-loop
 returns c =
+    let k = c .before in
+    let l = k .before .before .before in
+    let s = start l in
+    ends-left _ (shape-count _ _ (s .pre .0)) (listed (l .loop .on)) (listed (l .loop .off)) (l .loop .inv .0) (k .is-left .ensures) (c .if1 .taken)
+
+drop-suspects-requires : tie.Need-drop-suspects-requires Inv-loop μ-loop
+drop-suspects-requires c κs =
+    let tested = c .before .before .before .before .before in
+    let l = tested .before .before .before .before in
+    let s = start l in
+    (s .pre .0, s .pre .1, l .loop .inv .2, l .loop .inv .3)
+
+returns-2 : tie.Need-returns-2 Inv-loop μ-loop
+returns-2 c =
     let d = c .before in
     let l = turn d .loop in
-    closed-to _ (good-few (good (entry d))) (first d) (l .on) (l .off) (d .drop-suspects .last .1 .1 .1 .1 .0) (l .inv .0) (l .inv .1)
-    (d .drop-suspects .ensures .0) (not-true (d .drop-suspects .result) (c .if1 .taken))
+    ends-closed (closed-to _ (good-few (good (entry d))) (first d) (l .on) (l .off) (d .drop-suspects .last .1 .1 .1 .1 .0) (l .inv .0) (l .inv .1)
+    (d .drop-suspects .ensures .0) (not-true (d .drop-suspects .result) (c .if2 .taken)))
 
 propagate-dropped-requires : tie.Need-propagate-dropped-requires Inv-loop μ-loop
 propagate-dropped-requires c κs =
@@ -97,7 +113,7 @@ loop-less c =
       arith,
       propagated-no-more _ few (sets d) (sized-coloured _ _) (c .propagate-dropped .ensures .0) (c .propagate-dropped .ensures .1),
       dropped-less _ few _ _ (d .drop-suspects .ensures .0) (of (listed (turn d .loop .on)))
-          (not-false (d .drop-suspects .result) (c .before .before .before .before .if1 .left)),
+          (not-false (d .drop-suspects .result) (c .before .before .before .before .if2 .left)),
     )
 
 loop-again : tie.Need-loop-again Inv-loop μ-loop
@@ -116,5 +132,5 @@ loop-again c =
 
 pub close-propagated-spec : {M : Type 1} → statement M
 close-propagated-spec =
-    tie.close (tie.spec Inv-loop μ-loop loop-holds (λ c κs. search needs) drop-suspects-requires returns propagate-dropped-requires
-    loop-less loop-again)
+    tie.close (tie.spec Inv-loop μ-loop loop-holds (λ c κs. search needs) returns (λ c κs. search needs) drop-suspects-requires returns-2
+    propagate-dropped-requires loop-less loop-again)

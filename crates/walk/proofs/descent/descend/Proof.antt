@@ -7,19 +7,21 @@ use Rattle.meaning.specs.Lowest.{none, clashed}
 use Rattle.book.specs.Format.{bookIn}
 use Rattle.book.proofs.Places.{in-shape}
 use Rattle.closing.specs.Left.{left}
+use Rattle.closing.specs.Taken.{taken, Takes}
 use Rattle.walk.specs.Page.{setIn}
-use Rattle.walk.proofs.Events.{Closes, Forks, fork-in-book, fork-level}
-use Rattle.walk.proofs.Walking.{few, clash-told, lowest-told, forks-told}
+use Rattle.walk.proofs.Events.{Closes, Forks, fork-in-book}
+use Rattle.walk.proofs.Walking.{few, clash-told, lowest-told, forks-told, side-ready}
 use Rattle.walk.proofs.Answering.{shallow-start}
-use Rattle.walk.proofs.Descending.{Descends, descends-start, descends-clash, descends-reading, descends-falls, descends-fork}
+use Rattle.walk.proofs.Descending.{Descends, descends-start, descends-clash, descends-reading, descends-falls, descends-fork, follow-taken, follow-takes}
 use Rattle.walk.proofs.descent.descend.Statement.{statement}
 use Rattle.walk.proofs.descent.descend.Tie as tie
 
 abbrev Inv-loop : tie.InvT-loop
-Inv-loop book shape rows row c₀ c = Descends (bookIn book) (setIn row) (written c)
+Inv-loop book shape rows row c₀ choice₀ c choice =
+    Descends (bookIn book) (setIn row) (taken choice (written c)) × Takes (bookIn book) (written c) choice
 
 abbrev μ-loop : tie.MeasureT-loop
-μ-loop book shape rows row c₀ c = left (bookIn book) (written c)
+μ-loop book shape rows row c₀ choice₀ c choice = left (bookIn book) (taken choice (written c))
 
 -- ---- the places on the way, with what is known there
 
@@ -28,36 +30,36 @@ few-rules : (s : tie.Start Inv-loop μ-loop) → s .args .shape .rules < 256
 few-rules s = search needs
 
 -- behind the closing
-module _ (c : tie.After-close Inv-loop μ-loop) where
+module _ (c : tie.After-close-chosen Inv-loop μ-loop) where
   abbrev turn : tie.At-loop Inv-loop μ-loop
   turn = c .before
 
   abbrev start : tie.Start Inv-loop μ-loop
   start = turn .before .before .before .before
 
-  closes : Closes (bookIn (start .args .book .now)) (written (turn .loop .c)) (written (c .close .result .colours))
-  closes = record { few = few _ _ (start .pre .0) (few-rules start); sized = turn .loop .inv .sized; closed = c .close .ensures .0 }
+  closes : Closes (bookIn (start .args .book .now)) (taken (turn .loop .choice) (written (turn .loop .c))) (written (c .close-chosen .result .colours))
+  closes = record { few = few _ _ (start .pre .0) (few-rules start); sized = turn .loop .inv .0 .sized; closed = c .close-chosen .ensures .0 }
 
 -- behind the search for a rule to choose: there was no contradiction
 module _ (c : tie.After-lowest-uncoloured Inv-loop μ-loop) where
   abbrev quiet : tie.After-enum-told2 Inv-loop μ-loop
   quiet = c .before
 
-  abbrev closing : tie.After-close Inv-loop μ-loop
+  abbrev closing : tie.After-close-chosen Inv-loop μ-loop
   closing = quiet .before .before .before
 
-  calm : clashed (bookIn (start closing .args .book .now)) (pair (written (closing .close .result .colours))) ≡ none
-  calm = clash-told (closes closing) (closing .close .ensures .1) (quiet .enum-told2 .given .1)
+  calm : clashed (bookIn (start closing .args .book .now)) (pair (written (closing .close-chosen .result .colours))) ≡ none
+  calm = clash-told (closes closing) (closing .close-chosen .ensures .1) (quiet .enum-told2 .given .1)
 
 -- where there is such a rule
 module _ (c : tie.After-known-told Inv-loop μ-loop) where
   abbrev searched : tie.After-lowest-uncoloured Inv-loop μ-loop
   searched = c .before .before .before
 
-  abbrev closed : tie.After-close Inv-loop μ-loop
+  abbrev closed : tie.After-close-chosen Inv-loop μ-loop
   closed = closing searched
 
-  forks : Forks (bookIn (start closed .args .book .now)) (written (turn closed .loop .c)) (written (closed .close .result .colours)) (c .before .r .given .0 .0)
+  forks : Forks (bookIn (start closed .args .book .now)) (taken (turn closed .loop .choice) (written (turn closed .loop .c))) (written (closed .close-chosen .result .colours)) (c .before .r .given .0 .0)
   forks =
       forks-told _ _ (start closed .pre .0) (closes closed) (calm searched) (searched .lowest-uncoloured .ensures) (c .before .r .given .1)
 
@@ -66,33 +68,45 @@ module _ (c : tie.After-known-told Inv-loop μ-loop) where
 loop-holds : tie.Need-loop-holds Inv-loop μ-loop
 loop-holds c =
     let s = c .before .before .before in
-    descends-start _ _ (shallow-start _ _ (s .pre .0) (few-rules s) (c .empty .ensures)) (c .empty .ensures)
+    (descends-start _ _ (shallow-start _ _ (s .pre .0) (few-rules s) (c .empty .ensures)) (c .empty .ensures), tt)
+
+close-chosen-requires : tie.Need-close-chosen-requires Inv-loop μ-loop
+close-chosen-requires c κs = let s = c .before .before .before .before .pre in (s .0, s .1, c .loop .inv .1)
 
 returns : tie.Need-returns Inv-loop μ-loop
 returns c =
     let k = c .before .before .before in
-    descends-clash (turn k .loop .inv) (closes k) (clash-told (closes k) (k .close .ensures .1) (c .enum-told .given .1))
+    descends-clash (turn k .loop .inv .0) (closes k) (clash-told (closes k) (k .close-chosen .ensures .1) (c .enum-told .given .1))
 
 returns-2 : tie.Need-returns-2 Inv-loop μ-loop
 returns-2 c =
     let p = c .before .before in
     let k = closing p in
-    descends-reading (turn k .loop .inv) (closes k) (calm p)
+    descends-reading (turn k .loop .inv .0) (closes k) (calm p)
     (lowest-told _ _ (start k .pre .0) _ _ (p .lowest-uncoloured .ensures) (c .enum-told3 .given .1))
 
 follow-requires : tie.Need-follow-requires Inv-loop μ-loop
 follow-requires c κs =
-    let k = closed c in
-    let s = start k .pre .0 in
-    (s, in-shape _ _ s _ (fork-in-book (forks c)), fork-level (forks c) (turn k .loop .inv .shallow))
+    let s = start (closed c) .pre .0 in (s, in-shape _ _ s _ (fork-in-book (forks c)))
+
+-- behind the choice: what it comes to
+module _ (c : tie.After-follow Inv-loop μ-loop) where
+  abbrev forked : tie.After-known-told Inv-loop μ-loop
+  forked = c .before
+
+  abbrev leads : Descends (bookIn (start (closed forked) .args .book .now)) (setIn (start (closed forked) .args .row .now))
+      (taken (turn (closed forked) .loop .choice) (written (turn (closed forked) .loop .c)))
+  leads = turn (closed forked) .loop .inv .0
 
 loop-less : tie.Need-loop-less Inv-loop μ-loop
-loop-less c = let f = c .before in descends-falls (turn (closed f) .loop .inv) (forks f) (c .follow .ensures)
+loop-less c = let f = forked c in descends-falls (leads c) (forks f) (follow-taken _ _ (c .follow .ensures) _)
 
 loop-again : tie.Need-loop-again Inv-loop μ-loop
-loop-again c = let f = c .before in descends-fork (turn (closed f) .loop .inv) (forks f) (c .follow .ensures)
+loop-again c =
+    let f = forked c in
+    (descends-fork (leads c) (forks f) (follow-taken _ _ (c .follow .ensures) _), follow-takes _ _ (c .follow .ensures) _ (side-ready (forks f) (leads c .shallow)))
 
 pub descend-spec : {M : Type 1} → statement M
 descend-spec =
-    tie.close (tie.spec Inv-loop μ-loop (λ c κs. search needs) loop-holds (λ c κs. c .before .before .before .before .pre) (λ c. search needs)
+    tie.close (tie.spec Inv-loop μ-loop (λ c κs. search needs) loop-holds close-chosen-requires (λ c. search needs)
     returns (λ c. search needs) (λ c κs. search needs) (λ c. search needs) (λ c. search needs) returns-2 follow-requires loop-less loop-again)

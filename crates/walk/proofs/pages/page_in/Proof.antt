@@ -1,7 +1,11 @@
 -- The next page of a good book: no room, the first page by the walk, or a later one by resuming it. Both start with room for their rows.
+use mathlib.Core.Path.{_∙_, ap}
+use mathlib.Core.List.{[]}
 use Prim.Native.Nat.{_<_}
 use borrow.Author.Needs.{needs}
 use Rattle.walk.proofs.Answering.{page-no-room, page-room, page-first, page-later}
+use Rattle.meaning.specs.Told.{success}
+use Rattle.walk.proofs.ToldClash.{told-start, told-ended}
 use Rattle.walk.proofs.pages.page_in.Statement.{statement}
 use Rattle.walk.proofs.pages.page_in.Tie as tie
 
@@ -18,35 +22,35 @@ returns c = page-no-room _ _ (c .before .before .before .before .before .pre) _ 
 
 walk-requires : tie.Need-walk-requires
 walk-requires c κs =
-    let m = c .before .before .before .before in
+    let m = c .before .before .before .before .before in
     let r = m .before .before in
     let (read, room, shallow) =
-    page-room _ _ (start r .pre) _ _ (r .before .if1 .left) (r .rows-in .ensures) (few-rules (start r)) (c .before .empty .ensures) in
+    page-room _ _ (start r .pre) _ _ (r .before .if1 .left) (r .rows-in .ensures) (few-rules (start r)) (c .before .before .empty .ensures) in
     (read, room, shallow, m .make-rows .ensures, tt)
 
 returns-2 : tie.Need-returns-2
 returns-2 c =
-    let e = c .before .before .before .before .before in
+    let e = c .before .before .before .before .before .before in
     let t = e .before .before in
     let r = t .before .before .before in
-    page-first _ _ (start r .pre) _ _ (r .before .if1 .left) (r .rows-in .ensures) _ _ (c .tell .ensures) (e .empty .ensures)
-    (t .if2 .taken) (c .before .before .before .walk .ensures)
+    page-first _ _ (start r .pre) _ _ (r .before .if1 .left) (r .rows-in .ensures) _ _ (c .tell .ensures ∙ ap success (told-ended _ _ _ (record { tally = c .before .before .before .walk .result; out = [] }))) (e .empty .ensures)
+    (t .if2 .taken) (told-start _ _ _ _ _ _ (c .before .before .before .walk .ensures))
 
 resume-requires : tie.Need-resume-requires
 resume-requires c κs =
-    let m = c .before .before .before .before in
+    let m = c .before .before .before .before .before in
     let r = m .before .before in
     let (read, room, shallow) =
-    page-room _ _ (start r .pre) _ _ (r .before .if1 .left) (r .rows-in .ensures) (few-rules (start r)) (c .before .empty2 .ensures) in
+    page-room _ _ (start r .pre) _ _ (r .before .if1 .left) (r .rows-in .ensures) (few-rules (start r)) (c .before .before .empty2 .ensures) in
     (read, room, shallow, m .make-rows .ensures, tt)
 
 returns-3 : tie.Need-returns-3
 returns-3 c =
-    let e = c .before .before .before .before .before in
+    let e = c .before .before .before .before .before .before in
     let t = e .before .before in
     let r = t .before .before .before in
-    page-later _ _ (start r .pre) _ _ (r .before .if1 .left) (r .rows-in .ensures) _ _ (c .tell2 .ensures) (e .empty2 .ensures)
-    (t .if2 .left) (c .before .before .before .resume .ensures)
+    page-later _ _ (start r .pre) _ _ (r .before .if1 .left) (r .rows-in .ensures) _ _ (c .tell2 .ensures ∙ ap success (told-ended _ _ _ (record { tally = c .before .before .before .resume .result; out = [] }))) (e .empty2 .ensures)
+    (t .if2 .left) (told-start _ _ _ _ _ _ (c .before .before .before .resume .ensures))
 
 pub page-in-spec : {M : Type 1} → statement M
 page-in-spec =

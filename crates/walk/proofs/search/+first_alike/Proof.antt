@@ -1,9 +1,10 @@
 -- The search meets its contract: each return is one way of the laws in Searching. The measure is the number of rules without a colour.
 use mathlib.Core.Path.{_≡_, refl}
-use Prim.Native.Nat.{ℕ, _<_}
+use Prim.Native.Nat.{ℕ, _≤_, _<_}
 use borrow.Author.Needs.{needs}
 use borrow.Fn.Kinds.{In}
 use borrow.Fn.PlainCycle.{Measures, is, falls, and}
+use Rattle.meaning.specs.Books.{count}
 use Rattle.meaning.specs.Colours.{onSide, offSide}
 use Rattle.meaning.specs.Written.{written, pair}
 use Rattle.meaning.specs.Lowest.{none, clashed}
@@ -14,12 +15,13 @@ use Rattle.book.proofs.Places.{shape-count}
 use Rattle.closing.specs.Left.{left}
 use Rattle.closing.specs.Taken.{taken}
 use Rattle.walk.proofs.Events.{Closes, Forks, fork-shallow}
-use Rattle.walk.proofs.Walking.{few, clash-told, lowest-told, forks-told, side-falls, side-ready, sized-taken}
+use Rattle.walk.proofs.Walking.{few, lowest-told, forks-told, side-falls, side-ready, sized-taken}
+use Rattle.walk.proofs.ToldClash.{closes-calm, closes-clash}
 use Rattle.walk.proofs.Searching.{tells-clash, tells-left, tells-this, tells-another, tells-on, tells-off}
 use Rattle.walk.proofs.search.first_alike.Reads as first-alike
 use Rattle.walk.proofs.search.first_alike.Kinds as kinds
 use Rattle.walk.proofs.search.+first_alike.Lts-first_alike as lts
-use Rattle.closing.proofs.close_chosen.Reads as close-chosen-reads
+use Rattle.closing.proofs.close_or_clash.Reads as close-or-clash-reads
 use Rattle.walk.proofs.colours.lowest_uncoloured.Reads as lowest-uncoloured-reads
 use Rattle.walk.proofs.part.is_lost_in.Reads as is-lost-in-reads
 use Rattle.walk.proofs.search.same_rules.Reads as same-rules-reads
@@ -39,8 +41,8 @@ module _ (t : ℕ) where
 
   abbrev calls : lts.Claims
   calls = (
-    close-chosen-reads.Asked,
-    close-chosen-reads.Learnt,
+    close-or-clash-reads.Asked,
+    close-or-clash-reads.Learnt,
     is-lost-in-reads.Asked,
     is-lost-in-reads.Learnt,
     lowest-uncoloured-reads.Asked,
@@ -57,23 +59,27 @@ module _ (t : ℕ) where
   sized c = sized-taken (c .args .choice) (sized-written (c .args .c) (search needs))
 
   -- behind the closing
-  module _ (c : lts.After-close-chosen calls here first-alike.Post) where
+  module _ (c : lts.After-close-or-clash calls here first-alike.Post) where
     abbrev start : lts.Start calls here first-alike.Post
     start = c .before .before
 
-    closes : Closes (bookIn (start .args .book .now)) (taken (start .args .choice) (written (start .args .c))) (written (c .close-chosen .result .colours))
-    closes = record { few = few _ _ (start .pre .1 .0) (search needs); sized = sized start; closed = c .close-chosen .ensures .0 }
+    small : count (bookIn (start .args .book .now)) ≤ 255
+    small = few _ _ (start .pre .1 .0) (search needs)
 
   -- behind the question whether an atom is lost: there was no contradiction
   module _ (c : lts.After-is-lost-in calls here first-alike.Post) where
     abbrev quiet : lts.After-enum-told2 calls here first-alike.Post
     quiet = c .before .before
 
-    abbrev closing : lts.After-close-chosen calls here first-alike.Post
+    abbrev closing : lts.After-close-or-clash calls here first-alike.Post
     closing = quiet .before .before
 
-    calm : clashed (bookIn (start closing .args .book .now)) (pair (written (closing .close-chosen .result .colours))) ≡ none
-    calm = clash-told (closes closing) (closing .close-chosen .ensures .1) (quiet .enum-told2 .given .1)
+    abbrev from : lts.Start calls here first-alike.Post
+    from = start closing
+
+    told : Closes (bookIn (from .args .book .now)) (taken (from .args .choice) (written (from .args .c))) (written (closing .close-or-clash .result .colours))
+        × (clashed (bookIn (from .args .book .now)) (pair (written (closing .close-or-clash .result .colours))) ≡ none)
+    told = closes-calm (small closing) (sized from) (closing .close-or-clash .ensures) (quiet .enum-told2 .given .1)
 
   -- behind the search for a rule to choose
   abbrev asked : lts.After-lowest-uncoloured calls here first-alike.Post → lts.After-is-lost-in calls here first-alike.Post
@@ -84,30 +90,31 @@ module _ (t : ℕ) where
     abbrev searched : lts.After-lowest-uncoloured calls here first-alike.Post
     searched = c .before .before .before
 
-    abbrev closed : lts.After-close-chosen calls here first-alike.Post
+    abbrev closed : lts.After-close-or-clash calls here first-alike.Post
     closed = closing (asked searched)
 
     abbrev first : lts.Start calls here first-alike.Post
     first = start closed
 
-    forks : Forks (bookIn (first .args .book .now)) (taken (first .args .choice) (written (first .args .c))) (written (closed .close-chosen .result .colours)) (c .before .r .given .0 .0)
-    forks = forks-told _ _ (first .pre .1 .0) (closes closed) (calm (asked searched)) (searched .lowest-uncoloured .ensures) (c .before .r .given .1)
+    forks : Forks (bookIn (first .args .book .now)) (taken (first .args .choice) (written (first .args .c))) (written (closed .close-or-clash .result .colours)) (c .before .r .given .0 .0)
+    forks = forks-told _ _ (first .pre .1 .0) (told (asked searched) .0) (told (asked searched) .1) (searched .lowest-uncoloured .ensures) (c .before .r .given .1)
 
   -- ---- the needs
 
-  close-chosen-requires : lts.Need-close-chosen-requires calls here first-alike.Post
-  close-chosen-requires c κs = let s = c .before .pre .1 in (s .0, s .2, s .3)
+  close-or-clash-requires : lts.Need-close-or-clash-requires calls here first-alike.Post
+  close-or-clash-requires c κs = let s = c .before .pre .1 in (s .0, s .2, s .3)
 
   returns : lts.Need-returns calls here first-alike.Post
   returns c =
       let k = c .before .before in
-      tells-clash (start k .pre .1 .2) _ _ (closes k) (clash-told (closes k) (k .close-chosen .ensures .1) (c .enum-told .given .1))
+      let (closes, q, e) = closes-clash (small k) (sized (start k)) (k .close-or-clash .ensures) (c .enum-told .given .1) in
+      tells-clash (start k .pre .1 .2) _ _ closes e
 
   returns-2 : lts.Need-returns-2 calls here first-alike.Post
   returns-2 c =
       let p = c .before in
       let k = closing p in
-      tells-left (start k .pre .1 .2) _ _ (closes k) _ _ refl refl (p .is-lost-in .ensures) (c .if1 .taken)
+      tells-left (start k .pre .1 .2) _ _ (told p .0) _ _ refl refl (p .is-lost-in .ensures) (c .if1 .taken)
 
   -- every rule has a colour: the same rules are on or not
   returns-3 : lts.Need-returns-3 calls here first-alike.Post
@@ -115,7 +122,7 @@ module _ (t : ℕ) where
       let e = c .before .before in
       let l = e .before .before in
       let k = closing (asked l) in
-      tells-this (start k .pre .1 .2) _ _ (closes k) _ _ refl refl (asked l .is-lost-in .ensures) (l .before .if1 .left) (calm (asked l))
+      tells-this (start k .pre .1 .2) _ _ (told (asked l) .0) _ _ refl refl (asked l .is-lost-in .ensures) (l .before .if1 .left) (told (asked l) .1)
       (lowest-told _ _ (start k .pre .1 .0) _ _ (l .lowest-uncoloured .ensures) (e .enum-told3 .given .1))
       (shape-count _ (start k .args .shape) (start k .pre .1 .0)) (c .before .same-rules .ensures) (c .if2 .taken)
 
@@ -124,7 +131,7 @@ module _ (t : ℕ) where
       let e = c .before .before in
       let l = e .before .before in
       let k = closing (asked l) in
-      tells-another (start k .pre .1 .2) _ _ (closes k) _ _ refl refl (asked l .is-lost-in .ensures) (l .before .if1 .left) (calm (asked l))
+      tells-another (start k .pre .1 .2) _ _ (told (asked l) .0) _ _ refl refl (asked l .is-lost-in .ensures) (l .before .if1 .left) (told (asked l) .1)
       (lowest-told _ _ (start k .pre .1 .0) _ _ (l .lowest-uncoloured .ensures) (e .enum-told3 .given .1))
       (shape-count _ (start k .args .shape) (start k .pre .1 .0)) (c .before .same-rules .ensures) (c .if2 .left)
 
@@ -150,6 +157,6 @@ module _ (t : ℕ) where
 
 pub +first-alike-spec : {M : Type 1} → statement M
 +first-alike-spec = close μ-first-alike λ t. lts.spec (calls t) (here t) first-alike.Post
-    (close-chosen-requires t) (λ c. search needs) (returns t) (λ c. search needs) (λ c κs. search needs) (returns-2 t) (λ c κs. search needs)
+    (close-or-clash-requires t) (λ c. search needs) (returns t) (λ c. search needs) (λ c κs. search needs) (returns-2 t) (λ c κs. search needs)
     (λ c. search needs) (λ c. search needs) (λ c κs. search needs) (returns-3 t) (returns-4 t) (requires-on t)
     (λ c. search needs) (returns-5 t) (requires-off t) (returns-6 t)

@@ -9,7 +9,7 @@ use Rattle.walk.proofs.walk.walk.Tie as tie
 
 walk-shown-requires : tie.Need-walk-shown-requires
 walk-shown-requires c κs =
-    let s = c .before .before .before .before .before in
+    let s = c .before .before .before .before .before .before in
     (s .pre .0, s .pre .1, s .pre .2, s .pre .3, record { kept = λ e. true-and-false refl e }, s .pre .4)
 
 returns : tie.Need-returns
