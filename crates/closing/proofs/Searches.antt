@@ -1,47 +1,20 @@
--- A search among the first rules, turn by turn: what is kept is that no rule before is of the kind. The same by the next member of a set;
--- and the sets that closing asks of. What is found among so many rules is found in a book of so many.
+-- A search among the first rules by the next member of a set, and the sets that closing asks of. What is found among so many rules is found
+-- in a book of so many.
 use mathlib.Core.Path.{_≡_, refl, sym, _∙_, ap, ap₂, fun-ext, subst}
 use mathlib.Core.Bool.{Bool, true, false, not, _&&_, _||_}
 use mathlib.Core.List.{List}
-use Prim.Native.Nat.{ℕ, _+_, _≤_, _<_}
+use Prim.Native.Nat.{ℕ, _≤_, _<_}
 use native.Mathlib.Omega.{arith}
 use Rattle.meaning.specs.declared.RuleNo.{RuleNo}
-use Rattle.meaning.specs.Sets.{Set, _∉_, someBelow}
+use Rattle.meaning.specs.Sets.{Set}
 use Rattle.meaning.specs.Books.{Rules, ruleNo, Book, count}
 use Rattle.meaning.specs.Bits.{below, plus, less, both, members, tableFrom, listed, NextIn}
 use Rattle.meaning.specs.Colours.{uncoloured}
 use Rattle.meaning.specs.Written.{of, lent}
 use Rattle.meaning.specs.Computed.{newly}
 use Rattle.meaning.specs.Lowest.{Pick, none, one, lowestFrom, lowest, inBoth}
-use Rattle.meaning.proofs.Tests.{true-and-false, refuted}
-use Rattle.meaning.proofs.Sets.{below-one, none-next}
-use Rattle.meaning.proofs.Lowest.{none-from, one-from}
 use Rattle.meaning.proofs.Next.{next-lowest, next-lowest-none}
 use Rattle.meaning.proofs.Listed.{of-listed, listed-members}
-
--- ---- any search
-
--- a search among the first n has come to i and found nothing of the kind s
-abbrev pub NoneYet : ℕ → Rules → ℕ → Type 0
-NoneYet n s i = (i ≤ n) × (someBelow i (λ m. s (ruleNo m)) ≡ false)
-
-module _ (n : ℕ) (s : Rules) where
-  pub none-start : NoneYet n s 0
-  unfolding someBelow
-  none-start = (omega arith, refl)
-
-  module _ (i : ℕ) where
-    pub none-turn : i < n → ruleNo i ∉ s → NoneYet n s i → NoneYet n s (i + 1)
-    none-turn h m k = (omega arith, none-next i _ m (k .1))
-
-    earlier : NoneYet n s i → (q : RuleNo) → q .0 < i → q ∉ s
-    earlier k q h = refuted (λ m. true-and-false (below-one i (λ j. s (ruleNo j)) (q .0) h m) (k .1))
-
-    pub pick-found : i < n → s (ruleNo i) ≡ true → NoneYet n s i → one (ruleNo i) ≡ lowestFrom 0 n s
-    pick-found h m k = sym (one-from n s (ruleNo i) h m (earlier k))
-
-    pub pick-none : n ≤ i → NoneYet n s i → none ≡ lowestFrom 0 n s
-    pick-none h k = sym (none-from n s (λ r g. earlier k r (omega arith)))
 
 pub lowest-in : (b : Book) {n : ℕ} → count b ≡ n → (s : Rules) {p : Pick} → p ≡ lowestFrom 0 n s → p ≡ lowest b s
 unfolding lowest

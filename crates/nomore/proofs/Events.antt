@@ -112,9 +112,6 @@ module _ {b : Book} {c d : Tables} where
 
     -- each side has fewer rules without a colour
     module _ (x : Side) where
-      pub fork-sized : Sized (colour x r d)
-      fork-sized = rw (k .propagated) (below-sized b (k .few) c (k .sized) x r told)
-
       pub fork-falls : left b (colour x r d) < left b c
       fork-falls = rw (k .propagated) (below-left b (k .few) c (k .sized) x r told)
 

@@ -15,7 +15,7 @@ use Rattle.meaning.specs.Books.{Atoms, sameAtom, Book, count, rule, InBook}
 use Rattle.meaning.specs.AnswerSet.{AnswerSet, generating}
 use Rattle.meaning.specs.Colours.{Within, heads, colouringOf}
 use Rattle.meaning.specs.Written.{of, pair}
-use Rattle.meaning.proofs.Tests.{both, and-left, and-right, true-and-false, refuted, proved, same}
+use Rattle.meaning.proofs.Tests.{both, and-left, and-right, true-and-false, refuted, proved}
 use Rattle.meaning.proofs.Sets.{some-one, some-by}
 use Rattle.meaning.proofs.Rules.{same-atom, atom-same, heads-of, heads-by, within-off, within-both}
 use Rattle.meaning.proofs.Written.{Sized, of-none, of-added, length-added}
@@ -23,7 +23,7 @@ use Rattle.meaning.proofs.Answers.{answer-heads}
 use Rattle.walk.specs.Shown.{alike}
 use Rattle.walk.specs.FirstAlike.{avoided, avoiding}
 use Rattle.walk.proofs.Forks.{Stands}
-use Rattle.walk.proofs.Alike.{alike-at, alike-all}
+use Rattle.walk.proofs.Alike.{alike-at}
 
 module _ (b : Book) (s : List AtomNo) (x : Atoms) where
   pub avoided-of : (r : RuleNo) (a : AtomNo) → List·Memᴰ a s → rule b r .head ≡ a → a ∉ x → r ∈ avoided b s x
@@ -70,8 +70,3 @@ module _ (b : Book) (s : List AtomNo) (x : Atoms) where
 
       pub alike-stands : alike s x y ≡ true → Stands b (avoiding b s x) y
       alike-stands e = record { answer = p; holds = shown-within (λ a m k. alike-at s x y e a m ∙ k) }
-
-      -- of the answer sets above it, those that hold all shown atoms of x are the ones alike x
-      pub within-alike : Within b (pair (avoiding b s x)) (colouringOf b y) → ((a : AtomNo) → List·Memᴰ a s → a ∈ x → a ∈ y)
-          → alike s x y ≡ true
-      within-alike w f = alike-all s x y (λ a m. same (x a) (y a) (f a m) (within-shown w a m))

@@ -11,7 +11,7 @@ use Rattle.meaning.specs.declared.RuleNo.{RuleNo}
 use Rattle.meaning.specs.Written.{Tables}
 use Rattle.meaning.specs.Books.{Atoms, Book, count}
 use Rattle.meaning.specs.AnswerSet.{generating}
-use Rattle.meaning.specs.Colours.{Side, onSide, offSide, uncoloured}
+use Rattle.meaning.specs.Colours.{Side, uncoloured}
 use Rattle.meaning.specs.Written.{nothing, chosen, pair}
 use Rattle.meaning.specs.Computed.{close}
 use Rattle.meaning.specs.Lowest.{Pick, none, one, lowest, clashed}

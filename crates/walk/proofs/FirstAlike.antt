@@ -16,7 +16,7 @@ use Rattle.meaning.specs.Choice.{ifb}
 use Rattle.meaning.proofs.Tests.{refuted}
 use Rattle.meaning.proofs.Choice.{b-yes, b-no}
 use Rattle.walk.specs.Events.{Event, events}
-use Rattle.walk.specs.Readings.{readingsIn, readings, Before, Ordered, comes-first}
+use Rattle.walk.specs.Readings.{readingsIn, readings, Ordered, comes-first}
 use Rattle.walk.specs.Shown.{alike}
 use Rattle.walk.specs.FirstAlike.{avoiding, sameReading, firstAmong, orElse, isThis, fresh}
 use Rattle.walk.specs.declared.verdict.Verdict.{Verdict}
@@ -26,7 +26,6 @@ use Rattle.walk.proofs.Events.{Walk, walks}
 use Rattle.walk.proofs.Forks.{Stands}
 use Rattle.walk.proofs.Readings.{walk-sound, walk-complete, walk-ordered, readings-all}
 use Rattle.walk.proofs.ShownReadings.{answer-reading, unless, unless-by, unless-later, unless-here}
-use Rattle.walk.proofs.Fresh.{is-this, first-fresh, fresh-first}
 use Rattle.walk.proofs.Avoiding.{sized-avoiding, alike-stands}
 
 -- ---- the verdict on a list
@@ -114,15 +113,3 @@ module _ (b : Book) (s : List AtomNo) (x : Atoms) where
     pub fresh-avoiding : fresh b s x ≡ isThis (firstAmong b s x (readingsIn b (events b (avoiding b s x))))
     unfolding fresh
     fresh-avoiding = ap isThis (sym first-avoiding)
-
-    -- x is a first occurrence exactly if it is the first alike one of the walk that avoids what x does not show
-    module _ (p : AnswerSet b x) where
-      pub avoiding-first : firstAmong b s x (readingsIn b (events b (avoiding b s x))) ≡ This
-          → (y : Atoms) → AnswerSet b y → alike s x y ≡ true → Before b y x → ⊥
-      unfolding fresh isThis
-      avoiding-first t = fresh-first b fits s x p (ap isThis (sym first-avoiding ∙ t))
-
-      pub first-avoiding-this : ((y : Atoms) → AnswerSet b y → alike s x y ≡ true → Before b y x → ⊥)
-          → firstAmong b s x (readingsIn b (events b (avoiding b s x))) ≡ This
-      unfolding fresh
-      first-avoiding-this n = first-avoiding ∙ is-this _ (first-fresh b fits s x p n)

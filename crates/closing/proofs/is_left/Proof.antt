@@ -6,7 +6,7 @@ use borrow.Author.Needs.{needs}
 use borrow.Author.Tests.{not-true, not-false}
 use Rattle.meaning.specs.Bits.{listed}
 use Rattle.meaning.specs.Written.{lent}
-use Rattle.meaning.specs.Lowest.{Pick, lowestFrom, inBoth}
+use Rattle.meaning.specs.Lowest.{lowestFrom, inBoth}
 use Rattle.closing.specs.Picked.{picked}
 use Rattle.closing.proofs.Leaving.{not-left, left-none, left-one}
 use Rattle.closing.proofs.is_left.Statement.{statement}

@@ -1,7 +1,6 @@
 -- Where there was a contradictory try its origin is closed, and the rule is that of the closing.
-use mathlib.Core.Path.{_≡_, refl}
+use mathlib.Core.Path.{refl}
 use borrow.Author.Needs.{needs}
-use Rattle.meaning.specs.Written.{written}
 use Rattle.walk.proofs.ToldClash.{told-none, told-still, told-rule, origin-read}
 use Rattle.walk.proofs.origin.tell_clash.Statement.{statement}
 use Rattle.walk.proofs.origin.tell_clash.Tie as tie
