@@ -70,9 +70,10 @@ impl Table {
     // Writes the line of a text of which no book was made, for which this number stands.
     pub fn with_refused(self, number: u8, name: &[u8], layout: Layout) -> Table {
         let counts = [0u32; Colouring::ATOMS];
+        let totals = self.totals;
         let turn = Turn {
             line: Line::Refused(number),
-            totals: self.totals,
+            totals,
         };
         self.with_turn(turn, &counts, name, layout)
     }
