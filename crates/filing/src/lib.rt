@@ -81,7 +81,8 @@ pub fn file_paper(kind: Kind) {
     if opened.good {
         let n = opened.count;
         let m = opened.names;
-        file_atom(&book[..n], kind, &names[..m], opened.asked);
+        let asked = opened.asked;
+        file_atom(&book[..n], kind, &names[..m], asked);
     }
 }
 
