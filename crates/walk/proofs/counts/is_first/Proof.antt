@@ -20,8 +20,11 @@ module _ (c : tie.After-inside2) where
   abbrev start : tie.Start
   start = c .before .before .before .before .before .before .before .before .before
 
+  abbrev after-rules-with : tie.After-rules-with
+  after-rules-with = c .before .before .before
+
   abbrev rest : tie.After-difference
-  rest = c .before .before .before .before .before .before
+  rest = after-rules-with .before .before .before
 
   fits : count (bookIn (start .args .book .now)) ≤ 255
   fits = few _ (start .args .shape) (start .pre .0) (small start)
@@ -33,7 +36,7 @@ first-alike-requires : tie.Need-first-alike-requires
 first-alike-requires c κs =
     let s = start c in (
       s .pre .0,
-      start-shallow (s .pre .1) _ _ _ (s .pre .3) _ _ (outside c) (c .before .before .before .rules-with .ensures) (fits c)
+      start-shallow (s .pre .1) _ _ _ (s .pre .3) _ _ (outside c) (after-rules-with c .rules-with .ensures) (fits c)
           (c .before .before .empty .ensures) refl,
       s .pre .1,
       tt,
@@ -44,7 +47,7 @@ returns c =
     let i = c .before .before in
     let s = start i in
     not-this _ (c .match .keys2)
-    ∙ sym (start-tells (s .pre .1) _ _ _ (s .pre .3) _ _ (outside i) (i .before .before .before .rules-with .ensures) (fits i)
+    ∙ sym (start-tells (s .pre .1) _ _ _ (s .pre .3) _ _ (outside i) (after-rules-with i .rules-with .ensures) (fits i)
     (i .before .before .empty .ensures) refl (s .pre .2) (c .before .first-alike .ensures))
 
 returns-2 : tie.Need-returns-2
@@ -52,7 +55,7 @@ returns-2 c =
     let i = c .before .before .before in
     let s = start i in
     this-told _ (c .enum-told .given .1)
-    ∙ sym (start-tells (s .pre .1) _ _ _ (s .pre .3) _ _ (outside i) (i .before .before .before .rules-with .ensures) (fits i)
+    ∙ sym (start-tells (s .pre .1) _ _ _ (s .pre .3) _ _ (outside i) (after-rules-with i .rules-with .ensures) (fits i)
     (i .before .before .empty .ensures) refl (s .pre .2) (c .before .before .first-alike .ensures))
 
 pub is-first-spec : {M : Type 1} → statement M

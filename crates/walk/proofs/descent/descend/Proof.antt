@@ -71,7 +71,10 @@ loop-holds c =
     (descends-start _ _ (shallow-start _ _ (s .pre .0) (few-rules s) (c .empty .ensures)) (c .empty .ensures), tt)
 
 close-chosen-requires : tie.Need-close-chosen-requires Inv-loop μ-loop
-close-chosen-requires c κs = let s = c .before .before .before .before .pre in (s .0, s .1, c .loop .inv .1)
+close-chosen-requires c κs =
+    let entry = c .before .before .before .before in
+    let s = entry .pre in
+    (s .0, s .1, c .loop .inv .1)
 
 returns : tie.Need-returns Inv-loop μ-loop
 returns c =

@@ -20,12 +20,15 @@ abbrev descended : tie.After-write-levels → tie.After-descend
 descended c = c .before .before .before .before
 
 returns : tie.Need-returns
-returns c = levels-no-number _ _ (c .before .before .before .pre) _ _ _ (c .if1 .taken)
+returns c =
+    let entry = c .before .before .before in
+    levels-no-number _ _ (entry .pre) _ _ _ (c .if1 .taken)
 
 returns-2 : tie.Need-returns-2
 returns-2 c =
     let n = c .before .before in
-    levels-no-room _ _ (n .before .before .before .pre) _ _ _ (n .if1 .left) (c .if2 .taken)
+    let entry = n .before .before .before in
+    levels-no-room _ _ (entry .pre) _ _ _ (n .if1 .left) (c .if2 .taken)
 
 returns-3 : tie.Need-returns-3
 returns-3 c =

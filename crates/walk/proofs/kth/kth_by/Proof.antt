@@ -31,8 +31,9 @@ tell-clash-requires c κs =
 returns : tie.Need-returns
 returns c =
     let w = c .before .before .before .before in
+    let after-empty = w .before .before .before in
     told-end _ _ (w .walk .result) _ (c .tell-clash .ensures)
-    (walk-from _ _ _ (w .before .before .before .empty .ensures) (told-start _ _ _ _ _ _ (w .walk .ensures)))
+    (walk-from _ _ _ (after-empty .empty .ensures) (told-start _ _ _ _ _ _ (w .walk .ensures)))
 
 pub kth-by-spec : {M : Type 1} → statement M
 kth-by-spec = tie.close (tie.spec (λ c κs. search needs) (λ c. search needs) walk-requires tell-clash-requires (λ c. search needs) returns)

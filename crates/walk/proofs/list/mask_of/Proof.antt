@@ -20,17 +20,25 @@ abbrev μ-loop : tie.MeasureT-loop
 loop-holds : tie.Need-loop-holds Inv-loop μ-loop
 loop-holds c = (search needs, mask-start (c .before .args .list .now) _ members-nothing)
 
-byte : (c : tie.After-put Inv-loop μ-loop) → getD (c .before .before .before .before .before .before .args .list .now) (c .before .before .before .before .loop .i) 0 < 256
-byte c = omega (arith, c .before .before .before .before .before .shared-slice-known .given (c .before .before .before .before .loop .i))
+-- where a turn begins, the start
+abbrev start : tie.At-loop Inv-loop μ-loop → tie.Start Inv-loop μ-loop
+start l = l .before .before
+
+-- behind the putting of a number, where its turn begins
+abbrev turn : tie.After-put Inv-loop μ-loop → tie.At-loop Inv-loop μ-loop
+turn c = c .before .before .before .before
+
+byte : (c : tie.After-put Inv-loop μ-loop) → getD (start (turn c) .args .list .now) (turn c .loop .i) 0 < 256
+byte c = omega (arith, turn c .before .shared-slice-known .given (turn c .loop .i))
 
 loop-again : tie.Need-loop-again Inv-loop μ-loop
 loop-again c =
-    let k = c .before .before .before .before in
-    let l = k .before .before .args .list .now in
+    let k = turn c in
+    let l = start k .args .list .now in
     (omega arith, mask-next l _ _ (k .loop .i) (omega arith) (byte c) (k .loop .inv .1) (c .put .ensures))
 
 returns : tie.Need-returns Inv-loop μ-loop
-returns c = mask-end (c .before .before .before .args .list .now) _ (c .before .loop .i) (omega arith) (c .before .loop .inv .1)
+returns c = mask-end (start (c .before) .args .list .now) _ (c .before .loop .i) (omega arith) (c .before .loop .inv .1)
 
 pub mask-of-spec : {M : Type 1} → statement M
 mask-of-spec =

@@ -20,8 +20,8 @@ words-at-requires : tie.Need-words-at-requires Inv-loop μ-loop
 words-at-requires c κs = omega (arith, c .if1 .left)
 
 returns-2 : tie.Need-returns-2 Inv-loop μ-loop
-returns-2 c = λ h. (
-  c .before .before .before .if1 .left,
+returns-2 c = let tested = c .before .before .before in λ h. (
+  tested .if1 .left,
   sym (ap members (c .before .before .words-at .ensures)) ∙ c .before .is-same .ensures (c .if2 .taken),
 )
 

@@ -14,10 +14,12 @@ returns c = sym (lt-no _ _ _ _ (c .if1 .taken))
 returns-2 : tie.Need-returns-2
 unfolding keptAt
 returns-2 c =
-    let s = c .before .before .before .before .before .before .before .before .before .before in
+    let after-store-words = c .before .before .before .before .before .before in
+    let tested = after-store-words .before .before in
+    let s = tested .before .before in
     c .before .before .store-words2 .ensures
-    ∙ ap (stored (s .args .k * 2 + 1) (s .args .on .w)) (c .before .before .before .before .before .before .store-words .ensures)
-    ∙ sym (lt-yes _ _ _ _ (c .before .before .before .before .before .before .before .before .if1 .left))
+    ∙ ap (stored (s .args .k * 2 + 1) (s .args .on .w)) (after-store-words .store-words .ensures)
+    ∙ sym (lt-yes _ _ _ _ (tested .if1 .left))
 
 pub keep-spec : {M : Type 1} → statement M
 keep-spec =

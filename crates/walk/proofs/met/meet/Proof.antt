@@ -22,19 +22,23 @@ module _ (c : tie.Else1) where
 abbrev wanted : tie.After-heads-of → tie.Else1
 wanted c = c .before .before .before .before
 
+-- from where the row's place is reckoned back to those heads
+abbrev after-heads-of : tie.After-struct-known4 → tie.After-heads-of
+after-heads-of c = c .before .before .before
+
 returns : tie.Need-returns
 returns c = met-passed _ _ _ _ (c .before .before .if1 .taken) (c .tried .ensures)
 
 mul-write-row : tie.Need-mul-write-row
-mul-write-row c = omega (arith, place (wanted (c .before .before .before)))
+mul-write-row c = omega (arith, place (wanted (after-heads-of c)))
 
 write-row-requires : tie.Need-write-row-requires
-write-row-requires c κs = place (wanted (c .before .before .before .before))
+write-row-requires c κs = place (wanted (after-heads-of (c .before)))
 
 -- after the row was written
 module _ (c : tie.After-write-row) where
   abbrev headed : tie.After-heads-of
-  headed = c .before .before .before .before .before
+  headed = after-heads-of (c .before .before)
 
   abbrev unpassed : tie.Else1
   unpassed = wanted headed

@@ -18,7 +18,9 @@ few-rules : (s : tie.Start) → s .args .shape .rules < 256
 few-rules s = search needs
 
 returns : tie.Need-returns
-returns c = page-no-room _ _ (c .before .before .before .before .before .pre) _ _ _ _ (c .if1 .taken)
+returns c =
+    let entry = c .before .before .before .before .before in
+    page-no-room _ _ (entry .pre) _ _ _ _ (c .if1 .taken)
 
 walk-requires : tie.Need-walk-requires
 walk-requires c κs =
@@ -30,11 +32,12 @@ walk-requires c κs =
 
 returns-2 : tie.Need-returns-2
 returns-2 c =
-    let e = c .before .before .before .before .before .before in
+    let after-walk = c .before .before .before in
+    let e = after-walk .before .before .before in
     let t = e .before .before in
     let r = t .before .before .before in
-    page-first _ _ (start r .pre) _ _ (r .before .if1 .left) (r .rows-in .ensures) _ _ (c .tell .ensures ∙ ap success (told-ended _ _ _ (record { tally = c .before .before .before .walk .result; out = [] }))) (e .empty .ensures)
-    (t .if2 .taken) (told-start _ _ _ _ _ _ (c .before .before .before .walk .ensures))
+    page-first _ _ (start r .pre) _ _ (r .before .if1 .left) (r .rows-in .ensures) _ _ (c .tell .ensures ∙ ap success (told-ended _ _ _ (record { tally = after-walk .walk .result; out = [] }))) (e .empty .ensures)
+    (t .if2 .taken) (told-start _ _ _ _ _ _ (after-walk .walk .ensures))
 
 resume-requires : tie.Need-resume-requires
 resume-requires c κs =
@@ -46,11 +49,12 @@ resume-requires c κs =
 
 returns-3 : tie.Need-returns-3
 returns-3 c =
-    let e = c .before .before .before .before .before .before in
+    let after-resume = c .before .before .before in
+    let e = after-resume .before .before .before in
     let t = e .before .before in
     let r = t .before .before .before in
-    page-later _ _ (start r .pre) _ _ (r .before .if1 .left) (r .rows-in .ensures) _ _ (c .tell2 .ensures ∙ ap success (told-ended _ _ _ (record { tally = c .before .before .before .resume .result; out = [] }))) (e .empty2 .ensures)
-    (t .if2 .left) (told-start _ _ _ _ _ _ (c .before .before .before .resume .ensures))
+    page-later _ _ (start r .pre) _ _ (r .before .if1 .left) (r .rows-in .ensures) _ _ (c .tell2 .ensures ∙ ap success (told-ended _ _ _ (record { tally = after-resume .resume .result; out = [] }))) (e .empty2 .ensures)
+    (t .if2 .left) (told-start _ _ _ _ _ _ (after-resume .resume .ensures))
 
 pub page-in-spec : {M : Type 1} → statement M
 page-in-spec =

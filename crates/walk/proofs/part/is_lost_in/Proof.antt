@@ -27,7 +27,8 @@ loop-less c = omega (arith, next-further _ _ _ (c .next-in2 .ensures) (omega ari
 loop-again : tie.Need-loop-again Inv-loop μ-loop
 loop-again c =
     let p = c .before .before in
-    lost-turn _ _ _ (p .before .before .before .loop .inv) _ (p .before .head-row .ensures) (p .is-within .ensures) (c .before .if1 .left)
+    let turn = p .before .before .before in
+    lost-turn _ _ _ (turn .loop .inv) _ (p .before .head-row .ensures) (p .is-within .ensures) (c .before .if1 .left)
     (c .next-in2 .ensures)
 
 returns-2 : tie.Need-returns-2 Inv-loop μ-loop

@@ -109,7 +109,10 @@ module _ (t : ℕ) where
   -- ---- the needs
 
   close-or-clash-requires : lts.Need-close-or-clash-requires calls here resume.Post
-  close-or-clash-requires c κs = let s = c .before .before .before .pre .1 in (s .0, s .3, s .4)
+  close-or-clash-requires c κs =
+      let entry = c .before .before .before in
+      let s = entry .pre .1 in
+      (s .0, s .3, s .4)
 
   returns : lts.Need-returns calls here resume.Post
   returns c =
@@ -136,8 +139,9 @@ module _ (t : ℕ) where
   returns-3 : lts.Need-returns-3 calls here resume.Post
   returns-3 c =
       let y = c .before .before in
-      let g = y .before .before .before .before in
-      resume-off _ _ _ _ _ (forks (g .before)) (g .generates .ensures) (not-true _ (y .before .before .before .if1 .taken)) (y .resume .ensures)
+      let tested = y .before .before .before in
+      let g = tested .before in
+      resume-off _ _ _ _ _ (forks (g .before)) (g .generates .ensures) (not-true _ (tested .if1 .taken)) (y .resume .ensures)
 
   resume-requires-2 : lts.Need-resume-requires-2 calls here resume.Post
   resume-requires-2 c κs =
@@ -157,7 +161,8 @@ module _ (t : ℕ) where
   returns-4 c =
       let z = c .before .before in
       let w = z .before .before .before .before .before in
-      resume-on _ _ _ _ _ (forks (forked w)) (asked w .generates .ensures) (not-false _ (w .before .before .before .if1 .left))
+      let tested = w .before .before .before in
+      resume-on _ _ _ _ _ (forks (forked w)) (asked w .generates .ensures) (not-false _ (tested .if1 .left))
       (w .resume2 .ensures) (z .walk .ensures)
 
 pub +resume-spec : {M : Type 1} → statement M

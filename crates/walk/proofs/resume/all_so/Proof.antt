@@ -19,18 +19,22 @@ Inv-loop part row inside i₀ i = (i ≤ length part) × (every (so inside row) 
 abbrev μ-loop : tie.MeasureT-loop
 μ-loop part row inside i₀ i = length part - i
 
+-- where a turn begins, the start
+abbrev start : tie.At-loop Inv-loop μ-loop → tie.Start Inv-loop μ-loop
+start l = l .before .before .before
+
 returns : tie.Need-returns Inv-loop μ-loop
 returns c =
     let g = c .before in
     let l = g .before .before .before .before in
-    let s = l .before .before .before .args in
+    let s = start l .args in
     so-fails (s .inside) (s .row .now) (s .part .now) (l .loop .i) (omega arith) (g .before .in-row .ensures) (g .agrees .ensures)
     (not-true _ (c .if1 .taken))
 
 returns-2 : tie.Need-returns-2 Inv-loop μ-loop
 returns-2 c =
     let l = c .before in
-    let s = l .before .before .before .args in
+    let s = start l .args in
     so-all (s .inside) (s .row .now) (s .part .now) (l .loop .i) (omega arith) (l .loop .inv .1)
 
 pub all-so-spec : {M : Type 1} → statement M

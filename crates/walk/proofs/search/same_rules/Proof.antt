@@ -8,8 +8,9 @@ use Rattle.walk.proofs.search.same_rules.Tie as tie
 
 returns : tie.Need-returns
 returns c =
-    let s = c .before .before .before .before in
-    rules-differ _ (omega (arith, s .fits .rules .fits)) _ (c .before .before .before .below .ensures) _ _ _
+    let after-below = c .before .before .before in
+    let s = after-below .before in
+    rules-differ _ (omega (arith, s .fits .rules .fits)) _ (after-below .below .ensures) _ _ _
     (c .before .before .intersection .ensures) (c .before .is-within .ensures) (not-true _ (c .if1 .taken))
 
 returns-2 : tie.Need-returns-2

@@ -23,7 +23,8 @@ returns c = selected-no-number _ _ (good (c .before .before)) _ _ _ _ (c .if1 .t
 
 returns-2 : tie.Need-returns-2
 returns-2 c =
-    selected-no-list _ _ (good (c .before .before .before .before)) _ _ _ _ (c .before .before .if1 .left) (c .before .is-good-list .ensures) (not-true _ (c .if2 .taken))
+    let n = c .before .before in
+    selected-no-list _ _ (good (n .before .before)) _ _ _ _ (n .if1 .left) (c .before .is-good-list .ensures) (not-true _ (c .if2 .taken))
 
 returns-3 : tie.Need-returns-3
 returns-3 c =
@@ -41,7 +42,9 @@ kth-shown-requires c κs =
     (good (n .before .before), omega arith, e .if3 .left, sym (l .before .is-good-list .ensures) ∙ not-false _ (l .if2 .left))
 
 returns-4 : tie.Need-returns-4
-returns-4 c = selected-refused _ (c .before .before .before .read-book .ensures) _ _ _ _ (c .before .why .given .1)
+returns-4 c =
+    let after-read-book = c .before .before .before in
+    selected-refused _ (after-read-book .read-book .ensures) _ _ _ _ (c .before .why .given .1)
 
 returns-5 : tie.Need-returns-5
 returns-5 c =

@@ -94,7 +94,7 @@ module _ (t : ℕ) where
     small = few _ _ (start .pre .1 .0) (few-rules start)
 
     going : start .args .t .halt ≡ Going
-    going = c .before .before .before .enum-told .given .1
+    going = let matched = c .before .before .before in matched .enum-told .given .1
 
     within : start .args .t .tries < start .args .limit
     within = c .before .if1 .left
@@ -146,13 +146,21 @@ module _ (t : ℕ) where
   -- ---- the needs
 
   returns : lts.Need-returns calls here walk.Post
-  returns c = (walk-ended _ _ _ _ _ (halted-told _ (c .match .keys2)), c .before .before .before .before .pre .1 .4)
+  returns c =
+      let entry = c .before .before .before .before in
+      (walk-ended _ _ _ _ _ (halted-told _ (c .match .keys2)), entry .pre .1 .4)
 
   returns-2 : lts.Need-returns-2 calls here walk.Post
-  returns-2 c = (walk-stops _ _ _ _ _ (c .before .before .before .enum-told .given .1) (c .before .if1 .taken), c .before .before .before .before .before .before .before .before .pre .1 .4)
+  returns-2 c =
+      let matched = c .before .before .before in
+      let entry = matched .before .before .before .before .before in
+      (walk-stops _ _ _ _ _ (matched .enum-told .given .1) (c .before .if1 .taken), entry .pre .1 .4)
 
   close-or-clash-requires : lts.Need-close-or-clash-requires calls here walk.Post
-  close-or-clash-requires c κs = let s = c .before .before .before .before .before .before .before .pre .1 in (s .0, s .3, s .5)
+  close-or-clash-requires c κs =
+      let entry = c .before .before .before .before .before .before .before in
+      let s = entry .pre .1 in
+      (s .0, s .3, s .5)
 
   returns-3 : lts.Need-returns-3 calls here walk.Post
   returns-3 c =
@@ -174,7 +182,7 @@ module _ (t : ℕ) where
       (s .0, s .3, reading-generated (told (asked e) .0) (told (asked e) .1) (all e), s .4)
 
   tried-requires : lts.Need-tried-requires calls here walk.Post
-  tried-requires c κs = more (full (c .before .before .before .before .before))
+  tried-requires c κs = let earlier = c .before .before .before .before .before in more (full earlier)
 
   returns-4 : lts.Need-returns-4 calls here walk.Post
   returns-4 c =
@@ -189,17 +197,19 @@ module _ (t : ℕ) where
 
   meet-requires : lts.Need-meet-requires calls here walk.Post
   meet-requires c κs =
-      let k = full (c .before .before .before .before .before .before) in
+      let earlier = c .before .before .before .before .before .before in
+      let k = full earlier in
       let s = start k .pre .1 in
       (s .0, within k, going k, s .1)
 
   returns-5 : lts.Need-returns-5 calls here walk.Post
   returns-5 c =
       let m = c .before .before in
-      let n = c .before .before .before .before .before .before .before in
+      let tested = m .before .before in
+      let n = tested .before .before .before in
       let e = n .before .before in
       let k = full e in
-      let f = not-false _ (c .before .before .before .before .if2 .left) in (
+      let f = not-false _ (tested .if2 .left) in (
         walk-reading _ _ _ _ _ (going k) (within k) (told (asked e) .0) (told (asked e) .1) (all e) (n .does-count .ensures .0) f
             (ap (toldFrom _ (start k .args .origin .now)) (m .meet .ensures) ∙ told-met _ _ _ _ _),
         remembers-at (met-sets _ _ _ _ (m .meet .ensures) ∙ sym (b-yes _ _ _ f)) (n .does-count .ensures .1),

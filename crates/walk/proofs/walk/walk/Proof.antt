@@ -13,7 +13,9 @@ walk-shown-requires c κs =
     (s .pre .0, s .pre .1, s .pre .2, s .pre .3, record { kept = λ e. true-and-false refl e }, s .pre .4)
 
 returns : tie.Need-returns
-returns c = c .before .before .before .walk-shown .ensures .0 ∙ ap (run _ _ _) (all-counted _ _ _)
+returns c =
+    let after-walk-shown = c .before .before .before in
+    after-walk-shown .walk-shown .ensures .0 ∙ ap (run _ _ _) (all-counted _ _ _)
 
 pub walk-spec : {M : Type 1} → statement M
 walk-spec = tie.close (tie.spec (λ c. search needs) walk-shown-requires (λ c. search needs) returns)
