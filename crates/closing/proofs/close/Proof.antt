@@ -65,7 +65,7 @@ module _ (q : tie.After-propagate-dropped) where
 -- ---- the needs
 
 propagate-requires : tie.Need-propagate-requires
-propagate-requires c κs = let s = c .before .before .before .before .before .before .before in s .pre
+propagate-requires c κs = let start = c .before .before .before .before .before .before .before in start .pre
 
 drop-unsupported-requires : tie.Need-drop-unsupported-requires
 drop-unsupported-requires c κs = entry (c .before) .pre .0

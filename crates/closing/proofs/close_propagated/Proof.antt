@@ -109,11 +109,12 @@ loop-less : tie.Need-loop-less Inv-loop μ-loop
 loop-less c =
     let d = before-it c in
     let few = good-few (good (entry d)) in
+    let tested = c .before .before .before .before in
     omega (
       arith,
       propagated-no-more _ few (sets d) (sized-coloured _ _) (c .propagate-dropped .ensures .0) (c .propagate-dropped .ensures .1),
       dropped-less _ few _ _ (d .drop-suspects .ensures .0) (of (listed (turn d .loop .on)))
-          (not-false (d .drop-suspects .result) (c .before .before .before .before .if2 .left)),
+          (not-false (d .drop-suspects .result) (tested .if2 .left)),
     )
 
 loop-again : tie.Need-loop-again Inv-loop μ-loop
