@@ -1,7 +1,8 @@
 -- What is propagated is under way to the closing, and so is what follows when the rules that nothing held up are off. With these off all
 -- others are supported, and the rest of the way closes it.
 use mathlib.Core.Path.{ap}
-use Prim.Native.Nat.{_≤_}
+use mathlib.Core.List.{List}
+use Prim.Native.Nat.{ℕ, _≤_}
 use borrow.Author.Needs.{needs}
 use Rattle.meaning.specs.Books.{count}
 use Rattle.meaning.specs.Colours.{Pair}
@@ -39,8 +40,14 @@ module _ (p : tie.After-propagate) where
   few : count (bookIn (entry .args .book .now)) ≤ 255
   few = good-few (start-good entry .0)
 
+  abbrev on-reached : List ℕ
+  on-reached = let (book, (shape, (rows, (on, (off, more))))) = p .propagate .last in on
+
+  abbrev off-reached : List ℕ
+  off-reached = let (book, (shape, (rows, (on, (off, more))))) = p .propagate .last in off
+
   propagated : UnderWay (bookIn (entry .args .book .now)) from
-      (lent (listed (p .propagate .last .1 .1 .1 .0)) (listed (p .propagate .last .1 .1 .1 .1 .0)))
+      (lent (listed on-reached) (listed off-reached))
   propagated =
       let (e, f) = p .propagate .ensures in closes-propagated _ few sets (sized-coloured _ _) e f (closes-start _ _)
 
@@ -53,19 +60,26 @@ module _ (q : tie.After-propagate-dropped) where
   before-it = dropped .before .before
 
   abbrev less-them : Tables
-  less-them = coloured (listed (before-it .propagate .last .1 .1 .1 .0)) (listed (dropped .drop-unsupported .last .1 .1 .0))
+  less-them =
+      let (book, (shape, (off, more))) = dropped .drop-unsupported .last in coloured (listed (on-reached before-it)) (listed off)
+
+  abbrev on-followed : List ℕ
+  on-followed = let (book, (shape, (rows, (was, (on, (off, more)))))) = q .propagate-dropped .last in on
+
+  abbrev off-followed : List ℕ
+  off-followed = let (book, (shape, (rows, (was, (on, (off, more)))))) = q .propagate-dropped .last in off
 
   followed : UnderWay (bookIn (entry before-it .args .book .now)) (from before-it)
-      (lent (listed (q .propagate-dropped .last .1 .1 .1 .1 .0)) (listed (q .propagate-dropped .last .1 .1 .1 .1 .1 .0)))
+      (lent (listed on-followed) (listed off-followed))
   followed =
       let (e, f) = q .propagate-dropped .ensures in
       closes-propagated _ (few before-it) less-them (sized-coloured _ _) e f
-      (closes-dropped _ (few before-it) _ _ (dropped .drop-unsupported .ensures) (of (listed (before-it .propagate .last .1 .1 .1 .0))) (propagated before-it))
+      (closes-dropped _ (few before-it) _ _ (dropped .drop-unsupported .ensures) (of (listed (on-reached before-it))) (propagated before-it))
 
 -- ---- the needs
 
 propagate-requires : tie.Need-propagate-requires
-propagate-requires c κs = let s = c .before .before .before .before .before .before .before in s .pre
+propagate-requires c κs = let start = c .before .before .before .before .before .before .before in start .pre
 
 drop-unsupported-requires : tie.Need-drop-unsupported-requires
 drop-unsupported-requires c κs = entry (c .before) .pre .0
@@ -91,7 +105,7 @@ close-propagated-requires c κs =
       s .pre .0,
       s .pre .1,
       propagated-to _ (few p) (less-them q) (sized-coloured _ _) e f .good .propagated,
-      dropped-settled _ (few p) (of (listed (p .propagate .last .1 .1 .1 .1 .0))) _ (dropped q .drop-unsupported .ensures),
+      dropped-settled _ (few p) (of (listed (off-reached p))) _ (dropped q .drop-unsupported .ensures),
       propagated-off _ (few p) (less-them q) (sized-coloured _ _) e f,
     )
 
@@ -102,7 +116,8 @@ returns c =
     let p = before-it q in
     let s = entry p in
     let n = shape-count _ _ (s .pre .0) in
-    let z = closes-end _ (few p) (written (s .args .c)) (start-good s .1) (k .close-propagated .last .1 .1 .1 .1 .0) (k .close-propagated .last .1 .1 .1 .1 .1 .0)
+    let (book, (shape, (rows, (settled, (on, (off, more)))))) = k .close-propagated .last in
+    let z = closes-end _ (few p) (written (s .args .c)) (start-good s .1) on off
     (closed-behind _ (followed q) (never-left (k .close-propagated .ensures))) n (c .ended .ensures .0) in
     (z, clash-end _ _ n z _ _ (ap pair (c .ended .ensures .0)) (c .ended .ensures .1))
 

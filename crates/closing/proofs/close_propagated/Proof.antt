@@ -54,10 +54,13 @@ module _ (d : tie.After-drop-suspects Inv-loop μ-loop) where
   first = lent (listed (entry .args .on .now)) (listed (entry .args .off .now))
 
   -- the sets then
-  abbrev sets : Tables
-  sets = coloured (listed (turn .loop .on)) (listed (d .drop-suspects .last .1 .1 .1 .1 .0))
+  abbrev off-then : List ℕ
+  off-then = let (book, (shape, (rows, (old, (off, more))))) = d .drop-suspects .last in off
 
-  dropped : UnderWay (bookIn (entry .args .book .now)) first (lent (listed (turn .loop .on)) (listed (d .drop-suspects .last .1 .1 .1 .1 .0)))
+  abbrev sets : Tables
+  sets = coloured (listed (turn .loop .on)) (listed off-then)
+
+  dropped : UnderWay (bookIn (entry .args .book .now)) first (lent (listed (turn .loop .on)) (listed off-then))
   dropped = closes-dropped _ (good-few (good entry)) _ _ (d .drop-suspects .ensures .0 .gone) (of (listed (turn .loop .on))) (turn .loop .inv .0)
 
 -- behind what follows from them
@@ -88,7 +91,7 @@ returns-2 : tie.Need-returns-2 Inv-loop μ-loop
 returns-2 c =
     let d = c .before in
     let l = turn d .loop in
-    ends-closed (closed-to _ (good-few (good (entry d))) (first d) (l .on) (l .off) (d .drop-suspects .last .1 .1 .1 .1 .0) (l .inv .0) (l .inv .1)
+    ends-closed (closed-to _ (good-few (good (entry d))) (first d) (l .on) (l .off) (off-then d) (l .inv .0) (l .inv .1)
     (d .drop-suspects .ensures .0) (not-true (d .drop-suspects .result) (c .if2 .taken)))
 
 propagate-dropped-requires : tie.Need-propagate-dropped-requires Inv-loop μ-loop
@@ -97,7 +100,7 @@ propagate-dropped-requires c κs =
     let w = d .before .before .before .before in
     let l = turn d .loop in
     let s = entry d in
-    let off = d .drop-suspects .last .1 .1 .1 .1 .0 in
+    let off = off-then d in
     let above = dropped-above _ (good-few (good s)) (of (listed (l .off))) (of (listed off)) (d .drop-suspects .ensures .0 .gone) in (
       s .pre .0,
       s .pre .1,
@@ -109,11 +112,12 @@ loop-less : tie.Need-loop-less Inv-loop μ-loop
 loop-less c =
     let d = before-it c in
     let few = good-few (good (entry d)) in
+    let tested = c .before .before .before .before in
     omega (
       arith,
       propagated-no-more _ few (sets d) (sized-coloured _ _) (c .propagate-dropped .ensures .0) (c .propagate-dropped .ensures .1),
       dropped-less _ few _ _ (d .drop-suspects .ensures .0) (of (listed (turn d .loop .on)))
-          (not-false (d .drop-suspects .result) (c .before .before .before .before .if2 .left)),
+          (not-false (d .drop-suspects .result) (tested .if2 .left)),
     )
 
 loop-again : tie.Need-loop-again Inv-loop μ-loop
@@ -121,12 +125,13 @@ loop-again c =
     let d = before-it c in
     let few = good-few (good (entry d)) in
     let (e, f) = c .propagate-dropped .ensures in
+    let (book, (shape, (rows, (was, (on, (off, more)))))) = c .propagate-dropped .last in
     let same = d .drop-suspects .ensures .1 in (
       closes-propagated _ few (sets d) (sized-coloured _ _) e f (dropped d),
       propagated-to _ few (sets d) (sized-coloured _ _) e f .good .propagated,
       subst (λ (v : List ℕ). Settled (bookIn (entry d .args .book .now)) (of (listed v))) (sym same)
           (dropped-settled _ few (of (listed (turn d .loop .off))) _ (d .drop-suspects .ensures .0 .gone)),
-      subst (λ (v : List ℕ). Under (bookIn (entry d .args .book .now)) (of (listed v)) (of (listed (c .propagate-dropped .last .1 .1 .1 .1 .1 .0)))) (sym same)
+      subst (λ (v : List ℕ). Under (bookIn (entry d .args .book .now)) (of (listed v)) (of (listed off))) (sym same)
           (propagated-off _ few (sets d) (sized-coloured _ _) e f),
     )
 

@@ -15,7 +15,8 @@ use Rattle.closing.proofs.is_left.Tie as tie
 -- what the search has found, of the sets that are lent
 abbrev Found : tie.After-lowest-clash → Type 0
 Found k =
-    let a = k .before .before .before .before .args in
+    let start = k .before .before .before .before in
+    let a = start .args in
     lowestFrom 0 (a .rules) (inBoth (lent (listed (a .on .now)) (listed (a .off .now)))) ≡ picked (k .lowest-clash .result)
 
 found : (k : tie.After-lowest-clash) → Found k
@@ -34,7 +35,8 @@ returns-2 c = let k = c .before .before in left-none _ (found k ∙ ap picked (c
 returns-3 : tie.Need-returns-3
 returns-3 c =
     let k = c .before .before in
-    left-one (not-false _ (k .before .before .before .if1 .left)) (found k ∙ ap picked (c .enum-told2 .given .1))
+    let tested = k .before .before .before in
+    left-one (not-false _ (tested .if1 .left)) (found k ∙ ap picked (c .enum-told2 .given .1))
 
 pub is-left-spec : {M : Type 1} → statement M
 is-left-spec =

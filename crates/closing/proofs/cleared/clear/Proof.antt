@@ -37,18 +37,23 @@ module _ (w : tie.After-is-within Inv-loop μ-loop) where
   abbrev start : tie.Start Inv-loop μ-loop
   start = turn .before .before .before .before
 
+  abbrev cand-now : List ℕ
+  cand-now = let (book, (shape, (rows, (suspects, (cand, (held, more)))))) = pass .try-suspects .last in cand
+
+  abbrev held-now : List ℕ
+  held-now = let (book, (shape, (rows, (suspects, (cand, (held, more)))))) = pass .try-suspects .last in held
+
   went : Clearing (bookIn (start .args .book .now)) (of (listed (start .args .suspects .now))) (of (listed (start .args .held .now)))
-      (of (listed (pass .try-suspects .last .1 .1 .1 .1 .1 .0))) (of (listed (pass .try-suspects .last .1 .1 .1 .1 .0)))
+      (of (listed held-now)) (of (listed cand-now))
   went = clearing-more (turn .loop .inv) (pass .try-suspects .ensures .0) (pass .try-suspects .ensures .1)
 
 try-suspects-requires : tie.Need-try-suspects-requires Inv-loop μ-loop
-try-suspects-requires c κs = let s = c .before .before .before .before .before .before in s .pre
+try-suspects-requires c κs = let start = c .before .before .before .before .before .before in start .pre
 
 returns : tie.Need-returns Inv-loop μ-loop
 returns c =
     let w = c .before in
-    let p = pass w in
-    let cand = p .try-suspects .last .1 .1 .1 .1 .0 in
+    let cand = cand-now w in
     clearing-end (went w) (λ q. at-rule cand refl q
     ∙ none-in cand (w .before .before .whole2 .result .w) (w .before .empty .result .w) (w .before .before .whole2 .ensures) (w .before .empty .ensures)
     (w .is-within .ensures) (c .if1 .taken) (atomNo (q .0)))
@@ -57,7 +62,7 @@ loop-less : tie.Need-loop-less Inv-loop μ-loop
 loop-less c =
     let w = c .before in
     let p = pass w in
-    let cand = p .try-suspects .last .1 .1 .1 .1 .0 in
+    let cand = cand-now w in
     let (a, m) = one-in cand (w .before .before .whole2 .result .w) (w .before .empty .result .w) (w .before .before .whole2 .ensures) (w .before .empty .ensures)
     (w .is-within .ensures) (c .if1 .left) in
     swept-less (p .try-suspects .ensures .0) (ruleNo (a .0)) (at-rule cand refl (ruleNo (a .0)) ∙ m)

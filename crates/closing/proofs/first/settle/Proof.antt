@@ -9,7 +9,9 @@ settle-in-requires : tie.Need-settle-in-requires
 settle-in-requires c κs = let h = c .before .before in read-as _ (h .before .before .read-book .ensures) (h .shape .given .1)
 
 returns : tie.Need-returns
-returns c = settle-refused _ (c .before .before .before .read-book .ensures) _ (c .before .why .given .1)
+returns c =
+    let after-read-book = c .before .before .before in
+    settle-refused _ (after-read-book .read-book .ensures) _ (c .before .why .given .1)
 
 returns-2 : tie.Need-returns-2
 returns-2 c =

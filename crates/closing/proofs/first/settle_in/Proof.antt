@@ -48,13 +48,17 @@ module _ (c : tie.After-write-rules) where
 -- ---- the needs
 
 returns : tie.Need-returns
-returns c = settle-no-room _ _ (c .before .before .before .before .before .pre) _ (c .if1 .taken)
+returns c =
+    let start = c .before .before .before .before .before in
+    settle-no-room _ _ (start .pre) _ (c .if1 .taken)
 
 lost-in-requires : tie.Need-lost-in-requires
 lost-in-requires c κs = begun (c .before .before) .pre
 
 write-rules-requires : tie.Need-write-rules-requires
-write-rules-requires c κs = omega (arith, with-room (c .before .before .before .before .before .before) .if1 .left)
+write-rules-requires c κs =
+    let after-heads-of = c .before .before .before .before .before .before in
+    omega (arith, with-room after-heads-of .if1 .left)
 
 write-settled-requires : tie.Need-write-settled-requires
 write-settled-requires c κs =

@@ -74,8 +74,10 @@ returns-4 c =
     let e = mark-asked _ (good-asks (good k)) _ _ (k .pre .2) (k .args .r) i _ z (asked c .every-in .ensures) in
     let h = c .before .head .ensures in
     let f = p .before in
+    let tested = f .before .before in
+    let tested3 = c .before .before .before .before in
     let put = c .before .before .put .ensures in (
-      mark-added _ _ _ _ _ _ put (sym (f .before .before .before .has .ensures) ∙ f .before .before .if1 .left) (sym (f .before .has2 .ensures) ∙ f .if2 .left) (sym e ∙ not-false _ (c .before .before .before .before .if3 .left)),
+      mark-added _ _ _ _ _ _ put (sym (tested .before .has .ensures) ∙ tested .if1 .left) (sym (f .before .has2 .ensures) ∙ f .if2 .left) (sym e ∙ not-false _ (tested3 .if3 .left)),
       headed-set _ _ (k .pre .2) (k .args .r) i (omega (arith, listed-long (k .args .marks .now), good-few (good k))) _ put _ h (head-low (good k) (k .args .r) i _ h),
     )
 

@@ -32,7 +32,7 @@ start c = c .before .before .before .before .before
 -- ---- the needs
 
 lost-heads-requires : tie.Need-lost-heads-requires
-lost-heads-requires c κs = start (first (second (fresh (c .before .before .before)))) .pre
+lost-heads-requires c κs = let after-join = c .before .before .before in start (first (second (fresh after-join))) .pre
 
 returns : tie.Need-returns
 returns c =
@@ -42,12 +42,15 @@ returns c =
     let o = first t in
     let s = start o in
     let a = s .args in
-    let hit = t .spread2 .last .1 .1 .1 .0 in
+    let after-whole = f .before .before .before in
+    let (rows, (nt, (hit, (cand, more)))) = o .spread .last in
+    let (rows2, (nl, (cand2, (hit2, more2)))) = t .spread2 .last in
+    let (book, (shape, (rows3, (new, (off, (lost, more3)))))) = c .lost-heads .last in
     fallen _ (a .rows .now) (s .pre .1) (a .off .now) (a .nt .now) (a .nl .now) (a .cand .now) (replicate 4 0)
-    (o .spread .last .1 .1 .0) hit (o .spread .last .1 .1 .1 .0) (t .spread2 .last .1 .1 .0)
+    hit hit2 cand cand2
     members-nothing (o .spread .ensures .0) (o .spread .ensures .1) (t .spread2 .ensures .0) (t .spread2 .ensures .1)
-    (f .difference .result .w) (j .join .last .0) (replicate 4 0) (c .lost-heads .last .1 .1 .1 .1 .1 .0)
-    (f .difference .ensures ∙ ap₂ (λ (u v : List ℕ). less (members u) (members v)) (f .before .before .before .whole .ensures) (f .before .whole2 .ensures))
+    (f .difference .result .w) (j .join .last .0) (replicate 4 0) lost
+    (f .difference .ensures ∙ ap₂ (λ (u v : List ℕ). less (members u) (members v)) (after-whole .whole .ensures) (f .before .whole2 .ensures))
     (j .join .ensures) members-nothing (c .lost-heads .ensures)
 
 pub fall-spec : {M : Type 1} → statement M

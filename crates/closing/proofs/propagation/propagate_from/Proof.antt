@@ -1,5 +1,7 @@
 -- The invariant: what is reached lies within every propagated pair above the start, and what is pending is in the three sets
 -- (Propagating). A turn that goes on has added a rule.
+use mathlib.Core.List.{List}
+use Prim.Native.Nat.{ℕ}
 use native.Mathlib.Omega.{arith}
 use borrow.Author.Needs.{needs}
 use Rattle.meaning.specs.Colours.{Pair}
@@ -42,9 +44,20 @@ module _ (f : tie.After-fall Inv-loop μ-loop) where
   abbrev first : Pair
   first = lent (listed (entry .args .on .now)) (listed (entry .args .off .now))
 
+  abbrev off-fell : List ℕ
+  off-fell = let (book, (shape, (rows, (off, (nt, (nl, (cand, more))))))) = f .fall .last in off
+
+  abbrev nt-fell : List ℕ
+  nt-fell = let (book, (shape, (rows, (off, (nt, (nl, (cand, more))))))) = f .fall .last in nt
+
+  abbrev nl-fell : List ℕ
+  nl-fell = let (book, (shape, (rows, (off, (nt, (nl, (cand, more))))))) = f .fall .last in nl
+
+  abbrev cand-fell : List ℕ
+  cand-fell = let (book, (shape, (rows, (off, (nt, (nl, (cand, more))))))) = f .fall .last in cand
+
   fell : Propagating (bookIn (entry .args .book .now)) first
-      (lent (listed (turn .loop .on)) (listed (f .fall .last .1 .1 .1 .0)))
-      (atomSet (f .fall .last .1 .1 .1 .1 .0)) (atomSet (f .fall .last .1 .1 .1 .1 .1 .0)) (of (listed (f .fall .last .1 .1 .1 .1 .1 .1 .0)))
+      (lent (listed (turn .loop .on)) (listed off-fell)) (atomSet nt-fell) (atomSet nl-fell) (of (listed cand-fell))
   fell = propagating-fall _ first (of (listed (turn .loop .on))) _ _ _ _ _ _ _ _ (f .fall .ensures) (hit-inside _ _ _) (turn .loop .inv)
 
 -- behind step 2
@@ -52,9 +65,17 @@ module _ (r : tie.After-raise Inv-loop μ-loop) where
   abbrev before-it : tie.After-fall Inv-loop μ-loop
   before-it = r .before .before .before .before .before .before .before .before .before .before
 
+  abbrev cand-rose : List ℕ
+  cand-rose = let (book, (shape, (rows, (off, (cand, (on, (nt, more))))))) = r .raise .last in cand
+
+  abbrev on-rose : List ℕ
+  on-rose = let (book, (shape, (rows, (off, (cand, (on, (nt, more))))))) = r .raise .last in on
+
+  abbrev nt-rose : List ℕ
+  nt-rose = let (book, (shape, (rows, (off, (cand, (on, (nt, more))))))) = r .raise .last in nt
+
   rose : Propagating (bookIn (entry before-it .args .book .now)) (first before-it)
-      (lent (listed (r .raise .last .1 .1 .1 .1 .1 .0)) (listed (before-it .fall .last .1 .1 .1 .0)))
-      (atomSet (r .raise .last .1 .1 .1 .1 .1 .1 .0)) (atomSet (before-it .fall .last .1 .1 .1 .1 .1 .0)) (of (listed (r .raise .last .1 .1 .1 .1 .0)))
+      (lent (listed on-rose) (listed (off-fell before-it))) (atomSet nt-rose) (atomSet (nl-fell before-it)) (of (listed cand-rose))
   rose = propagating-rise _ (first before-it) _ _ _ _ _ _ _ _ (r .raise .ensures .0) (fell before-it)
 
 -- ---- the needs
@@ -63,47 +84,58 @@ loop-holds : tie.Need-loop-holds Inv-loop μ-loop
 loop-holds c = propagating-start _ _ (start c .pre .2)
 
 fall-requires : tie.Need-fall-requires Inv-loop μ-loop
-fall-requires c κs = let s = start (c .before .before .before .before .before) in (s .pre .0, s .pre .1)
+fall-requires c κs =
+    let after-cand = c .before .before .before .before .before in
+    let s = start after-cand in
+    (s .pre .0, s .pre .1)
 
 raise-requires : tie.Need-raise-requires Inv-loop μ-loop
-raise-requires c κs = let s = entry (c .before .before .before .before .before .before .before .before .before) in (s .pre .0, s .pre .1)
+raise-requires c κs =
+    let after-fall = c .before .before .before .before .before .before .before .before .before in
+    let s = entry after-fall in
+    (s .pre .0, s .pre .1)
 
 returns : tie.Need-returns Inv-loop μ-loop
 returns c =
     let r = c .before .before .before .before .before in
     let f = before-it r in
     let s = entry f in
-    let w = r .before .before .before .before .before .before in
-    propagating-end _ (good-few (good s)) (s .args .on .now) (s .args .off .now) (r .raise .last .1 .1 .1 .1 .1 .0) (f .fall .last .1 .1 .1 .0) (rose r)
-    (none-in (r .raise .last .1 .1 .1 .1 .1 .1 .0) (c .before .before .before .whole2 .result .w) (c .before .before .empty2 .result .w) (c .before .before .before .whole2 .ensures) (c .before .before .empty2 .ensures)
+    let tested = r .before .before .before .before .before in
+    let w = tested .before in
+    let after-empty2 = c .before .before in
+    let after-whole2 = after-empty2 .before in
+    propagating-end _ (good-few (good s)) (s .args .on .now) (s .args .off .now) (on-rose r) (off-fell f) (rose r)
+    (none-in (nt-rose r) (after-whole2 .whole2 .result .w) (after-empty2 .empty2 .result .w) (after-whole2 .whole2 .ensures) (after-empty2 .empty2 .ensures)
     (c .before .is-within2 .ensures) (c .if2 .taken))
-    (none-in (f .fall .last .1 .1 .1 .1 .1 .0) (w .before .before .whole .result .w) (w .before .empty .result .w) (w .before .before .whole .ensures) (w .before .empty .ensures)
-    (w .is-within .ensures) (r .before .before .before .before .before .if1 .taken))
-    (λ q h. at-rule (r .raise .last .1 .1 .1 .1 .0) (r .raise .ensures .1) q)
+    (none-in (nl-fell f) (w .before .before .whole .result .w) (w .before .empty .result .w) (w .before .before .whole .ensures) (w .before .empty .ensures)
+    (w .is-within .ensures) (tested .if1 .taken))
+    (λ q h. at-rule (cand-rose r) (r .raise .ensures .1) q)
 
 loop-less : tie.Need-loop-less Inv-loop μ-loop
 loop-less c =
     let r = c .before .before .before .before .before in
     let f = before-it r in
-    let (a, m) = one-in (r .raise .last .1 .1 .1 .1 .1 .1 .0) (c .before .before .before .whole2 .result .w) (c .before .before .empty2 .result .w) (c .before .before .before .whole2 .ensures) (c .before .before .empty2 .ensures)
+    let after-empty2 = c .before .before in
+    let after-whole2 = after-empty2 .before in
+    let (a, m) = one-in (nt-rose r) (after-whole2 .whole2 .result .w) (after-empty2 .empty2 .result .w) (after-whole2 .whole2 .ensures) (after-empty2 .empty2 .ensures)
     (c .before .is-within2 .ensures) (c .if2 .left) in
     let less = rise-less _ (first f) _ _ _ _ _ _ _ _ (r .raise .ensures .0) (f .fall .ensures .nt-now) (fell f) a m in
     let no-more = fall-no-more _ (first f) (of (listed (turn f .loop .on))) _ _ _ _ _ _ _ _ (f .fall .ensures) in
     omega (arith, less, no-more)
 
 loop-again : tie.Need-loop-again Inv-loop μ-loop
-loop-again c = rose (c .before .before .before .before .before)
+loop-again c = let after-raise = c .before .before .before .before .before in rose after-raise
 
 loop-less-2 : tie.Need-loop-less-2 Inv-loop μ-loop
 loop-less-2 c =
     let f = c .before .before .before .before .before in
     let w = c .before in
-    let (a, m) = one-in (f .fall .last .1 .1 .1 .1 .1 .0) (w .before .before .whole .result .w) (w .before .empty .result .w) (w .before .before .whole .ensures) (w .before .empty .ensures)
+    let (a, m) = one-in (nl-fell f) (w .before .before .whole .result .w) (w .before .empty .result .w) (w .before .before .whole .ensures) (w .before .empty .ensures)
     (w .is-within .ensures) (c .if1 .left) in
     fall-less _ (first f) (of (listed (turn f .loop .on))) _ _ _ _ _ _ _ _ (f .fall .ensures) a m
 
 loop-again-2 : tie.Need-loop-again-2 Inv-loop μ-loop
-loop-again-2 c = fell (c .before .before .before .before .before)
+loop-again-2 c = let after-fall = c .before .before .before .before .before in fell after-fall
 
 pub propagate-from-spec : {M : Type 1} → statement M
 propagate-from-spec =

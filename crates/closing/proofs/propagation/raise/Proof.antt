@@ -61,7 +61,8 @@ returns c =
     let n = l .before in
     let d = left n in
     let s = start n in
-    let e = less-listed (d .difference .result .w) _ _ (s .args .cand .now) (s .args .on .now) (d .difference .ensures) (d .before .before .before .whole .ensures)
+    let after-whole = d .before .before .before in
+    let e = less-listed (d .difference .result .w) _ _ (s .args .cand .now) (s .args .on .now) (d .difference .ensures) (after-whole .whole .ensures)
     (d .before .whole2 .ensures) in (
       raised-off _ (of (listed (s .args .off .now))) (of (listed (s .args .cand .now))) _ (of (listed (s .args .on .now))) (atomSet (s .args .nt .now)) e
           (onward-end _ (of (listed (s .args .off .now))) _ (of (listed (s .args .on .now))) (atomSet (s .args .nt .now)) _ (l .loop .r) (l .loop .inv .1)

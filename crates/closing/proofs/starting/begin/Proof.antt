@@ -26,7 +26,8 @@ loop-holds c =
 loop-again : tie.Need-loop-again Inv-loop μ-loop
 loop-again c =
     let l = c .before .before .before .before in
-    let s = l .before .before .before .args in (
+    let start = l .before .before .before in
+    let s = start .args in (
       search needs,
       count-turn (headedBy (s .rows .now) (s .on .now)) (l .loop .a) (l .loop .inv .1) (c .note-atom .ensures .0),
       count-turn (lostBy (s .rows .now) (s .off .now)) (l .loop .a) (l .loop .inv .2) (c .note-atom .ensures .1),
@@ -35,7 +36,8 @@ loop-again c =
 returns : tie.Need-returns Inv-loop μ-loop
 returns c =
     let l = c .before in
-    let s = l .before .before .before .args in (
+    let start = l .before .before .before in
+    let s = start .args in (
       count-end (headedBy (s .rows .now) (s .on .now)) (l .loop .a) (s .atoms) (omega arith) (l .loop .inv .1),
       count-end (lostBy (s .rows .now) (s .off .now)) (l .loop .a) (s .atoms) (omega arith) (l .loop .inv .2),
     )

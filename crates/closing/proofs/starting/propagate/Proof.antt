@@ -13,11 +13,12 @@ propagate-from-requires : tie.Need-propagate-from-requires
 propagate-from-requires c κs =
     let l = c .before .before in
     let n = l .before in
+    let (atoms, (rows, (on, (off, (nt, (nl, more)))))) = n .begin .last in
     let s = n .before .before .before .before .before .before in (
       s .pre .0,
       s .pre .1,
       begun-pending (s .args .book .now) (s .args .shape) (s .pre .0) (good s .atoms) (s .args .rows .now) (s .pre .1) (s .args .on .now) (s .args .off .now)
-          (n .begin .last .1 .1 .1 .1 .0) (n .begin .last .1 .1 .1 .1 .1 .0) (l .below .result .w) (n .begin .ensures .0) (n .begin .ensures .1) (l .below .ensures),
+          nt nl (l .below .result .w) (n .begin .ensures .0) (n .begin .ensures .1) (l .below .ensures),
     )
 
 pub propagate-spec : {M : Type 1} → statement M

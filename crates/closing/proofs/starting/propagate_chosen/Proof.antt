@@ -40,13 +40,13 @@ propagate-off-requires c κs =
     (s .pre .0, s .pre .1, in-shape _ _ (s .pre .0) _ h, p)
 
 returns : tie.Need-returns
-returns c = made _ _ _ _ (c .before .before .before .enum-told .given .1) (c .propagate .ensures)
+returns c = let matched = c .before .before .before in made _ _ _ _ (matched .enum-told .given .1) (c .propagate .ensures)
 
 returns-2 : tie.Need-returns-2
-returns-2 c = let k = c .before .before .before .before in made _ _ _ _ (k .choice .given .1) (c .propagate-on .ensures)
+returns-2 c = let matched = c .before .before .before .before in made _ _ _ _ (matched .choice .given .1) (c .propagate-on .ensures)
 
 returns-3 : tie.Need-returns-3
-returns-3 c = let k = c .before .before .before .before in made _ _ _ _ (k .choice2 .given .1) (c .propagate-off .ensures)
+returns-3 c = let matched = c .before .before .before .before in made _ _ _ _ (matched .choice2 .given .1) (c .propagate-off .ensures)
 
 pub propagate-chosen-spec : {M : Type 1} → statement M
 propagate-chosen-spec =

@@ -12,11 +12,12 @@ propagate-from-requires c κs =
     let d = l .before .before .before .before .before in
     let w = d .before in
     let v = w .before in
-    let s = v .before .before .before in (
-      s .pre .0,
-      s .pre .1,
-      dropped-pending _ (x .empty .result .w) (y .empty2 .result .w) (x .empty .ensures) (y .empty2 .ensures) (s .args .on .now) (s .args .before .now) (s .args .off .now)
-          (d .difference .result .w) (l .lost-heads .last .1 .1 .1 .1 .1 .0) (v .whole .result .w) (w .whole2 .result .w) (s .pre .2) (s .pre .3)
+    let start = v .before .before .before in
+    let (book, (shape, (rows, (fresh, (off, (lost, more)))))) = l .lost-heads .last in (
+      start .pre .0,
+      start .pre .1,
+      dropped-pending _ (x .empty .result .w) (y .empty2 .result .w) (x .empty .ensures) (y .empty2 .ensures) (start .args .on .now) (start .args .before .now) (start .args .off .now)
+          (d .difference .result .w) lost (v .whole .result .w) (w .whole2 .result .w) (start .pre .2) (start .pre .3)
           (d .difference .ensures) (v .whole .ensures) (w .whole2 .ensures) (l .lost-heads .ensures),
     )
 

@@ -33,7 +33,8 @@ propagate-dropped-requires c κs =
 returns : tie.Need-returns
 returns c =
     let p = c .before .before .before .before in
-    let a = p .before .before .before .before .before .before .args in (
+    let start = p .before .before .before .before .before .before in
+    let a = start .args in (
       c .propagate-dropped .ensures .0
           ∙ ap (λ (l : List Bool). propagate (bookIn (a .book .now)) (coloured (listed (a .on .now)) l) .on) (p .put .ensures),
       c .propagate-dropped .ensures .1

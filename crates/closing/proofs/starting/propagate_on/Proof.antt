@@ -23,18 +23,20 @@ propagate-from-requires c κs =
     let x = y .before in
     let p = x .before in
     let s = p .before .before .before .before in
-    let g = good s in (
+    let g = good s in
+    let (book, (shape, (rows, (r, (on, (nt, more)))))) = p .rise .last in (
       s .pre .0,
       s .pre .1,
-      risen-pending _ (x .empty .result .w) (y .empty2 .result .w) (x .empty .ensures) (y .empty2 .ensures) (s .args .on .now) (p .rise .last .1 .1 .1 .1 .0) (s .args .off .now)
-          (p .rise .last .1 .1 .1 .1 .1 .0) (s .args .r) (s .pre .3) (good-in g (s .args .r) (s .pre .2)) (omega (arith, g .rules, s .pre .2))
+      risen-pending _ (x .empty .result .w) (y .empty2 .result .w) (x .empty .ensures) (y .empty2 .ensures) (s .args .on .now) on (s .args .off .now)
+          nt (s .args .r) (s .pre .3) (good-in g (s .args .r) (s .pre .2)) (omega (arith, g .rules, s .pre .2))
           (p .rise .ensures .0) (p .rise .ensures .1),
     )
 
 returns : tie.Need-returns
 returns c =
     let p = c .before .before .before .before .before in
-    let a = p .before .before .before .before .args in (
+    let start = p .before .before .before .before in
+    let a = start .args in (
       c .propagate-from .ensures .0
           ∙ ap (λ (l : List Bool). propagate (bookIn (a .book .now)) (coloured l (listed (a .off .now))) .on) (p .rise .ensures .0),
       c .propagate-from .ensures .1

@@ -1,6 +1,8 @@
 -- The atoms to look at are doubted, and every suspect that is not known stands on one of them (Suspecting). A turn that leaves atoms has
 -- found a suspect.
 use mathlib.Core.Path.{refl, _∙_}
+use mathlib.Core.List.{List}
+use Prim.Native.Nat.{ℕ}
 use lib.ListN.{length, replicate}
 use borrow.Author.Needs.{needs}
 use Rattle.meaning.specs.Lowest.{rulesIn}
@@ -44,9 +46,15 @@ module _ (w : tie.After-is-within Inv-loop μ-loop) where
   abbrev entry : tie.Start Inv-loop μ-loop
   entry = start (turn .before)
 
+  abbrev todo : List ℕ
+  todo = let (book, (shape, (rows, (off, (todo, (suspects, rest)))))) = more .suspect-more .last in todo
+
+  abbrev suspects : List ℕ
+  suspects = let (book, (shape, (rows, (off, (todo, (suspects, rest)))))) = more .suspect-more .last in suspects
+
   found : Suspecting (bookIn (entry .args .book .now)) (of (listed (entry .args .old .now))) (of (listed (entry .args .off .now)))
-      (of (listed (more .suspect-more .last .1 .1 .1 .1 .1 .0))) (atomSet (more .suspect-more .last .1 .1 .1 .1 .0))
-      × Inside (bookIn (entry .args .book .now)) (of (listed (more .suspect-more .last .1 .1 .1 .1 .1 .0)))
+      (of (listed suspects)) (atomSet todo)
+      × Inside (bookIn (entry .args .book .now)) (of (listed suspects))
   found =
       let k = more .suspect-more .ensures in (
         suspecting-more _ _ _ (of (listed (turn .loop .suspects))) (atomSet (turn .loop .todo)) refl (k .suspects-now) (k .todo-now) (turn .loop .inv .0),
@@ -66,17 +74,16 @@ loop-holds c =
     )
 
 doubted-heads-requires : tie.Need-doubted-heads-requires Inv-loop μ-loop
-doubted-heads-requires c κs = let s = c .before .before .before .before .before .before .before .before in s .pre
+doubted-heads-requires c κs = let start = c .before .before .before .before .before .before .before .before in start .pre
 
 suspect-more-requires : tie.Need-suspect-more-requires Inv-loop μ-loop
 suspect-more-requires c κs = let turn = c .before .before in start (turn .before) .pre
 
 returns : tie.Need-returns Inv-loop μ-loop
 returns c =
-    let w = c .before in
-    let todo = more w .suspect-more .last .1 .1 .1 .1 .0 in (
+    let w = c .before in (
       suspecting-end _ _ _ (found w .0)
-          (none-in todo (w .before .before .whole3 .result .w) (w .before .empty .result .w) (w .before .before .whole3 .ensures) (w .before .empty .ensures) (w .is-within .ensures) (c .if1 .taken)),
+          (none-in (todo w) (w .before .before .whole3 .result .w) (w .before .empty .result .w) (w .before .before .whole3 .ensures) (w .before .empty .ensures) (w .is-within .ensures) (c .if1 .taken)),
       found w .1,
     )
 
@@ -84,8 +91,7 @@ loop-less : tie.Need-loop-less Inv-loop μ-loop
 loop-less c =
     let w = c .before in
     let k = more w .suspect-more .ensures in
-    let todo = more w .suspect-more .last .1 .1 .1 .1 .0 in
-    let (a, m) = one-in todo (w .before .before .whole3 .result .w) (w .before .empty .result .w) (w .before .before .whole3 .ensures) (w .before .empty .ensures) (w .is-within .ensures) (c .if1 .left) in
+    let (a, m) = one-in (todo w) (w .before .before .whole3 .result .w) (w .before .empty .result .w) (w .before .before .whole3 .ensures) (w .before .empty .ensures) (w .is-within .ensures) (c .if1 .left) in
     suspecting-less _ (of (listed (entry w .args .old .now))) (of (listed (entry w .args .off .now))) (of (listed (turn w .loop .suspects))) (atomSet (turn w .loop .todo)) refl (k .suspects-now) (k .todo-now) a m
 
 loop-again : tie.Need-loop-again Inv-loop μ-loop

@@ -5,15 +5,16 @@ use Rattle.closing.proofs.unsupported.drop_suspects.Statement.{statemen
 use Rattle.closing.proofs.unsupported.drop_suspects.Tie as tie
 
 find-unsupported-requires : tie.Need-find-unsupported-requires
-find-unsupported-requires c κs = let s = c .before .before .before .before in s .pre
+find-unsupported-requires c κs = let start = c .before .before .before .before in start .pre
 
 returns : tie.Need-returns
 returns c =
     let w = c .before in
     let p = w .before .before in
     let f = p .before .before .before in
-    let s = f .before .before .before .before .before in (
-      dropped-by _ (s .args .off .now) (p .put-off .last .1 .0) (f .find-unsupported .last .1 .1 .1 .1 .1 .0) (f .find-unsupported .ensures) (p .put-off .ensures .0) (p .put-off .ensures .1),
+    let start = f .before .before .before .before .before in
+    let (book, (shape, (rows, (old, (off, (rest, more)))))) = f .find-unsupported .last in (
+      dropped-by _ (start .args .off .now) (p .put-off .last .1 .0) rest (f .find-unsupported .ensures) (p .put-off .ensures .0) (p .put-off .ensures .1),
       w .whole .ensures,
     )
 

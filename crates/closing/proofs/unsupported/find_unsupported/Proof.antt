@@ -13,6 +13,10 @@ good s = search needs
 abbrev asked : tie.After-is-within → tie.Start
 asked w = w .before .before .before .before .before
 
+-- behind the suspects: the first question
+abbrev question : tie.After-find-suspects → tie.After-is-within
+question f = f .before .before .before
+
 -- behind the suspects that are not held: the growth of those that are, what it started from, the suspects, and the start
 module _ (d : tie.After-difference3) where
   abbrev grown : tie.After-clear
@@ -28,7 +32,7 @@ module _ (d : tie.After-difference3) where
   searched = live .before .before .before
 
   abbrev start : tie.Start
-  start = asked (searched .before .before .before)
+  start = asked (question searched)
 
 returns : tie.Need-returns
 returns c =
@@ -44,7 +48,7 @@ clear-requires : tie.Need-clear-requires
 clear-requires c κs =
     let o = c .before .before .before in
     let f = o .before .before .before .before .before .before in
-    let s = asked (f .before .before .before) in
+    let s = asked (question f) in
     (s .pre .0, s .pre .1)
 
 returns-2 : tie.Need-returns-2
@@ -55,11 +59,14 @@ returns-2 c =
     let l = live d in
     let f = searched d in
     let s = start d in
-    unheld-suspected _ (good-few (good s)) (good-count (good s)) (s .args .old .now) (s .args .off .now) (f .find-suspects .last .1 .1 .1 .1 .1 .0)
+    let after-whole5 = d .before .before .before in
+    let (book, (shape, (rows, (old, (off, (suspects, more)))))) = f .find-suspects .last in
+    let (book2, (shape2, (rows2, (live2, (held, more2))))) = g .clear .last in
+    unheld-suspected _ (good-few (good s)) (good-count (good s)) (s .args .old .now) (s .args .off .now) suspects
     (l .before .before .below .result .w) (l .difference .result .w) (l .before .whole3 .result .w) (o .difference2 .result .w) (o .before .whole4 .result .w)
-    (g .clear .last .1 .1 .1 .1 .0) (d .difference3 .result .w) (d .before .before .before .whole5 .result .w) (d .before .whole6 .result .w) (s .pre .2) (s .pre .3)
+    held (d .difference3 .result .w) (after-whole5 .whole5 .result .w) (d .before .whole6 .result .w) (s .pre .2) (s .pre .3)
     (f .find-suspects .ensures .0) (f .find-suspects .ensures .1) (l .before .before .below .ensures) (l .difference .ensures) (l .before .whole3 .ensures)
-    (o .difference2 .ensures) (o .before .whole4 .ensures) (g .clear .ensures) (d .difference3 .ensures) (d .before .before .before .whole5 .ensures) (d .before .whole6 .ensures)
+    (o .difference2 .ensures) (o .before .whole4 .ensures) (g .clear .ensures) (d .difference3 .ensures) (after-whole5 .whole5 .ensures) (d .before .whole6 .ensures)
 
 pub find-unsupported-spec : {M : Type 1} → statement M
 find-unsupported-spec =

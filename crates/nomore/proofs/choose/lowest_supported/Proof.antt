@@ -55,7 +55,8 @@ loop-less c =
 loop-again : tie.Need-loop-again Inv-loop μ-loop
 loop-again c =
     let k = c .before .before .before .before .before .before in
-    come-next _ _ _ _ (k .loop .inv) (c .before .before .before .is-supported .ensures) (c .before .before .if1 .left) _ (c .next-in2 .ensures)
+    let tested = c .before .before in
+    come-next _ _ _ _ (k .loop .inv) (tested .before .is-supported .ensures) (tested .if1 .left) _ (c .next-in2 .ensures)
 
 returns-2 : tie.Need-returns-2 Inv-loop μ-loop
 returns-2 c =

@@ -36,7 +36,9 @@ kth-requires c κs =
     (good (read e), omega arith, e .if2 .left)
 
 returns-3 : tie.Need-returns-3
-returns-3 c = find-refused _ (c .before .before .before .read-book .ensures) _ _ _ _ (c .before .why .given .1)
+returns-3 c =
+    let after-read-book = c .before .before .before in
+    find-refused _ (after-read-book .read-book .ensures) _ _ _ _ (c .before .why .given .1)
 
 returns-4 : tie.Need-returns-4
 returns-4 c =

@@ -80,7 +80,7 @@ module _ (t : ℕ) where
     propagates = record { few = few _ _ (start .pre .1 .0) (search needs); sized = sized-puts (start .args .choice) _ _; propagated = c .grow .ensures .0 }
 
     going : start .args .t .halt ≡ Going
-    going = c .before .before .before .enum-told .given .1
+    going = let matched = c .before .before .before in matched .enum-told .given .1
 
   -- behind the search for a rule to choose: there was no contradiction
   module _ (c : lts.After-lowest-supported calls here own.Post) where
@@ -129,10 +129,15 @@ module _ (t : ℕ) where
   returns c = walk-ended _ _ _ _ (halted-told _ (c .match .keys2))
 
   returns-2 : lts.Need-returns-2 calls here own.Post
-  returns-2 c = walk-stops _ _ _ (c .before .before .before .enum-told .given .1) _ (c .before .if1 .taken) (c .stopped .ensures)
+  returns-2 c =
+      let matched = c .before .before .before in
+      walk-stops _ _ _ (matched .enum-told .given .1) _ (c .before .if1 .taken) (c .stopped .ensures)
 
   grow-requires : lts.Need-grow-requires calls here own.Post
-  grow-requires c κs = let s = c .before .before .before .before .before .before .pre .1 in (s .0, s .2, s .3)
+  grow-requires c κs =
+      let start = c .before .before .before .before .before .before in
+      let s = start .pre .1 in
+      (s .0, s .2, s .3)
 
   returns-3 : lts.Need-returns-3 calls here own.Post
   returns-3 c =

@@ -12,9 +12,9 @@ few-rules s = search needs
 returns : tie.Need-returns
 returns c =
     let p = c .before in
-    let s = p .before .before .before .before .before .before in (
-      grown _ (few _ _ (s .pre .0) (few-rules s)) (s .args .choice) _ _ _ _ (p .propagate-chosen .ensures .0) (p .propagate-chosen .ensures .1),
-      grown-clash _ _ (s .pre .0) _ _ (c .lowest-clash .result) (c .lowest-clash .ensures),
+    let start = p .before .before .before .before .before .before in (
+      grown _ (few _ _ (start .pre .0) (few-rules start)) (start .args .choice) _ _ _ _ (p .propagate-chosen .ensures .0) (p .propagate-chosen .ensures .1),
+      grown-clash _ _ (start .pre .0) _ _ (c .lowest-clash .result) (c .lowest-clash .ensures),
     )
 
 pub grow-spec : {M : Type 1} → statement M

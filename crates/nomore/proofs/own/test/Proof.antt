@@ -10,12 +10,12 @@ module _ (c : tie.After-grow) where
   start = c .before .before .before .before .before
 
 grow-requires : tie.Need-grow-requires
-grow-requires c κs = let s = c .before .before .before .before in (s .pre .0, s .pre .3, tt)
+grow-requires c κs = let start = c .before .before .before .before in (start .pre .0, start .pre .3, tt)
 
 returns : tie.Need-returns
 returns c =
-    let s = c .before .before .before .before .before in
-    test-stops _ _ _ (s .pre .1) _ (c .before .if1 .taken) (c .stopped .ensures)
+    let start = c .before .before .before .before .before in
+    test-stops _ _ _ (start .pre .1) _ (c .before .if1 .taken) (c .stopped .ensures)
 
 returns-2 : tie.Need-returns-2
 returns-2 c =
