@@ -2,4 +2,5 @@
 pub mod Parting
 pub mod Turns
 pub mod Spelling
+pub mod Names
 pub mod ToldRefusals

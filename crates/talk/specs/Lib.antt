@@ -2,4 +2,5 @@
 pub mod Words
 pub mod Decimal
 pub mod Hexadecimal
+pub mod Names
 pub mod Refusals

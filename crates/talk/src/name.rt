@@ -1,7 +1,9 @@
 // An atom as people are told it: by its number and, where the rules were handed over in words, by its
 // name too. Names come as rows of 256 bytes, a row for each atom, each name with a zero behind it; no
 // bytes where there are none.
+ghost use mathlib.Core.Path.{_≡_};
 ghost use Rattle.io.specs.Counts.{Counts};
+ghost use Rattle.talk.specs.Names.{nameIn};
 use crate::line::put_number;
 use crate::line::put_text;
 
@@ -12,20 +14,14 @@ pub const NAME_ROOM: usize = 256;
 pub const NAMES_ROOM: usize = 65280;
 
 // The name of the atom; no bytes where it has none.
-pub fn name_of<'a>(names: &'a [u8], a: u8) -> &'a [u8] {
+pub fn name_of<'a>(names: &'a [u8], a: u8) -> &'a [u8]
+    ensures { λ r. ⌜ now r ≡ nameIn (now (names .entry)) a ⌝ }
+{
     let from = a as usize * 256;
     if names.len() < from + NAME_ROOM {
         return &names[..0];
     }
     let end = bytes::scan::find(names, from, from + NAME_ROOM, 0);
-    first_of(names, from, end)
-}
-
-// The bytes from one place up to another; none where they are out of order.
-fn first_of<'a>(names: &'a [u8], from: usize, end: usize) -> &'a [u8] {
-    if end < from || names.len() < end {
-        return &names[..0];
-    }
     &names[from..end]
 }
 

@@ -4,7 +4,7 @@ use mathlib.Core.Path.{_≡_, refl, ap, sym, _∙_}
 use mathlib.Core.Bool.{Bool, true, false, not}
 use mathlib.Core.List.{List, [], _∷_, _++_}
 use Prim.{Unit}
-use Prim.Native.Nat.{ℕ, suc, _<_}
+use Prim.Native.Nat.{ℕ, suc, _<_, _≤_}
 use native.Mathlib.Omega.{arith}
 use lib.ListN.{length, getD, List·getD-append}
 use borrow.Author.Tests.{not-true, ne-eqb}
@@ -87,18 +87,22 @@ name-spelled w =
     (λ e. b-either (Spells w) (sameBytes w atomsWord) Atoms _ (λ e (q : Atoms ≡ Name). apart (cc)) (λ e. plain-spelled w))))))
 
 abbrev Bytes : List ℕ → Bool → Type 0
-Bytes w t = t ≡ true → (0 < length w) × (every nameByte w ≡ true)
+Bytes w t = t ≡ true → (0 < length w) × (length w ≤ 64) × (every nameByte w ≡ true)
 
 spelled-bytes : (w : List ℕ) → Bytes w (spelled w)
 unfolding spelled
 spelled-bytes w =
     eq-either (Bytes w) (length w) 0 false _ (λ e q. true-and-false q refl)
     (λ n. lt-either (Bytes w) 64 (length w) false _ (λ h q. true-and-false q refl)
-    (λ h. b-either (Bytes w) (digit (getD w 0 0)) false _ (λ e q. true-and-false q refl) (λ e q. (omega (arith, n), q))))
+    (λ h. b-either (Bytes w) (digit (getD w 0 0)) false _ (λ e q. true-and-false q refl) (λ e q. (omega (arith, n), h, q))))
+
+-- a name has 1 to 64 bytes, each one that names may have
+pub name-bytes : (w : List ℕ) → termOf w ≡ Name → (0 < length w) × (length w ≤ 64) × (every nameByte w ≡ true)
+name-bytes w e = spelled-bytes w (name-spelled w e)
 
 pub name-solid : (w : List ℕ) → termOf w ≡ Name → Solid w
 name-solid w e =
-    let (some, bytes) = spelled-bytes w (name-spelled w e) in
+    let (some, few, bytes) = name-bytes w e in
     record { some = some; whole = every-mono name-inside w bytes }
 
 -- ---- in front of what parts words

@@ -1,0 +1,3 @@
+-- The laws of names that are put into rows.
+pub mod Rows
+pub mod Named

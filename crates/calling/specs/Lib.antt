@@ -1,0 +1,2 @@
+-- Where the names of a text are put.
+pub mod Rows
