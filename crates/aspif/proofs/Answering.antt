@@ -16,7 +16,7 @@ use Rattle.book.specs.declared.reader.Read.{Read}
 use Rattle.book.specs.declared.reader.Read.TheVariants.{Good, Refused}
 use Rattle.book.specs.declared.reader.Shape.{Shape}
 use Rattle.book.specs.Format.{BookRead, good, bad, read_of, told_of, book_of, book_in, ReadAs}
-use Rattle.book.proofs.Shape.{told-good, good-rules-fit}
+use Rattle.book.proofs.Shapes.{told-good, good-rules-fit}
 use Rattle.book.proofs.Places.{shape-good, shape-atoms, shape-count}
 use Rattle.decimal.specs.Fewest.{Stored}
 use Rattle.decimal.proofs.Fewest.{stored-then}

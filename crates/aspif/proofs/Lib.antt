@@ -15,7 +15,7 @@ pub mod Gathered
 pub mod Lined
 pub mod OutputsCounted
 pub mod TextsRead
-pub mod Restored
+pub mod RestoredBook
 pub mod Told
 pub mod Rows
 pub mod RoundTrip

@@ -13,7 +13,7 @@ use Rattle.meaning.proofs.Choice.{lt_no, lt-either}
 use Rattle.book.specs.Rows.{Bytes}
 use Rattle.book.specs.Format.{BookRead, good, bad, read_of, book_of, book_in}
 use Rattle.book.specs.Writing.{Fits}
-use Rattle.book.proofs.Shape.{good-fits}
+use Rattle.book.proofs.Shapes.{good-fits}
 use Rattle.book.proofs.Writing.{write_read}
 use Rattle.aspif.specs.declared.answer.Exported.{Exported}
 use Rattle.aspif.specs.declared.answer.Exported.TheVariants.{Text}

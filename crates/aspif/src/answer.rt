@@ -1,7 +1,7 @@
 // What the two entry points answer.
 use book::Refusal;
 
-#[derive(Drop)]
+#[derive(Clone, Copy)]
 pub enum Exported {
     // How many bytes the text has.
     Text(usize),
@@ -11,7 +11,7 @@ pub enum Exported {
     NoRoom,
 }
 
-#[derive(Drop)]
+#[derive(Clone, Copy)]
 pub enum Restored {
     // How many bytes the book has.
     Book(usize),

@@ -1,4 +1,5 @@
 // A book as a text for other solvers, and back.
+#![tactic(auto)]
 
 mod answer;
 mod lines;

@@ -6,7 +6,7 @@ use crate::lines::put_output;
 use crate::scan::{Went, skip_text};
 
 // How many output lines there are, and where the text goes on.
-#[derive(Drop)]
+#[derive(Clone, Copy)]
 pub struct Outputs {
     pub count: usize,
     pub next: usize,

@@ -9,7 +9,7 @@ use meaning::Colouring;
 
 // How many atoms a part has, the largest number of them, where the text goes on, and whether all
 // of them are below 255.
-#[derive(Drop)]
+#[derive(Clone, Copy)]
 pub struct Part {
     pub count: usize,
     pub top: usize,

@@ -14,7 +14,7 @@ use meaning::{AtomNo, Colouring};
 
 // The book that is made with one rule more, the largest number of the rule, and where the text goes
 // on.
-#[derive(Drop)]
+#[derive(Clone, Copy)]
 pub enum Ruled {
     Rule(Making, usize, usize),
     Outside,

@@ -7,7 +7,7 @@ use crate::rule::{Ruled, larger, read_rule};
 use book::{BOOK_BYTES, Making};
 
 // The book that is made of the rules, the largest number in them, and where the text goes on.
-#[derive(Drop)]
+#[derive(Clone, Copy)]
 pub struct Rules {
     pub making: Making,
     pub top: usize,

@@ -6,14 +6,14 @@ ghost use Rattle.aspif.specs.Scanning.{went, seen, Reaches, Behind};
 use decimal::{Digits, read_plain};
 
 // Where the text goes on.
-#[derive(Drop)]
+#[derive(Clone, Copy)]
 pub enum Went {
     To(usize),
     Outside,
 }
 
 // A number, and where the text goes on.
-#[derive(Drop)]
+#[derive(Clone, Copy)]
 pub enum Number {
     Value(usize, usize),
     Outside,

@@ -9,7 +9,7 @@ use crate::scan::{Went, skip_text};
 use book::{BOOK_BYTES, Making};
 
 // The book that is made of the text's rules, and how many atoms it has.
-#[derive(Drop)]
+#[derive(Clone, Copy)]
 pub enum Whole {
     Book(Making, usize),
     Outside,

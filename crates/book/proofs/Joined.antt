@@ -24,7 +24,7 @@ use Rattle.book.specs.declared.reader.Shape.{Shape}
 use Rattle.book.specs.Format.{good, read_of, book_of, book_in, ReadAs}
 use Rattle.book.specs.Writing.{atom_bytes, BodyFits, RuleFits, Fits}
 use Rattle.book.specs.Writing.{record_bytes, records_bytes, index_bytes, trailer_bytes, bytes_of_book}
-use Rattle.book.proofs.Shape.{good-rules-fit}
+use Rattle.book.proofs.Shapes.{good-rules-fit}
 use Rattle.book.proofs.ReadBack.{book-length, read-write}
 use Rattle.book.proofs.Places.{shape-good, shape-atoms, shape-count}
 use Rattle.book.proofs.Made.{records-append}

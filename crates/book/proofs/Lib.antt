@@ -4,7 +4,7 @@ pub mod Parts
 pub mod Bytes
 pub mod Records
 pub mod Refusals
-pub mod Shape
+pub mod Shapes
 pub mod Writing
 pub mod ReadBack
 pub mod Written

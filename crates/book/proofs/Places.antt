@@ -16,8 +16,8 @@ use Rattle.book.specs.Rows.{record_end, RecordGood, GoodAs}
 use Rattle.book.specs.Places.{RuleAt}
 use Rattle.book.specs.Writing.{atom_bytes, RuleFits}
 use Rattle.book.specs.Tables.{Below}
-use Rattle.book.proofs.Shape.{bytes-atoms, told-good, good_book, good_length, good-inside, good-count, good-record, good-rule}
-use Rattle.book.proofs.Shape.{good-rules-fit}
+use Rattle.book.proofs.Shapes.{bytes-atoms, told-good, good_book, good_length, good-inside, good-count, good-record, good-rule}
+use Rattle.book.proofs.Shapes.{good-rules-fit}
 use Rattle.book.proofs.Bodies.{bytes_below}
 use Rattle.book.proofs.Slices.{part-byte, positive-at, negative-at}
 

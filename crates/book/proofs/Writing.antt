@@ -15,8 +15,8 @@ use Rattle.book.specs.Writing.{record_bytes, records_bytes, index_bytes, trailer
 use Rattle.book.proofs.Slices.{part-after, positive-is, negative-is}
 use Rattle.book.proofs.Parts.{RecordFine}
 use Rattle.book.proofs.Refusals.{accepted}
-use Rattle.book.proofs.Shape.{records-first, records-last, record-ends, bytes-atoms}
-use Rattle.book.proofs.Shape.{good_length, good-inside, good-checked, good-count}
+use Rattle.book.proofs.Shapes.{records-first, records-last, record-ends, bytes-atoms}
+use Rattle.book.proofs.Shapes.{good_length, good-inside, good-checked, good-count}
 
 record-as : (x p q : ℕ) (l m : List ℕ) → length l ≡ p → length m ≡ q
     → record_bytes (record { head = atom_no x; pos = map atom_no l; neg = map atom_no m }) ≡ x ∷ (p ∷ (q ∷ (l ++ m)))

@@ -1,5 +1,6 @@
 // The rule book: any bytes are read as a book or refused with a number and a place, and the rules
 // of a good book are handed out in place. Stands on meaning.
+#![tactic(auto)]
 
 mod asking;
 mod conditions;

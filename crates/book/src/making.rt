@@ -12,7 +12,7 @@ use crate::{BOOK_BYTES, BOOK_MARK};
 use meaning::{AtomNo, Colouring};
 
 // How many bytes and rules were made, and whether all rules kept the limits.
-#[derive(Drop)]
+#[derive(Clone, Copy)]
 pub struct Making {
     pub length: usize,
     pub rules: usize,

@@ -6,7 +6,7 @@ ghost use Rattle.book.specs.Checks.{checked};
 use crate::refusal::Refusal;
 
 // What a check of some bytes finds.
-#[derive(Drop)]
+#[derive(Clone, Copy)]
 pub enum Checked {
     Fine,
     Wrong(Refusal),

@@ -10,14 +10,14 @@ use crate::refusal::Refusal;
 use crate::{BOOK_BYTES, BOOK_MARK};
 
 // The atom count, the rule count and the start of the index of a good book.
-#[derive(Drop)]
+#[derive(Clone, Copy)]
 pub struct Shape {
     pub atoms: u8,
     pub rules: u8,
     pub index: usize,
 }
 
-#[derive(Drop)]
+#[derive(Clone, Copy)]
 pub enum Read {
     Good(Shape),
     Refused(Refusal),

@@ -24,7 +24,7 @@ use Rattle.words.specs.Text.{GoodNames}
 use Rattle.words.proofs.Places.{filled_at}
 use Rattle.words.proofs.Reached.{words-fit}
 use Rattle.words.proofs.Apart.{name-at, names_apart}
-use Rattle.words.proofs.Whose.{heard-spelled}
+use Rattle.words.proofs.WhoseAtom.{heard-spelled}
 use Rattle.words.proofs.Told.{told-made}
 use Rattle.words.proofs.Solid.{name-bytes}
 use Rattle.talk.specs.Names.{name_in}

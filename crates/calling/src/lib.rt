@@ -5,6 +5,7 @@
 //
 // What words and texts mean is promised by words and lparse; what is read from a file or written no
 // contract can say.
+#![tactic(auto)]
 
 mod described;
 mod grounded;

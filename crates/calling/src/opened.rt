@@ -1,7 +1,7 @@
 // What opening gives: the book that a program is called with, and what is known of its names.
 
 // Which atom the call names.
-#[derive(Drop)]
+#[derive(Clone, Copy)]
 pub enum Asked {
     // The one that has the name.
     Atom(u8),
@@ -13,7 +13,7 @@ pub enum Asked {
 
 // Whether there is a book, how many bytes it has and how many bytes of names there are, each at the
 // start of its buffer; whether the words list their atoms, and the atom that the call names.
-#[derive(Drop)]
+#[derive(Clone, Copy)]
 pub struct Opened {
     pub good: bool,
     pub count: usize,

@@ -4,7 +4,7 @@ use lparse::{Imported, import};
 use talk::Refused;
 use words::{Worded, make};
 
-#[derive(Drop)]
+#[derive(Clone, Copy)]
 pub enum Made {
     // How many bytes the book has, at the start of the buffer.
     Book(usize),

@@ -8,7 +8,7 @@ use crate::worded::open_words;
 use check::same;
 use talk::{complain_of_call, read_argument};
 
-#[derive(Drop)]
+#[derive(Clone, Copy)]
 pub enum Source {
     // The file of a book.
     Book,

@@ -2,7 +2,7 @@
 use book::Refusal;
 use meaning::Claim;
 
-#[derive(Drop)]
+#[derive(Clone, Copy)]
 pub enum Checked {
     // The book has a reading, and the claimed atom is in all of them or in none, by the claim's kind;
     // or the book has none.

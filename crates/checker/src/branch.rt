@@ -14,7 +14,7 @@ use crate::trailer::Trailer;
 use book::Shape;
 use meaning::{Colouring, RuleNo};
 
-#[derive(Drop)]
+#[derive(Clone, Copy)]
 pub enum Walked {
     // The branch is right and ends before this byte.
     Done(usize),

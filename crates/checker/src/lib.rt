@@ -11,6 +11,7 @@
 // a 55 one pass over the rules, one over its list and one over the positive atoms of each listed
 // rule; a 45 two passes over the rules; a 53 two reads. A pass over the rules reads one head of
 // each.
+#![tactic(auto)]
 
 mod answer;
 mod branch;

@@ -10,7 +10,7 @@ use book::Shape;
 use meaning::Colouring;
 
 // Where the steps stop, with the colouring there, and by what.
-#[derive(Drop)]
+#[derive(Clone, Copy)]
 pub struct Ran {
     pub colours: Colouring,
     pub at: usize,

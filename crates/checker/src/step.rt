@@ -13,7 +13,7 @@ use book::{Shape, wide};
 use meaning::{RuleNo, STEP_END, STEP_OFF, STEP_ON, STEP_SPLIT, STEP_UNFOUNDED};
 
 // A step that a branch goes on after, or what it stops by.
-#[derive(Drop)]
+#[derive(Clone, Copy)]
 pub enum Step {
     // 41 and 42, with their rule.
     On(RuleNo),
@@ -23,7 +23,7 @@ pub enum Step {
     Stops(Stop),
 }
 
-#[derive(Drop)]
+#[derive(Clone, Copy)]
 pub enum Stop {
     // 45.
     End,

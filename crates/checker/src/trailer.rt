@@ -10,7 +10,7 @@ use book::{u16_at, wide};
 use meaning::{AtomNo, Claim, Kind, Marked, PAPER_BYTES};
 
 // The claim, how many rules the witness lists, and the byte that it starts at.
-#[derive(Drop)]
+#[derive(Clone, Copy)]
 pub struct Trailer {
     pub claim: Claim,
     pub count: usize,
@@ -18,7 +18,7 @@ pub struct Trailer {
 }
 
 // What the last bytes come to: a trailer that fits, or what is wrong with them and where.
-#[derive(Drop)]
+#[derive(Clone, Copy)]
 pub enum Ending {
     Good(Trailer),
     // 20.

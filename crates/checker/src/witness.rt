@@ -15,7 +15,7 @@ use crate::trailer::Trailer;
 use book::{Shape, every_in, head, heads_of, is_blocked, negatives, positives, some_in, wide};
 use meaning::{Bits, Claim, Colouring, RuleNo, has, put};
 
-#[derive(Drop)]
+#[derive(Clone, Copy)]
 pub enum Verdict {
     Right,
     // The place of what is wrong.

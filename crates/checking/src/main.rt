@@ -5,6 +5,7 @@
 //     checking BOOKFILE PAPERFILE
 //     checking --words WORDSFILE PAPERFILE
 //     checking --text TEXTFILE PAPERFILE
+#![tactic(auto)]
 
 use calling::{open_book, shift};
 use talk::{BOOK_ROOM, NAMES_ROOM, PAPER_ROOM, read_argument, tell_checked};

@@ -17,9 +17,9 @@ pub mod Clearing
 pub mod Dropping
 pub mod Closed
 pub mod Leaving
-pub mod Picked
+pub mod Picks
 pub mod Left
 pub mod Laws
 pub mod Settling
-pub mod Settled
+pub mod SettledRows
 pub mod SettledCases

@@ -25,7 +25,7 @@ use Rattle.book.specs.declared.reader.Read.TheVariants.{Good, Refused}
 use Rattle.book.specs.Numbers.{number_of, place_of, told as book_told}
 use Rattle.book.specs.Format.{read_of, told_of, book_of, book_in, ReadAs}
 use Rattle.book.specs.Tables.{atom_table, atoms_in}
-use Rattle.book.proofs.Shape.{told-good}
+use Rattle.book.proofs.Shapes.{told-good}
 use Rattle.book.proofs.Verdict.{read_as, read-bad}
 use Rattle.book.proofs.AtomSets.{table-in}
 use Rattle.book.proofs.Places.{shape-count, shape-atoms}

@@ -1,7 +1,7 @@
 // The choice at which a walk goes on from a colouring.
 use meaning::RuleNo;
 
-#[derive(Drop)]
+#[derive(Clone, Copy)]
 pub enum Choice {
     // No rule is chosen, and nothing is known of the colouring.
     Nothing,

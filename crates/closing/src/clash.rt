@@ -8,7 +8,7 @@ ghost use Rattle.closing.specs.Picked.{picked};
 use meaning::{Bits, RuleNo, next_in};
 
 // No rule, or one.
-#[derive(Drop)]
+#[derive(Clone, Copy)]
 pub enum Picked {
     Nothing,
     Rule(RuleNo),

@@ -12,7 +12,7 @@ use crate::close;
 use book::{Read, Refusal, Shape, heads_of, lost_in, make_rows, read_book};
 use meaning::{Colouring, has};
 
-#[derive(Drop)]
+#[derive(Clone, Copy)]
 pub enum Settled {
     // The rules' bytes and the atoms' bytes stand in the buffer.
     Rows,

@@ -4,6 +4,8 @@
 // computed definition of meaning, goes on to the end after a contradiction, and tells the lowest
 // rule in both sets then; where it is enough to know that there is a contradiction, `close_or_clash`
 // leaves at the first one. Laws for the layers above are in proofs/Laws.antt.
+#![tactic(auto)]
+
 ghost use Rattle.std.specs.Prelude.{◌≡◌, true};
 ghost use Rattle.meaning.specs.Bits.{listed};
 ghost use Rattle.meaning.specs.Written.{written, of, chosen, lent, pair};
@@ -42,7 +44,7 @@ pub use marking::support;
 pub use starting::propagate_chosen;
 
 // What a closing comes to: the colouring, and of a contradiction the lowest rule in both sets.
-#[derive(Drop)]
+#[derive(Clone, Copy)]
 pub struct Closure {
     pub colours: Colouring,
     pub clash: Picked,

@@ -3,6 +3,8 @@
 //
 //     comparing BOOKFILE WORDSFILE
 //     comparing BOOKFILE --text TEXTFILE
+#![tactic(auto)]
+
 ghost use Rattle.io.specs.Counts.{IsPrefixLen};
 
 use book::{Read, Shape, read_book};

@@ -2,6 +2,7 @@
 // paper file that was there before stays as it was.
 //
 //     contradicting BOOKFILE PAPERFILE [LIMIT] [--replace]
+#![tactic(auto)]
 
 fn main() {
     filing::file_no_reading();

@@ -4,7 +4,7 @@ pub mod Numbers
 pub mod Counts
 pub mod Told
 pub mod HowMany
-pub mod Totals
+pub mod TotalsOver
 pub mod Table
 pub mod Worked
 pub mod Columns

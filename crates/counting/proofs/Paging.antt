@@ -11,7 +11,7 @@ use Rattle.meaning.proofs.Tests.{apart}
 use Rattle.book.specs.declared.refusal.Refusal.{Refusal}
 use Rattle.book.specs.declared.reader.Shape.{Shape}
 use Rattle.book.specs.Format.{read_of, book_in, ReadAs}
-use Rattle.book.proofs.Shape.{told-good}
+use Rattle.book.proofs.Shapes.{told-good}
 use Rattle.book.proofs.Places.{shape-atoms, shape-count, rule-keeps, in-shape}
 use Rattle.walk.specs.Events.{Event, events}
 use Rattle.walk.specs.Readings.{readings_in, readings}

@@ -11,7 +11,7 @@ use Rattle.meaning.proofs.Choice.{lt_yes, lt_no, lt-either}
 use Rattle.book.specs.Format.{BookRead, good, bad, book_of, book_in, read_of}
 use Rattle.book.specs.Rows.{Bytes}
 use Rattle.book.specs.Writing.{Fits}
-use Rattle.book.proofs.Shape.{good-fits}
+use Rattle.book.proofs.Shapes.{good-fits}
 use Rattle.walk.specs.Events.{events}
 use Rattle.walk.specs.Readings.{readings}
 use Rattle.walk.proofs.Readings.{readings-all}
@@ -24,7 +24,7 @@ use Rattle.counting.specs.declared.sum.Totals.{Totals}
 use Rattle.counting.proofs.Numbers.{numbers-length}
 use Rattle.counting.proofs.Standing.{has_one}
 use Rattle.counting.proofs.Counts.{told-or-stopped, count-within, count-beyond, count-counts, count-bad-book, count-good-book}
-use Rattle.counting.proofs.Totals.{atoms-append, atoms-with, totals-with, no-totals, totals-sum}
+use Rattle.counting.proofs.TotalsOver.{atoms-append, atoms-with, totals-with, no-totals, totals-sum}
 
 -- ---- one book
 

@@ -1,7 +1,7 @@
 // What a call for the counts of a book answers.
 use book::Refusal;
 
-#[derive(Drop)]
+#[derive(Clone, Copy)]
 pub enum Counted {
     // How many answer sets there are. Each atom's place in the array says in how many it stands.
     Sets(u32),

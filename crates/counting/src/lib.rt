@@ -1,5 +1,6 @@
 // The quarterly table: in how many answer sets of a book each atom stands, and the totals over
 // several books. Stands on walk, book and meaning.
+#![tactic(auto)]
 
 mod answer;
 mod column;

@@ -19,7 +19,7 @@ use walk::{Page, page};
 const PAGE: usize = 65280;
 
 // How a page of the count ends.
-#[derive(Drop)]
+#[derive(Clone, Copy)]
 pub enum Paged {
     // More pages may follow: all tries and all sets so far.
     More(u32, u32),

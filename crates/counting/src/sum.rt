@@ -6,7 +6,7 @@ ghost use Rattle.counting.specs.Totals.{at_each, at_some, at_none, totals_from, 
 use meaning::Colouring;
 use std::num::wrapping_add_u32;
 
-#[derive(Drop)]
+#[derive(Clone, Copy)]
 pub struct Totals {
     // Atoms in each answer set of their book.
     pub certain: u32,

@@ -10,7 +10,7 @@ use crate::sum::Totals;
 use book::{Read, read_book};
 use meaning::Colouring;
 
-#[derive(Drop)]
+#[derive(Clone, Copy)]
 pub enum Line {
     // `sets S atoms c0 c1 ..`: how many answer sets, and how many atoms. Their counts stand in the
     // array that was lent.
@@ -22,7 +22,7 @@ pub enum Line {
 }
 
 // A book's line, and the totals after it.
-#[derive(Drop)]
+#[derive(Clone, Copy)]
 pub struct Turn {
     pub line: Line,
     pub totals: Totals,

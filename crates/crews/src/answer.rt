@@ -1,7 +1,7 @@
 // What joining and the log answer.
 use book::Refusal;
 
-#[derive(Drop)]
+#[derive(Clone, Copy)]
 pub enum Joined {
     // The joined book stands in the buffer; its length.
     Book(usize),
@@ -15,7 +15,7 @@ pub enum Joined {
     NoRoom,
 }
 
-#[derive(Drop)]
+#[derive(Clone, Copy)]
 pub enum Logged {
     // Each book has a reading. The joined book stands in the buffer; its length, here and below.
     Both(usize),

@@ -83,7 +83,7 @@ fn join_in<'a>(
 }
 
 // What is told of two good books before either is searched.
-#[derive(Drop)]
+#[derive(Clone, Copy)]
 pub enum Laid {
     // The joined book stands at the front of the draft; its length.
     Book(usize),

@@ -1,6 +1,7 @@
 // Two crews, one log: two books are joined into one, the second book's atoms and rules numbered on
 // after the first's, and the log is told which of the two has a reading. Stands on walk, closing,
 // book and meaning.
+#![tactic(auto)]
 
 mod answer;
 mod lay;

@@ -1,5 +1,7 @@
 // Decimal numbers, read from digits up to a bound that the caller names, and written. Stands on
 // meaning, whose choices its definitions go by.
+#![tactic(auto)]
+
 ghost use Rattle.std.specs.Prelude.{◌≡◌};
 ghost use Rattle.decimal.specs.Digits.{value_from, plain_of};
 
@@ -7,7 +9,7 @@ mod writing;
 
 pub use writing::put_number;
 
-#[derive(Drop)]
+#[derive(Clone, Copy)]
 pub enum Digits {
     Value(u64),
     // The word is no number, or one above the bound.

@@ -11,7 +11,7 @@ use Rattle.meaning.specs.declared.kind.Claim.{Claim}
 use Rattle.book.specs.Format.{book_of}
 use Rattle.book.specs.Rows.{Bytes}
 use Rattle.book.specs.Writing.{Fits}
-use Rattle.book.proofs.Shape.{good-fits}
+use Rattle.book.proofs.Shapes.{good-fits}
 use Rattle.meaning.specs.Written.{nothing}
 use Rattle.walk.specs.Events.{Event, events}
 use Rattle.walk.specs.Readings.{readings, AllReadings}

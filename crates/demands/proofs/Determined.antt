@@ -19,7 +19,7 @@ use Rattle.book.proofs.Told.{told-one as read_one}
 use Rattle.closing.specs.Settle.{settle_of}
 use Rattle.closing.specs.Settle.{told as settle_told}
 use Rattle.closing.specs.declared.first.Settled.{Settled}
-use Rattle.closing.proofs.Settled.{settled-one}
+use Rattle.closing.proofs.SettledRows.{settled-one}
 use Rattle.walk.specs.Events.{Event}
 use Rattle.walk.specs.Find.{find_by}
 use Rattle.walk.specs.Find.{told as find_told}

@@ -16,7 +16,7 @@ use Rattle.meaning.specs.Claim.{Contrary}
 use Rattle.meaning.specs.Paper.{paper_bytes}
 use Rattle.meaning.specs.Told.{refused, fewer, stopped}
 use Rattle.meaning.specs.Written.{nothing}
-use Rattle.meaning.proofs.Claim.{claim-holds}
+use Rattle.meaning.proofs.Claims.{claim-holds}
 use Rattle.meaning.proofs.Joined.{joined-some-answer}
 use Rattle.meaning.proofs.Tests.{lt-or-le, apart}
 use Rattle.walk.specs.Events.{events}

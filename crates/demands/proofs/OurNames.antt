@@ -20,7 +20,7 @@ use Rattle.words.specs.Make.{filled, starts_of, ends_of, Answer}
 use Rattle.words.specs.Rows.{book_said}
 use Rattle.words.proofs.Reached.{words-fit}
 use Rattle.words.proofs.Apart.{names_apart}
-use Rattle.words.proofs.Whose.{heard-spelled, whose-named, named-whose}
+use Rattle.words.proofs.WhoseAtom.{heard-spelled, whose-named, named-whose}
 use Rattle.words.proofs.Told.{Made, said-book, refused-row, refused-43, make-keeps, told-made, said-made}
 use Rattle.demands.specs.Engine.{Engine, ours}
 use Rattle.demands.specs.Damaged.{GoodBook}

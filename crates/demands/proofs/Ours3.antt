@@ -20,7 +20,7 @@ use Rattle.meaning.specs.Claim.{claim, meant, Holding}
 use Rattle.meaning.specs.Paper.{Keeps, paper_bytes}
 use Rattle.meaning.specs.Told.{Told, success, refused_at, refused, fewer, Answered}
 use Rattle.meaning.proofs.Tests.{decided, true-and-false, lt-or-le}
-use Rattle.meaning.proofs.Claim.{claim-holds, not-both}
+use Rattle.meaning.proofs.Claims.{claim-holds, not-both}
 use Rattle.book.specs.Format.{book_in}
 use Rattle.book.specs.Rows.{Bytes}
 use Rattle.meaning.specs.Written.{nothing}

@@ -17,7 +17,7 @@ use Rattle.meaning.specs.Written.{of, add_from, added}
 use Rattle.meaning.specs.Computed.{iterate, upheld, support_more, support, goes_off, close_more, marked, stamped, close}
 use Rattle.meaning.specs.Choice.{ifb, if_lt, if_eq}
 use Rattle.meaning.specs.Told.{Told, refused_at, Answered}
-use Rattle.meaning.proofs.Claim.{not-both}
+use Rattle.meaning.proofs.Claims.{not-both}
 use Rattle.book.specs.Format.{u16_at, part_of, bytes_of, record_of, length_of, rule_of, records_of, rules_of, if_fine, body_of, read_of}
 use Rattle.book.specs.Format.{and_then as records_then, book_of, book_in}
 use Rattle.meaning.specs.Buffers.{write_at}

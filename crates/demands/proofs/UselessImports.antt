@@ -22,7 +22,7 @@ use Rattle.lparse.specs.Words.{parting, outside, ends, turned, blanks, span, sta
 use Rattle.lparse.specs.Reading.{body_of, heads_of, on_kind, on_atom, on_listed, on_head_count, on_negatives, on_number, on_value, signed, on_sign, move_of, whole, Part, with_atom, with_choice, with, says, adding, on_move, heard, heard_at}
 use Rattle.lparse.specs.Collect.{text_in, text_of}
 use Rattle.lparse.specs.Import.{laid_of, hand_laid}
-use Rattle.lparse.proofs.Said.{written, read-says}
+use Rattle.lparse.proofs.SaidText.{written, read-says}
 use Rattle.demands.specs.Imports.{Importer, ImportDemand1}
 use Rattle.demands.specs.UselessImports.{always_large, made_by, makes, empty_book, without_minus, standing, moved_rule, as_they_appear, rule_for_each, rules_for_each, every_head_in}
 

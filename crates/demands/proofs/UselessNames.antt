@@ -13,7 +13,7 @@ use Rattle.meaning.specs.Choice.{ifb, if_lt, if_eq}
 use Rattle.meaning.specs.Claim.{claimed, mark_of, mark, marked_by, shown_by, shown, ended, Holding}
 use Rattle.meaning.specs.Paper.{unfounded, fails}
 use Rattle.meaning.proofs.Tests.{apart}
-use Rattle.meaning.proofs.Claim.{not-both}
+use Rattle.meaning.proofs.Claims.{not-both}
 use Rattle.book.specs.Format.{u16_at, part_of, bytes_of, record_of, length_of, rule_of, records_of, rules_of, if_fine, body_of, read_of}
 use Rattle.book.specs.Format.{and_then as records_then}
 use Rattle.book.specs.Rows.{Bytes}

@@ -5,7 +5,7 @@ use talk::{Number, first_word, other_words, read_bytes, read_number};
 
 // Whether the words are right, and what they say: the number, L, ROOM, and how many bytes the book
 // has.
-#[derive(Drop)]
+#[derive(Clone, Copy)]
 pub struct Call {
     pub good: bool,
     pub first: u32,

@@ -11,7 +11,7 @@ use talk::{Refused, first_bytes, put_number, put_refused, put_text, refused_book
 use walk::Found;
 
 // Which walk is asked: the fixed one, or the no_mo_re way's own.
-#[derive(Drop)]
+#[derive(Clone, Copy)]
 pub enum Way {
     Fixed,
     Nomore,

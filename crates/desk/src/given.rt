@@ -4,7 +4,7 @@ ghost use Rattle.io.specs.Counts.{IsPrefixLen};
 use talk::{Number, first_word, other_words, put_bytes, put_text, read_bytes, read_number};
 
 // Whether the words are right, and what they say: ROOM, and how many bytes there are.
-#[derive(Drop)]
+#[derive(Clone, Copy)]
 pub struct Given {
     pub good: bool,
     pub size: usize,

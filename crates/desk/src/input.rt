@@ -8,7 +8,7 @@ use talk::print;
 
 // How many bytes of the present line are held, whether there was room for all of it, and whether
 // the input goes on.
-#[derive(Drop)]
+#[derive(Clone, Copy)]
 struct Held {
     count: usize,
     whole: bool,

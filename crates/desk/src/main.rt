@@ -3,6 +3,7 @@
 //
 // Every answer is written before more of the input is read, so that a program on a pipe may wait
 // for it. A line that is no command is answered `bad line`.
+#![tactic(auto)]
 
 mod call;
 mod fewer;

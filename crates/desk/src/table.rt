@@ -17,7 +17,7 @@ const LAYOUT: Layout = Layout {
 const COMMAND: usize = 5;
 
 // Whether all words are right, and how many there are.
-#[derive(Drop)]
+#[derive(Clone, Copy)]
 struct Words {
     good: bool,
     count: usize,

@@ -17,7 +17,7 @@ use talk::{
 const LONGEST: usize = 16384;
 
 // Whether the words are right, and what they say: ROOM, and how many bytes each book has.
-#[derive(Drop)]
+#[derive(Clone, Copy)]
 struct Two {
     good: bool,
     size: usize,

@@ -4,6 +4,7 @@
 //
 //     explaining BOOKFILE PAPERFILE
 //     explaining --words WORDSFILE PAPERFILE
+#![tactic(auto)]
 
 mod branch;
 mod lines;

@@ -5,6 +5,8 @@
 //     exporting BOOKFILE
 //     exporting --words WORDSFILE
 //     exporting --text TEXTFILE
+#![tactic(auto)]
+
 use aspif::{Exported, TEXT_ROOM, export};
 use calling::{open_book, shift};
 use talk::{BOOK_ROOM, NAMES_ROOM, explain_book, first_bytes, print};

@@ -5,6 +5,7 @@
 //     BOOKFILE PAPERFILE [LIMIT] [--replace]          of contradicting, whose paper is about no atom
 //
 // and --words WORDSFILE or --text TEXTFILE in the place of BOOKFILE.
+#![tactic(auto)]
 
 ghost use Rattle.std.specs.Prelude.{◌≤◌};
 ghost use Rattle.io.specs.Counts.{IsPrefixLen};

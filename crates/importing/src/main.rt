@@ -3,6 +3,7 @@
 // it was.
 //
 //     importing TEXTFILE BOOKFILE [--replace]
+#![tactic(auto)]
 
 mod atoms;
 

@@ -5,6 +5,7 @@
 //     joining FIRSTBOOK SECONDBOOK BOOKFILE [L1 L2] [--replace]
 //
 // In the place of FIRSTBOOK and of SECONDBOOK may stand --words WORDSFILE or --text TEXTFILE.
+#![tactic(auto)]
 
 mod answer;
 mod arguments;

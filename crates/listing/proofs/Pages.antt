@@ -11,7 +11,7 @@ use Rattle.meaning.proofs.Choice.{eq-either}
 use Rattle.book.specs.Format.{read_of, book_in, book_of, ReadAs}
 use Rattle.book.specs.Rows.{Bytes}
 use Rattle.book.specs.Numbers.{number_of, place_of}
-use Rattle.book.proofs.Shape.{told-good}
+use Rattle.book.proofs.Shapes.{told-good}
 use Rattle.book.specs.declared.reader.Shape.{Shape}
 use Rattle.book.specs.declared.refusal.Refusal.{Refusal}
 use Rattle.walk.specs.Events.{Event, clash, fork, reading, quiet}

@@ -3,6 +3,7 @@
 //
 // What is gathered in a buffer, and how the listing goes on from page to page, is promised. What is
 // written to standard output no contract can say: the comments do.
+#![tactic(auto)]
 
 mod named;
 mod piece;

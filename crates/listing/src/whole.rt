@@ -16,7 +16,7 @@ use walk::{Page, page};
 pub const LIMIT: u32 = 1000000;
 
 // How a listing ended, with the readings that it listed.
-#[derive(Drop)]
+#[derive(Clone, Copy)]
 enum End {
     // All of them, and all tries.
     Ended(u64, u32),
@@ -27,7 +27,7 @@ enum End {
 }
 
 // What a page makes of a listing.
-#[derive(Drop)]
+#[derive(Clone, Copy)]
 enum Step {
     // Another page follows: the readings listed and the tries made so far.
     Goes(u64, u32),

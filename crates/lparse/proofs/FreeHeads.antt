@@ -31,7 +31,7 @@ use Rattle.lparse.specs.FreeHeads.{nth_head, head_heard, free_head_of, is_free, 
 use Rattle.lparse.specs.Says.{Written, text_said, Says}
 use Rattle.lparse.proofs.Reading.{by_step, heard-by, took-move}
 use Rattle.lparse.proofs.Phases.{Fits, FitsRole}
-use Rattle.lparse.proofs.Said.{says-read}
+use Rattle.lparse.proofs.SaidText.{says-read}
 use Rattle.lparse.proofs.Collecting.{heard-at-fits}
 
 -- ---- one word more in front

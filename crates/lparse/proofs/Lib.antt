@@ -8,7 +8,7 @@ pub mod Later
 pub mod HeardRules
 pub mod HeardLists
 pub mod Heard
-pub mod Said
+pub mod SaidText
 pub mod Noting
 pub mod Collecting
 pub mod Counted

@@ -33,7 +33,7 @@ use Rattle.lparse.specs.Collect.{numbers_of}
 use Rattle.lparse.specs.Forming.{place_of}
 use Rattle.lparse.specs.Names.{whose_in, whose_of, nth_in, name_heard, name_of, in_table, is_named, found_by, left_by}
 use Rattle.lparse.specs.Says.{Written, Says}
-use Rattle.lparse.proofs.Said.{says-read}
+use Rattle.lparse.proofs.SaidText.{says-read}
 use Rattle.lparse.proofs.Noting.{numbers-atoms}
 use Rattle.lparse.proofs.Reading.{by_step, heard-by, took-ahead, took-end}
 

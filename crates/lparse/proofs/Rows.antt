@@ -31,7 +31,7 @@ use Rattle.lparse.specs.Import.{laid_of, hand_laid, book_given, import_heard, im
 use Rattle.lparse.specs.Rows.{Begins, OtherType, AnotherType, WrongWord, Missing, NotInFormat, TooLarge, Fitting}
 use Rattle.lparse.proofs.Tokens.{number-move}
 use Rattle.lparse.proofs.Importing.{laid-within}
-use Rattle.lparse.proofs.Said.{written, heard_as, read-words, words-read, read-says, says-read}
+use Rattle.lparse.proofs.SaidText.{written, heard_as, read-words, words-read, read-says, says-read}
 use Rattle.lparse.proofs.Walked.{Walked, walked_one, walked-last, walked-parted, walked-says, walked-wrong, says-walked, Stopped, at-word, at-type, at-end, wrong-stopped, completed}
 use Rattle.lparse.proofs.RulesWalked.{rules-walked, walked-rules}
 

@@ -29,7 +29,7 @@ use Rattle.lparse.proofs.Spelled.{literals_before, head-tokens, choice-tokens}
 use Rattle.lparse.proofs.Tokens.{first_one, others-one, every-left, every-right, spelled-value, number-move, atom-move}
 use Rattle.lparse.proofs.Later.{heard-one}
 use Rattle.lparse.proofs.HeardRules.{some-head}
-use Rattle.lparse.proofs.Said.{read-words}
+use Rattle.lparse.proofs.SaidText.{read-words}
 use Rattle.lparse.proofs.Walked.{Walked, here, on, heads-none, heads-some, body-none, body-positive, body-negative, closing, rules-closed}
 
 -- ---- whole rules are read from type to type

@@ -1,6 +1,6 @@
 // What importing answers.
 
-#[derive(Drop)]
+#[derive(Clone, Copy)]
 pub enum Imported {
     // The book stands in the buffer; its length.
     Book(usize),

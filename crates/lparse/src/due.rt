@@ -14,7 +14,7 @@ ghost use Rattle.lparse.specs.Reading.{
 use imported::TextAtom;
 
 // What a number that is due is there for. The counts are of the atoms behind this one.
-#[derive(Drop)]
+#[derive(Clone, Copy)]
 pub enum Role {
     // A rule's type, or the 0 that closes the rules.
     Kind,
@@ -41,7 +41,7 @@ pub enum Role {
 }
 
 // What is due: a number, the name of an atom, one of the words B+ and B-, or nothing any more.
-#[derive(Drop)]
+#[derive(Clone, Copy)]
 pub enum Due {
     Number(Role),
     Name(TextAtom),
@@ -51,7 +51,7 @@ pub enum Due {
 }
 
 // Where an atom stands.
-#[derive(Drop)]
+#[derive(Clone, Copy)]
 pub enum Standing {
     Head,
     // A head of a choice.
@@ -64,7 +64,7 @@ pub enum Standing {
 }
 
 // What a word says of the text's rules, table and lists. An atom of the table is said by its name.
-#[derive(Drop)]
+#[derive(Clone, Copy)]
 pub enum Said {
     Nothing,
     // A choice begins.
@@ -74,7 +74,7 @@ pub enum Said {
 
 // What a word does: what is due behind it and what it says; or it cannot stand there, as a word of
 // the format or as a rule's type.
-#[derive(Drop)]
+#[derive(Clone, Copy)]
 pub enum Move {
     Goes(Due, Said),
     Format,

@@ -28,7 +28,7 @@ use meaning::AtomNo;
 
 // The rules made so far, the rule that is open, the number of the next helper, told up to 256, and
 // whether a list had an entry.
-#[derive(Drop)]
+#[derive(Clone, Copy)]
 pub struct Forming {
     pub making: Making,
     pub rule: Opened,

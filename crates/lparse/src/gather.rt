@@ -12,7 +12,7 @@ use crate::due::{Due, Role, Said};
 use crate::step::{Step, take_word};
 use imported::TextAtom;
 
-#[derive(Drop)]
+#[derive(Clone, Copy)]
 pub enum Collected {
     // So many atoms stand in the array.
     Atoms(usize),

@@ -61,7 +61,7 @@ fn count_atoms(entry: bool, n: usize) -> usize
 }
 
 // The book of the rules made, in the draft: its length, or that it passes the limits or the room.
-#[derive(Drop)]
+#[derive(Clone, Copy)]
 pub enum Laid {
     Book(usize),
     NoFit,

@@ -1,6 +1,7 @@
 // The grounder's texts: any bytes are read as a text of Lparse's format or refused with a number
 // and a place, and a book is made of what the text says. Stands on imported, which says what a text
 // means, and on book.
+#![tactic(auto)]
 
 mod adding;
 mod answer;

@@ -14,14 +14,14 @@ use crate::numbering::number_of;
 use crate::step::{Step, take_word};
 use imported::TextAtom;
 
-#[derive(Drop)]
+#[derive(Clone, Copy)]
 pub enum Whose {
     Atom(TextAtom),
     // No atom of the text has the number.
     Nothing,
 }
 
-#[derive(Drop)]
+#[derive(Clone, Copy)]
 pub enum Name {
     // The first byte of the name, and its end.
     At(usize, usize),

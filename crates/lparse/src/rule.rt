@@ -6,7 +6,7 @@ ghost use Rattle.lparse.specs.Opened.{capped, opening, head_more, opened_by};
 use crate::due::Standing;
 use meaning::Colouring;
 
-#[derive(Drop)]
+#[derive(Clone, Copy)]
 pub struct Opened {
     // A choice, and not a basic rule.
     pub free: bool,

@@ -6,7 +6,7 @@ use crate::due::{Due, Move, Role, Said, Standing, on_number};
 use crate::word::{word_end, word_start};
 use decimal::{Digits, read_digits};
 
-#[derive(Drop)]
+#[derive(Clone, Copy)]
 pub enum Step {
     // What is due next, what the word says, and the word's first byte and its end.
     Goes(Due, Said, usize, usize),

@@ -3,7 +3,7 @@ ghost use Rattle.std.specs.Prelude.{◌≡◌, ◌≤◌, length};
 ghost use Rattle.lparse.specs.Words.{parting, ends, turned, start_of, end_of};
 
 // How the byte before left a word: outside quotes, inside them, or behind a backslash there.
-#[derive(Drop)]
+#[derive(Clone, Copy)]
 pub enum Quote {
     Outside,
     Inside,

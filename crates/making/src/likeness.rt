@@ -6,7 +6,7 @@ ghost use Rattle.io.specs.Counts.{IsPrefixLen};
 use check::same;
 use talk::put_text;
 
-#[derive(Drop)]
+#[derive(Clone, Copy)]
 pub enum Likeness {
     // The names differ by more.
     Far,

@@ -2,6 +2,7 @@
 // the pen. On a refusal nothing is saved, and a book file that was there before stays as it was.
 //
 //     making WORDSFILE BOOKFILE [--replace]
+#![tactic(auto)]
 
 mod atoms;
 mod likeness;

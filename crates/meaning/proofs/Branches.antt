@@ -16,7 +16,7 @@ use Rattle.meaning.specs.Paper.{unfounded, Branch, step-41, step-42, step-55, st
 use Rattle.meaning.proofs.Rules.{within-off, one-under, put-within}
 use Rattle.meaning.proofs.Answers.{answer-closed, answer-total, unfounded-off}
 use Rattle.meaning.proofs.Additions.{may-go-on, is-blocked, legal-forced}
-use Rattle.meaning.proofs.Claim.{claim-sound}
+use Rattle.meaning.proofs.Claims.{claim-sound}
 
 module _ (b : Book) {c d : Pair} (within : Within b c d) where
   -- a rule is put on the side that it has in d

@@ -32,7 +32,7 @@ use Rattle.meaning.proofs.RulesIn.{rules-in, in-rules, rules-ascending, rules-no
 use Rattle.meaning.proofs.Support.{support-is}
 use Rattle.meaning.proofs.Answers.{total-answer}
 use Rattle.meaning.proofs.Additions.{closed-without-starved}
-use Rattle.meaning.proofs.Claim.{unshown-fails}
+use Rattle.meaning.proofs.Claims.{unshown-fails}
 
 -- ---- which of the five it is
 

@@ -31,7 +31,7 @@ pub mod LeastModel
 pub mod Order
 pub mod Adequacy
 pub mod Marks
-pub mod Claim
+pub mod Claims
 pub mod Branches
 pub mod Witness
 pub mod Papers

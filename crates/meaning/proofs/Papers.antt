@@ -18,7 +18,7 @@ use Rattle.meaning.specs.Claim.{claim, named, cleared, meant, Holding, Contrary,
 use Rattle.meaning.specs.Paper.{Branch, Grounds, Keeps}
 use Rattle.meaning.proofs.Tests.{true-and-false}
 use Rattle.meaning.proofs.Rules.{within_both}
-use Rattle.meaning.proofs.Claim.{claim-holds, not-both}
+use Rattle.meaning.proofs.Claims.{claim-holds, not-both}
 use Rattle.meaning.proofs.Branches.{branch-sound}
 use Rattle.meaning.proofs.Witness.{witness-answer}
 

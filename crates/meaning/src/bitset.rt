@@ -8,7 +8,7 @@ ghost use Rattle.meaning.specs.Sets.{every_below, some_below};
 ghost use Rattle.meaning.specs.Bits.{none, below, plus, less, both, implied, bit, members, Lowers, OnesBelow};
 
 // Bit i % 64 of word i / 64 says whether i is in the set.
-#[derive(Drop)]
+#[derive(Clone, Copy)]
 pub struct Bits {
     pub w: [u64; 4],
 }

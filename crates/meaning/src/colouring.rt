@@ -12,7 +12,7 @@ use crate::RuleNo;
 use crate::bitset::Bits;
 use crate::lent::put;
 
-#[derive(Drop)]
+#[derive(Clone, Copy)]
 pub struct Colouring {
     pub on: Bits,
     pub off: Bits,

@@ -6,13 +6,13 @@ ghost use Rattle.meaning.specs.Claim.{claimed, mark, mark_of, marked_by};
 use crate::AtomNo;
 
 // That the atom is certain, in every reading of a book that has one; or that it is clear, in none.
-#[derive(Drop)]
+#[derive(Clone, Copy)]
 pub enum Kind {
     Naming,
     Clearing,
 }
 
-#[derive(Drop)]
+#[derive(Clone, Copy)]
 pub enum Claim {
     About(Kind, AtomNo),
     // That the book has no reading. It speaks of no atom.
@@ -29,7 +29,7 @@ pub const CLEARING_MARK: [u8; 2] = [0x50, 0x43];
 pub const NO_READING_MARK: [u8; 2] = [0x50, 0x4e];
 
 // What two bytes are as a paper's mark.
-#[derive(Drop)]
+#[derive(Clone, Copy)]
 pub enum Marked {
     Of(Kind),
     NoReading,

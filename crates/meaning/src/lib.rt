@@ -2,6 +2,7 @@
 //
 // This crate stands on nothing. Its definitions are in specs/, in the order that specs/Lib.antt
 // gives; its laws, which need no code, are in proofs/. Every other crate uses the types below.
+#![tactic(auto)]
 
 mod bitset;
 mod colouring;
@@ -14,11 +15,11 @@ pub use kind::{CLEARING_MARK, Claim, Kind, Marked, NAMING_MARK, NO_READING_MARK}
 pub use lent::{has, join, next_in, put, whole};
 
 // The number of an atom, one byte in a book.
-#[derive(Drop)]
+#[derive(Clone, Copy)]
 pub struct AtomNo(pub u8);
 
 // The number of a rule, one byte in a paper. It is never given where an atom is due.
-#[derive(Drop)]
+#[derive(Clone, Copy)]
 pub struct RuleNo(pub u8);
 
 // The codes of a paper's five steps: a rule goes on, a rule goes off, a list of rules goes off, a

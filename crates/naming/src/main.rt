@@ -2,6 +2,8 @@
 // refusal, and a paper file that was there before stays as it was.
 //
 //     naming BOOKFILE ATOM PAPERFILE [LIMIT] [--replace]
+#![tactic(auto)]
+
 use meaning::Kind;
 
 fn main() {

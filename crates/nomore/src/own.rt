@@ -22,7 +22,7 @@ use walk::{Halt, Tally, meet};
 
 // What closing without support comes to: the two sets, and of a contradiction the lowest rule in
 // both.
-#[derive(Drop)]
+#[derive(Clone, Copy)]
 struct Grown {
     on: Bits,
     off: Bits,

@@ -4,6 +4,7 @@
 //     readings < BOOKFILE
 //     readings --words WORDSFILE
 //     readings --text TEXTFILE
+#![tactic(auto)]
 
 use calling::{open_at, shift};
 

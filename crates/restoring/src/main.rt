@@ -2,6 +2,8 @@
 // refusal, and a book file that was there before stays as it was.
 //
 //     restoring TEXTFILE BOOKFILE [--replace]
+#![tactic(auto)]
+
 use aspif::{Restored, restore};
 use book::{BOOK_BYTES, Read, read_book};
 use meaning::Kind;

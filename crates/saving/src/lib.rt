@@ -3,6 +3,7 @@
 // a book is told here, for all programs that save one. Stands on talk and book.
 //
 // No contract can say what a file holds or what is written to it: the comments do.
+#![tactic(auto)]
 
 mod argument;
 mod book_file;

@@ -8,7 +8,7 @@ use talk::complain;
 
 // Whether nothing forbids to save, whether a file stands there, and how many of its bytes stand at
 // the start of the buffer.
-#[derive(Drop)]
+#[derive(Clone, Copy)]
 pub struct There {
     pub good: bool,
     pub is_file: bool,

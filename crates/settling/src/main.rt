@@ -5,6 +5,7 @@
 //     settling BOOKFILE
 //     settling --words WORDSFILE
 //     settling --text TEXTFILE
+#![tactic(auto)]
 
 mod atoms;
 mod rules;

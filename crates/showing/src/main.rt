@@ -6,6 +6,7 @@
 //     showing BOOKFILE
 //     showing --words WORDSFILE
 //     showing --text TEXTFILE
+#![tactic(auto)]
 
 mod atoms;
 

@@ -4,6 +4,7 @@
 //     table < NAMESFILE
 //     table --words < NAMESFILE
 //     table --text < NAMESFILE
+#![tactic(auto)]
 
 mod names;
 mod turn;

@@ -3,6 +3,7 @@
 //
 // The functions here write to standard output, and no contract can say what: their comments do. What
 // is written of a book is what `counting::take_turn` gives.
+#![tactic(auto)]
 
 mod line;
 mod rows;

@@ -6,7 +6,7 @@ use meaning::Colouring;
 use talk::{print, put_name, put_number, put_text};
 
 // What parts two words, what ends a line, and whether a book's name stands behind its number.
-#[derive(Drop)]
+#[derive(Clone, Copy)]
 pub struct Layout {
     pub separator: u8,
     pub line_end: u8,

@@ -8,7 +8,7 @@ use meaning::Colouring;
 pub const MOST_BOOKS: usize = 64;
 
 // How many books there were, which of them have no answer sets, and the totals.
-#[derive(Drop)]
+#[derive(Clone, Copy)]
 pub struct Table {
     books: u8,
     without: [bool; 64],

@@ -14,7 +14,7 @@ pub const BOOK_ROOM: usize = BOOK_BYTES + 1;
 pub const PAPER_ROOM: usize = PAPER_BYTES + 1;
 
 // Whether a file was read, and how many of its bytes stand at the start of the buffer.
-#[derive(Drop)]
+#[derive(Clone, Copy)]
 pub struct Taken {
     pub good: bool,
     pub count: usize,

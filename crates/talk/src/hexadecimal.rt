@@ -4,7 +4,7 @@ ghost use Rattle.io.specs.Counts.{IsPrefixLen};
 ghost use Rattle.talk.specs.Hexadecimal.{digit_of, all_digits, filled, decoded_of};
 
 // Whether a word says bytes, and how many.
-#[derive(Drop)]
+#[derive(Clone, Copy)]
 pub struct Decoded {
     pub good: bool,
     pub count: usize,

@@ -4,6 +4,7 @@
 //
 // Functions that give a value promise which. Of those that read or write a file no contract can say
 // what they read or write; their comments do.
+#![tactic(auto)]
 
 mod checked;
 mod file;

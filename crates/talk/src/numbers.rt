@@ -4,7 +4,7 @@ ghost use Rattle.talk.specs.Decimal.{number_of};
 
 use decimal::{Digits, read_plain};
 
-#[derive(Drop)]
+#[derive(Clone, Copy)]
 pub enum Number {
     Value(u32),
     // The word is no number, or one that is out of range.

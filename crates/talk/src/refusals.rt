@@ -8,7 +8,7 @@ use book::Refusal;
 use checker::Checked;
 use writer::Named;
 
-#[derive(Drop)]
+#[derive(Clone, Copy)]
 pub enum Refused {
     // The number and the place.
     At(u8, usize),

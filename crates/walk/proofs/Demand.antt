@@ -13,7 +13,7 @@ use Rattle.meaning.proofs.LeastModel.{Proper}
 use Rattle.meaning.proofs.Tests.{apart}
 use Rattle.book.specs.Format.{good, bad, read_of, book_of, book_in}
 use Rattle.book.specs.Rows.{Bytes}
-use Rattle.book.proofs.Shape.{good-fits}
+use Rattle.book.proofs.Shapes.{good-fits}
 use Rattle.walk.specs.Events.{Event}
 use Rattle.walk.specs.Readings.{readings_in}
 use Rattle.walk.specs.Tries.{Kth, Needs, to-reading, to_end, last_clash}

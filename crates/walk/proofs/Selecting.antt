@@ -25,7 +25,7 @@ use Rattle.book.specs.declared.reader.Read.TheVariants.{Refused}
 use Rattle.book.specs.declared.refusal.Refusal.{Refusal}
 use Rattle.book.specs.Numbers.{number_of, place_of, told as book_told}
 use Rattle.book.specs.Format.{good, bad, read_of, told_of, book_of, book_in, ReadAs}
-use Rattle.book.proofs.Shape.{told-good}
+use Rattle.book.proofs.Shapes.{told-good}
 use Rattle.book.proofs.Verdict.{read-bad}
 use Rattle.book.proofs.Places.{shape-atoms, in-shape, head-below}
 use Rattle.walk.specs.Events.{Event, events}

@@ -15,7 +15,7 @@ use book::{Read, Refusal, Shape, make_rows, read_book};
 use closing::Choice;
 use meaning::{Colouring, RuleNo};
 
-#[derive(Drop)]
+#[derive(Clone, Copy)]
 pub enum Found {
     // The k-th reading stands in the buffer; so many tries were made.
     Set(u32),

@@ -1,5 +1,6 @@
 // The walk: finds the readings of a book, in the order that the book fixes, and counts the tries.
 // Stands on closing, book and meaning.
+#![tactic(auto)]
 
 mod bytes;
 mod colours;

@@ -1,7 +1,7 @@
 // What a call for the next page of a listing answers.
 use book::Refusal;
 
-#[derive(Drop)]
+#[derive(Clone, Copy)]
 pub enum Page {
     // The buffer is full of rows: all tries so far. More readings may follow.
     Whole(u32),

@@ -5,7 +5,7 @@ ghost use Rattle.walk.specs.declared.tally.Halt.TheVariants.{Going, Limit};
 use meaning::RuleNo;
 
 // Why it goes no further.
-#[derive(Drop)]
+#[derive(Clone, Copy)]
 pub enum Halt {
     Going,
     // As many readings were written as there was room for.
@@ -14,7 +14,7 @@ pub enum Halt {
     Limit,
 }
 
-#[derive(Drop)]
+#[derive(Clone, Copy)]
 pub struct Tally {
     pub tries: u32,
     pub sets: u32,

@@ -1,5 +1,5 @@
 // What a search for the first reading that matches a given one comes to.
-#[derive(Drop)]
+#[derive(Clone, Copy)]
 pub enum Verdict {
     // No reading matches it.
     Nobody,

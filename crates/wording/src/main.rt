@@ -7,6 +7,7 @@
 //     wording BOOKFILE
 //     wording --words WORDSFILE
 //     wording --text TEXTFILE
+#![tactic(auto)]
 
 mod called;
 mod rules;

@@ -18,7 +18,7 @@ pub mod Refusals
 pub mod Numbers
 pub mod Rows
 pub mod Told
-pub mod Whose
+pub mod WhoseAtom
 pub mod Solid
 pub mod Printed
 pub mod Steps

@@ -1,7 +1,7 @@
 // What making a book of words answers, and whose name a word is.
 use meaning::AtomNo;
 
-#[derive(Drop)]
+#[derive(Clone, Copy)]
 pub enum Worded {
     // The book stands in the buffer; its length.
     Book(usize),
@@ -15,7 +15,7 @@ pub enum Worded {
     NoRoom,
 }
 
-#[derive(Drop)]
+#[derive(Clone, Copy)]
 pub enum Whose {
     Atom(AtomNo),
     // No atom has this name.

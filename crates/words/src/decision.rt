@@ -6,7 +6,7 @@ use crate::due::{Due, Move, Said, Standing};
 use crate::opened::{Open, is_full};
 
 // What is done with a word that may stand where it stands.
-#[derive(Drop)]
+#[derive(Clone, Copy)]
 pub enum Act {
     Nothing,
     // From here on names are listed.
@@ -19,7 +19,7 @@ pub enum Act {
 
 // A word may stand there, with what is due behind it and what is done; or the reason why not: 40,
 // 41 or 42.
-#[derive(Drop)]
+#[derive(Clone, Copy)]
 pub enum Decision {
     Goes(Due, Act),
     Form,

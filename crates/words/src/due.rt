@@ -13,7 +13,7 @@ ghost use Rattle.words.specs.Moves.{
 
 use crate::term::Term;
 
-#[derive(Drop)]
+#[derive(Clone, Copy)]
 pub enum Due {
     // The first word of a line.
     Line,
@@ -36,7 +36,7 @@ pub enum Due {
 }
 
 // Where an atom stands in its rule.
-#[derive(Drop)]
+#[derive(Clone, Copy)]
 pub enum Standing {
     Head,
     Positive,
@@ -44,7 +44,7 @@ pub enum Standing {
 }
 
 // What a word says: nothing, that names are listed, one of these names, or an atom of a rule.
-#[derive(Drop)]
+#[derive(Clone, Copy)]
 pub enum Said {
     Nothing,
     Lists,
@@ -53,14 +53,14 @@ pub enum Said {
 }
 
 // What a word does: what is due behind it and what it says; or it cannot stand there.
-#[derive(Drop)]
+#[derive(Clone, Copy)]
 pub enum Move {
     Goes(Due, Said),
     Wrong,
 }
 
 // What the end of a line ends: nothing, or a rule; or a word is missing.
-#[derive(Drop)]
+#[derive(Clone, Copy)]
 pub enum Ended {
     Nothing,
     Rule,

@@ -7,7 +7,7 @@ use crate::term::is_same;
 use meaning::AtomNo;
 
 // So many names; where each starts, and where it ends. The later places are 0.
-#[derive(Drop)]
+#[derive(Clone, Copy)]
 pub struct Known {
     pub count: usize,
     pub from: [usize; 255],

@@ -1,5 +1,6 @@
 // Books in words: any bytes are read as rules in words or refused with a number and a place, and
 // the book of these rules is made, with the places of its atoms' names in the text. Stands on book.
+#![tactic(auto)]
 
 mod answer;
 mod decision;

@@ -6,7 +6,7 @@ use crate::due::Standing;
 use book::count_atoms;
 use meaning::AtomNo;
 
-#[derive(Drop)]
+#[derive(Clone, Copy)]
 pub struct Open {
     pub head: AtomNo,
     pub pos: [bool; 255],

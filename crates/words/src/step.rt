@@ -25,7 +25,7 @@ use crate::token::{Token, next_token};
 use book::{BOOK_BYTES, Making, add_rule};
 
 // How reading stands: it goes on, it is done, or it was refused at a place.
-#[derive(Drop)]
+#[derive(Clone, Copy)]
 pub enum Fate {
     Goes,
     Done,
@@ -35,7 +35,7 @@ pub enum Fate {
 }
 
 // How far a text was read, and what it said so far.
-#[derive(Drop)]
+#[derive(Clone, Copy)]
 pub struct Reading {
     pub fate: Fate,
     pub at: usize,

@@ -6,7 +6,7 @@ ghost use Rattle.words.specs.Terms.{in_range, name_byte, spelled, plain_term, te
 
 use check::same;
 
-#[derive(Drop)]
+#[derive(Clone, Copy)]
 pub enum Term {
     If,
     And,

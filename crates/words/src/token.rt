@@ -2,7 +2,7 @@
 ghost use Rattle.std.specs.Prelude.{◌≡◌, ◌≤◌, length};
 ghost use Rattle.words.specs.Words.{blank, parting, start_of, end_of, token_at};
 
-#[derive(Drop)]
+#[derive(Clone, Copy)]
 pub enum Token {
     // A word, from its first byte to its end.
     Word(usize, usize),

@@ -6,7 +6,7 @@ ghost use Rattle.writer.specs.Write.{told, failing};
 use book::Refusal;
 use meaning::{Claim, Kind, RuleNo};
 
-#[derive(Drop)]
+#[derive(Clone, Copy)]
 pub enum Named {
     // The paper stands in the buffer: the tries of its walk, and its length.
     Paper(u32, usize),

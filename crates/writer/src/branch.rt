@@ -16,7 +16,7 @@ use meaning::{
 };
 
 // What a branch ends by, with the colouring there and the draft's length behind it.
-#[derive(Drop)]
+#[derive(Clone, Copy)]
 pub struct Written {
     pub colours: Colouring,
     pub length: usize,

@@ -6,6 +6,7 @@
 // steps of each branch one by one (`next_step`), the branches split by split (`write_branches`), and
 // behind them the witness, if the claim has one, and the trailer. A draft that came to its end and
 // fits is copied to the caller's buffer, and nothing else ever is.
+#![tactic(auto)]
 
 mod answer;
 mod branch;

@@ -15,7 +15,7 @@ use crate::step::Tip;
 use book::Shape;
 use meaning::{Claim, Colouring, PAPER_BYTES};
 
-#[derive(Drop)]
+#[derive(Clone, Copy)]
 pub enum Course {
     Writing,
     // One more branch would pass the limit.
@@ -25,7 +25,7 @@ pub enum Course {
 }
 
 // The tries and the draft's length so far, and whether the walk goes on.
-#[derive(Drop)]
+#[derive(Clone, Copy)]
 pub struct Drafted {
     pub tries: u32,
     pub length: usize,

@@ -16,7 +16,7 @@ use meaning::{Claim, Colouring, Kind, RuleNo, whole};
 use walk::lowest_uncoloured;
 
 // A step that the branch goes on after, or what it stops by.
-#[derive(Drop)]
+#[derive(Clone, Copy)]
 pub enum Step {
     // 41 and 42, with their rule.
     On(RuleNo),
@@ -26,7 +26,7 @@ pub enum Step {
     Stops(Tip),
 }
 
-#[derive(Drop)]
+#[derive(Clone, Copy)]
 pub enum Tip {
     // 45.
     Ended,

@@ -21,7 +21,7 @@ use meaning::{Colouring, PAPER_BYTES, RuleNo, has, put};
 use walk::generates;
 
 // How many rules the witness lists, and the draft's length behind it.
-#[derive(Drop)]
+#[derive(Clone, Copy)]
 pub struct Witness {
     pub count: u8,
     pub length: usize,

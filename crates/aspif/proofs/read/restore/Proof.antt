@@ -3,7 +3,7 @@ use native.Mathlib.Omega.{arith}
 use mathlib.Core.Path.{sym}
 use mathlib.Core.List.{[]}
 use lib.Seq.{length-take-le}
-use Rattle.aspif.proofs.Restored.{restore-outside, book-seen, restore-passed, restore-many, size-inside, restore-short, restore-given}
+use Rattle.aspif.proofs.RestoredBook.{restore-outside, book-seen, restore-passed, restore-many, size-inside, restore-short, restore-given}
 use borrow.Author.Rules.{rules}
 use borrow.Author.Tests.{not-true, not-false}
 use Rattle.aspif.proofs.read.restore.Statement.{statement}

@@ -9,7 +9,7 @@ use Rattle.meaning.proofs.Choice.{eq_yes, eq_no}
 use Rattle.book.specs.Checks.{checked}
 use Rattle.book.specs.Format.{fine, and_then, part_from, length_of, record_of, records_of}
 use Rattle.book.proofs.Parts.{record-fine}
-use Rattle.book.proofs.Shape.{record-ends}
+use Rattle.book.proofs.Shapes.{record-ends}
 use Rattle.book.proofs.Turns.{records-end, records-turn, after-wrong, after-fine}
 use Rattle.book.proofs.record.check_records.Statement.{statement}
 use Rattle.book.proofs.record.check_records.Tie as tie

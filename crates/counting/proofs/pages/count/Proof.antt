@@ -1,7 +1,7 @@
 -- count keeps its promise: the book refused, or a good one counted.
 use Rattle.std.proofs.Common.{sym, ◌∙◌, rules}
 use Rattle.book.specs.Format.{read_of}
-use Rattle.book.proofs.Shape.{told-good}
+use Rattle.book.proofs.Shapes.{told-good}
 use Rattle.book.proofs.Verdict.{read_as, read-bad}
 use Rattle.counting.proofs.Counts.{count-bad-book, count-good-book}
 use Rattle.counting.proofs.pages.count.Statement.{statement}
