@@ -17,7 +17,7 @@ use meaning::{Colouring, RuleNo};
 
 // The branch at byte `at`, which starts with the colouring c.
 #[cycle(explain_branch_explain_split)]
-pub fn explain_branch(
+pub fn explain_branch(rt: &impl Print, 
     book: &[u8],
     shape: Shape,
     names: &[u8],
@@ -32,7 +32,7 @@ pub fn explain_branch(
         paper.now trailer.from at (pair (written c)) (walked result)
         × Ends at trailer.from (walked result) }
 {
-    let ran = explain_run(book, shape, names, paper, trailer, depth, at, c);
+    let ran = explain_run(rt, book, shape, names, paper, trailer, depth, at, c);
     let stop = ran.stop;
     let last = ran.at;
     match stop {
@@ -42,7 +42,7 @@ pub fn explain_branch(
         }
         Stop::Split(r) => {
             let colours = ran.colours;
-            explain_split(book, shape, names, paper, trailer, depth, last, r, colours)
+            explain_split(rt, book, shape, names, paper, trailer, depth, last, r, colours)
         }
         Stop::Form => Walked::Form(last),
         Stop::Fails => Walked::Fails(last),
@@ -52,7 +52,7 @@ pub fn explain_branch(
 // The split on rule r at byte `at`, with the colouring c before it: a branch with r on, then one
 // with r off.
 #[cycle(explain_branch_explain_split)]
-fn explain_split(
+fn explain_split(rt: &impl Print, 
     book: &[u8],
     shape: Shape,
     names: &[u8],
@@ -73,7 +73,7 @@ fn explain_split(
 {
     let start = at + 2;
     let first = c.with_on(r);
-    match explain_branch(
+    match explain_branch(rt, 
         book,
         shape,
         names,
@@ -84,8 +84,8 @@ fn explain_split(
         first,
     ) {
         Walked::Done(next) => {
-            tell_second(depth, at, r);
-            explain_branch(
+            tell_second(rt, depth, at, r);
+            explain_branch(rt, 
                 book,
                 shape,
                 names,

@@ -5,8 +5,8 @@ use Prim.Native.Nat.{ℕ, ◌+◌}
 use native.Mathlib.Omega.{arith}
 use lib.ListN.{length, length-append, take}
 use lib.Seq.{take-length, take-append_seam, take-append-add}
-use Rattle.io.specs.Counts.{IsPrefixLen}
-use Rattle.io.proofs.Counting.{prefix_len_of_le}
+use Rattle.system.specs.Counts.{IsPrefixLen}
+use Rattle.system.proofs.Counting.{prefix_len_of_le}
 use Rattle.saving.specs.NewName.{dot_new, new_name}
 
 -- the path as it was copied is the whole path, whatever stands behind it

@@ -6,7 +6,7 @@ use native.Mathlib.Omega.{arith}
 use lib.ListN.{length, get_or, take, drop, length-drop}
 use lib.Seq.{length-take-le, get_or-take, get_or-drop, take-add, take-take, drop_at}
 use borrow.Author.Tests.{eq-eqb, ne_eqb}
-use Rattle.bytes.specs.Bytes.{index_after, index_of, slice}
+use Rattle.system.specs.Places.{index_after, index_of, slice}
 use Rattle.meaning.proofs.Choice.{lt_yes, lt_no}
 use Rattle.talk.specs.Names.{row_of, name_in}
 

@@ -1,7 +1,7 @@
 -- `read_bytes` counts, then fills.
 use native.Mathlib.Omega.{arith}
 use borrow.Author.Rules.{rules}
-use Rattle.io.proofs.Counting.{prefix_len_of_le}
+use Rattle.system.proofs.Counting.{prefix_len_of_le}
 use Rattle.talk.proofs.hexadecimal.read_bytes.Statement.{statement}
 use Rattle.talk.proofs.hexadecimal.read_bytes.Tie as tie
 

@@ -1,6 +1,6 @@
 -- What `put_bytes` counts lies within the buffer: there was room for it.
 use borrow.Author.Rules.{rules}
-use Rattle.io.proofs.Counting.{prefix_len_of_le}
+use Rattle.system.proofs.Counting.{prefix_len_of_le}
 use Rattle.talk.proofs.line.put_bytes.Statement.{statement}
 use Rattle.talk.proofs.line.put_bytes.Tie as tie
 

@@ -1,6 +1,6 @@
 -- What `put_text` counts lies within the buffer: there was room for it.
 use borrow.Author.Rules.{rules}
-use Rattle.io.proofs.Counting.{prefix_len_of_le}
+use Rattle.system.proofs.Counting.{prefix_len_of_le}
 use Rattle.talk.proofs.line.put_text.Statement.{statement}
 use Rattle.talk.proofs.line.put_text.Tie as tie
 
