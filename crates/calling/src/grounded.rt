@@ -2,12 +2,12 @@
 ghost use Rattle.std.specs.Prelude.{◌≤◌};
 ghost use Rattle.system.specs.Counts.{IsPrefixLen};
 
-use std::rt::{Env, Files};
 use crate::described::put_described;
 use crate::opened::{Asked, Opened, atoms_of};
 use crate::sought::asked_in;
 use crate::text::{TEXT_ROOM, read_text};
 use lparse::{Collected, Imported, collect, import};
+use std::rt::{Env, Files};
 use talk::{Refused, explain_text_of, first_bytes};
 
 // Why a text is refused.
@@ -27,7 +27,14 @@ pub fn explain_text(rt: &impl Print, answer: Imported, whose: &[u8]) {
 }
 
 // Puts what the book's atoms are called into their rows, and gives the atom that an argument names.
-fn call_atoms(rt: &impl Env, i: usize, text: &[u8], seen: &[u32], atoms: u8, names: &mut [u8]) -> Asked {
+fn call_atoms(
+    rt: &impl Env,
+    i: usize,
+    text: &[u8],
+    seen: &[u32],
+    atoms: u8,
+    names: &mut [u8],
+) -> Asked {
     put_described(text, seen, atoms, names);
     asked_in(rt, i, text, seen)
 }
@@ -42,7 +49,14 @@ fn take_names(rt: &impl Env, i: usize, text: &[u8], atoms: u8, names: &mut [u8])
 }
 
 // What is told of a book that was made, with the names put into their rows.
-fn open_imported(rt: &impl Env, i: usize, text: &[u8], book: &[u8], n: usize, names: &mut [u8]) -> Opened
+fn open_imported(
+    rt: &impl Env,
+    i: usize,
+    text: &[u8],
+    book: &[u8],
+    n: usize,
+    names: &mut [u8],
+) -> Opened
     ensures { IsPrefixLen result.count book.now
         × IsPrefixLen result.names names.new }
 {
@@ -61,7 +75,14 @@ fn open_imported(rt: &impl Env, i: usize, text: &[u8], book: &[u8], n: usize, na
 }
 
 // Makes the book of the text, and puts the names into their rows. Where there is none a line says why.
-fn import_book(rt: &(impl Env + Print), i: usize, text: &[u8], whose: &[u8], book: &mut [u8], names: &mut [u8]) -> Opened
+fn import_book(
+    rt: &(impl Env + Print),
+    i: usize,
+    text: &[u8],
+    whose: &[u8],
+    book: &mut [u8],
+    names: &mut [u8],
+) -> Opened
     ensures { IsPrefixLen result.count book.new
         × IsPrefixLen result.names names.new }
 {
@@ -75,7 +96,13 @@ fn import_book(rt: &(impl Env + Print), i: usize, text: &[u8], whose: &[u8], boo
 
 // Makes the book of the text in the file that an argument names. The argument behind it may name an
 // atom. `whose` says which book it is, where there are two.
-pub fn open_text(rt: &(impl Env + Files + Print), i: usize, whose: &[u8], book: &mut [u8], names: &mut [u8]) -> Opened
+pub fn open_text(
+    rt: &(impl Env + Files + Print),
+    i: usize,
+    whose: &[u8],
+    book: &mut [u8],
+    names: &mut [u8],
+) -> Opened
     requires { i ≤ 4 }
     ensures { IsPrefixLen result.count book.new
         × IsPrefixLen result.names names.new }

@@ -1,10 +1,10 @@
 // The atom of a grounder's text that has a name. The table may give one atom several names, and one
 // name to several atoms: no atom is picked then. Helpers have no name.
-use std::rt::Env;
-use system::{PATH_ROOM, arg};
 use crate::opened::Asked;
 use imported::TextAtom;
 use lparse::{Name, Whose, atom_at, nth_name};
+use std::rt::Env;
+use system::{PATH_ROOM, arg};
 
 // Whether the word stands in the text from one place up to another.
 fn stands_at(text: &[u8], from: usize, end: usize, word: &[u8]) -> bool {

@@ -2,11 +2,11 @@
 ghost use Rattle.std.specs.Prelude.{◌≤◌};
 ghost use Rattle.system.specs.Counts.{IsPrefixLen};
 
-use std::rt::{Env, Files};
-use system::{arg};
 use crate::grounded::open_text;
 use crate::opened::{Asked, Opened};
 use crate::worded::open_words;
+use std::rt::{Env, Files};
+use system::arg;
 use talk::{complain_of_call, read_argument};
 
 #[derive(Clone, Copy)]
@@ -52,7 +52,13 @@ pub fn shift(rt: &impl Env) -> usize
 
 // Opens the book whose place in the call is i: its file, or `--words` or `--text` and the file behind
 // it. Where there is none a line says why; `whose` says there which book it is, where there are two.
-pub fn open_at(rt: &(impl Env + Files + Print), i: usize, whose: &[u8], book: &mut [u8], names: &mut [u8]) -> Opened
+pub fn open_at(
+    rt: &(impl Env + Files + Print),
+    i: usize,
+    whose: &[u8],
+    book: &mut [u8],
+    names: &mut [u8],
+) -> Opened
     requires { i ≤ 3 }
     ensures { IsPrefixLen result.count book.new
         × IsPrefixLen result.names names.new }
@@ -75,7 +81,13 @@ pub fn open_at(rt: &(impl Env + Files + Print), i: usize, whose: &[u8], book: &m
 
 // How the programs for people open: where the call is right, the book in the first place of the call
 // is opened. Otherwise a line says what is wrong.
-pub fn open_book(rt: &(impl Env + Files + Print), is_right: bool, usage: &[u8], book: &mut [u8], names: &mut [u8]) -> Opened
+pub fn open_book(
+    rt: &(impl Env + Files + Print),
+    is_right: bool,
+    usage: &[u8],
+    book: &mut [u8],
+    names: &mut [u8],
+) -> Opened
     ensures { IsPrefixLen result.count book.new
         × IsPrefixLen result.names names.new }
 {

@@ -2,18 +2,19 @@
 ghost use Rattle.std.specs.Prelude.{◌≤◌};
 ghost use Rattle.system.specs.Counts.{IsPrefixLen};
 
-use std::rt::{Env, Files};
-use system::{arg};
 use crate::names::put_rows;
 use crate::opened::{Asked, Opened, atoms_of};
 use crate::place::is_listing;
 use crate::refusal::explain_words;
 use crate::text::{TEXT_ROOM, read_text};
+use std::rt::{Env, Files};
+use system::arg;
 use talk::first_bytes;
 use words::{Whose, Worded, atom_named, make};
 
 // The atom whose name an argument is, in a text with these names. No two atoms have the same.
-fn asked_for<'a>(rt: &impl Env, 
+fn asked_for<'a>(
+    rt: &impl Env,
     i: usize,
     text: &'a [u8],
     atoms: u8,
@@ -29,7 +30,8 @@ fn asked_for<'a>(rt: &impl Env,
 }
 
 // What is told of a book that was made, with the names put into their rows.
-fn open_made<'a>(rt: &impl Env, 
+fn open_made<'a>(
+    rt: &impl Env,
     i: usize,
     text: &'a [u8],
     from: &'a [usize; 255],
@@ -58,7 +60,14 @@ fn open_made<'a>(rt: &impl Env,
 }
 
 // Makes the book of the words, and puts the names into their rows. Where there is none a line says why.
-fn make_book(rt: &(impl Env + Print), i: usize, text: &[u8], whose: &[u8], book: &mut [u8], names: &mut [u8]) -> Opened
+fn make_book(
+    rt: &(impl Env + Print),
+    i: usize,
+    text: &[u8],
+    whose: &[u8],
+    book: &mut [u8],
+    names: &mut [u8],
+) -> Opened
     ensures { IsPrefixLen result.count book.new
         × IsPrefixLen result.names names.new }
 {
@@ -74,7 +83,13 @@ fn make_book(rt: &(impl Env + Print), i: usize, text: &[u8], whose: &[u8], book:
 
 // Makes the book of the words in the file that an argument names. The argument behind it may name an
 // atom. `whose` says which book it is, where there are two.
-pub fn open_words(rt: &(impl Env + Files + Print), i: usize, whose: &[u8], book: &mut [u8], names: &mut [u8]) -> Opened
+pub fn open_words(
+    rt: &(impl Env + Files + Print),
+    i: usize,
+    whose: &[u8],
+    book: &mut [u8],
+    names: &mut [u8],
+) -> Opened
     requires { i ≤ 4 }
     ensures { IsPrefixLen result.count book.new
         × IsPrefixLen result.names names.new }

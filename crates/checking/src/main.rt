@@ -7,9 +7,9 @@
 //     checking --text TEXTFILE PAPERFILE
 #![tactic(auto)]
 
-use std::rt::{Env, Files};
-use system::{arg_count};
 use calling::{open_book, shift};
+use std::rt::{Env, Files};
+use system::arg_count;
 use talk::{BOOK_ROOM, NAMES_ROOM, PAPER_ROOM, read_argument, tell_checked};
 
 // Reads the paper, and checks it.
@@ -26,7 +26,8 @@ fn main(rt: HostRuntime) {
     let is_right = arg_count(&rt) == 3 + shift(&rt);
     let mut book = [0u8; BOOK_ROOM];
     let mut names = [0u8; NAMES_ROOM];
-    let opened = open_book(&rt, 
+    let opened = open_book(
+        &rt,
         is_right,
         b"checking BOOKFILE PAPERFILE",
         &mut book,

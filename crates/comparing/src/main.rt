@@ -7,10 +7,10 @@
 
 ghost use Rattle.system.specs.Counts.{IsPrefixLen};
 
-use std::rt::{Env, Files};
-use system::{arg_count};
 use book::{Read, Shape, read_book};
 use calling::{Opened, open_at, open_words, shift_at};
+use std::rt::{Env, Files};
+use system::arg_count;
 use talk::{BOOK_ROOM, NAMES_ROOM, open_call, print, put_number, put_size, put_text};
 
 // The first place at which the two differ, or the length of the shorter one.
@@ -83,7 +83,8 @@ fn compare_argument(rt: &(impl Env + Files + Print), book: &[u8]) {
 
 fn main(rt: HostRuntime) {
     let mut book = [0u8; BOOK_ROOM];
-    let taken = open_call(&rt, 
+    let taken = open_call(
+        &rt,
         arg_count(&rt) == 3 + shift_at(&rt, 2),
         b"comparing BOOKFILE WORDSFILE",
         &mut book,

@@ -25,7 +25,8 @@ impl Held {
 }
 
 // Answers the line that is held.
-fn answer_held(rt: &impl Print, 
+fn answer_held(
+    rt: &impl Print,
     line: &[u8],
     held: Held,
     book: &mut [u8],
@@ -44,7 +45,8 @@ fn answer_held(rt: &impl Print,
 }
 
 // Takes the next byte of the input, and answers the line that it ends.
-fn take_byte(rt: &impl Print, 
+fn take_byte(
+    rt: &impl Print,
     byte: u8,
     line: &mut [u8],
     held: Held,
@@ -77,7 +79,8 @@ fn take_byte(rt: &impl Print,
 }
 
 // Takes the bytes of a chunk of the input.
-fn take_chunk(rt: &impl Print, 
+fn take_chunk(
+    rt: &impl Print,
     chunk: &[u8],
     line: &mut [u8],
     held: Held,
@@ -149,7 +152,8 @@ fn take_all(
 }
 
 // Answers all lines of the input.
-pub fn answer_all(rt: &(impl Input + Print), 
+pub fn answer_all(
+    rt: &(impl Input + Print),
     line: &mut [u8],
     book: &mut [u8],
     other: &mut [u8],

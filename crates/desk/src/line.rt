@@ -93,7 +93,14 @@ fn answer_command(
 }
 
 // Writes the answer to the line at once, or `bad line`.
-fn answer_at_once(rt: &impl Print, line: &[u8], book: &mut [u8], other: &mut [u8], room: &mut [u8], out: &mut [u8]) {
+fn answer_at_once(
+    rt: &impl Print,
+    line: &[u8],
+    book: &mut [u8],
+    other: &mut [u8],
+    room: &mut [u8],
+    out: &mut [u8],
+) {
     let held = answer_command(line, book, other, room, out);
     if held == 0 {
         print(rt, b"bad line\n");
@@ -106,7 +113,8 @@ fn answer_at_once(rt: &impl Print, line: &[u8], book: &mut [u8], other: &mut [u8
 // Writes the answer to the line: at once, but for `readings` and `table`, which go in pieces. A book
 // is read into the one buffer, what comes beside it into the other, the room is lent to the engine, and
 // the last takes the answer.
-pub fn answer_line(rt: &impl Print, 
+pub fn answer_line(
+    rt: &impl Print,
     line: &[u8],
     book: &mut [u8],
     other: &mut [u8],

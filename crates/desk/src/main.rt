@@ -5,7 +5,7 @@
 // for it. A line that is no command is answered `bad line`.
 #![tactic(auto)]
 
-use system::{arg_count};
+use system::arg_count;
 
 mod call;
 mod fewer;

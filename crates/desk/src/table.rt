@@ -2,7 +2,7 @@
 // parted by spaces and each line end as `|`. `?` stands for a name that can't be opened.
 ghost use Rattle.std.specs.Prelude.{◌<◌, ◌≤◌, length};
 
-use system::{find};
+use system::find;
 use tabling::{Layout, MOST_BOOKS, Table};
 use talk::{print, read_bytes};
 

@@ -17,7 +17,8 @@ use meaning::{Colouring, RuleNo};
 
 // The branch at byte `at`, which starts with the colouring c.
 #[cycle(explain_branch_explain_split)]
-pub fn explain_branch(rt: &impl Print, 
+pub fn explain_branch(
+    rt: &impl Print,
     book: &[u8],
     shape: Shape,
     names: &[u8],
@@ -42,7 +43,9 @@ pub fn explain_branch(rt: &impl Print,
         }
         Stop::Split(r) => {
             let colours = ran.colours;
-            explain_split(rt, book, shape, names, paper, trailer, depth, last, r, colours)
+            explain_split(
+                rt, book, shape, names, paper, trailer, depth, last, r, colours,
+            )
         }
         Stop::Form => Walked::Form(last),
         Stop::Fails => Walked::Fails(last),
@@ -52,7 +55,8 @@ pub fn explain_branch(rt: &impl Print,
 // The split on rule r at byte `at`, with the colouring c before it: a branch with r on, then one
 // with r off.
 #[cycle(explain_branch_explain_split)]
-fn explain_split(rt: &impl Print, 
+fn explain_split(
+    rt: &impl Print,
     book: &[u8],
     shape: Shape,
     names: &[u8],
@@ -73,7 +77,8 @@ fn explain_split(rt: &impl Print,
 {
     let start = at + 2;
     let first = c.with_on(r);
-    match explain_branch(rt, 
+    match explain_branch(
+        rt,
         book,
         shape,
         names,
@@ -85,7 +90,8 @@ fn explain_split(rt: &impl Print,
     ) {
         Walked::Done(next) => {
             tell_second(rt, depth, at, r);
-            explain_branch(rt, 
+            explain_branch(
+                rt,
                 book,
                 shape,
                 names,

@@ -17,18 +17,25 @@ ghost use Rattle.std.specs.Prelude.{◌≡◌, ◌+◌, ◌≤◌, length};
 ghost use Rattle.meaning.specs.Paper.{paper_bytes};
 ghost use Rattle.book.specs.Format.{ReadAs};
 
-use std::rt::{Env, Files};
-use system::{arg_count};
 use book::{Read, Shape, read_book};
 use branch::explain_branch;
 use calling::{open_book, shift};
 use checker::{Ending, Trailer, Walked, read_trailer};
 use meaning::Colouring;
+use std::rt::{Env, Files};
+use system::arg_count;
 use talk::{BOOK_ROOM, NAMES_ROOM, PAPER_ROOM, read_argument, tell_checked};
 use witness::explain_grounds;
 
 // The steps from the empty colouring; then the witness, where nothing stands between them.
-fn explain_steps(rt: &impl Print, book: &[u8], shape: Shape, names: &[u8], paper: &[u8], trailer: Trailer)
+fn explain_steps(
+    rt: &impl Print,
+    book: &[u8],
+    shape: Shape,
+    names: &[u8],
+    paper: &[u8],
+    trailer: Trailer,
+)
     requires { ReadAs book.now shape
         × (trailer.from + trailer.count + 6 ≡ length paper.now)
         × (length paper.now ≤ paper_bytes) }

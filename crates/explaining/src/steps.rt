@@ -10,7 +10,8 @@ use checker::{Ran, Step, Stop, Trailer, check_step, with_rules};
 use meaning::Colouring;
 
 // Tells what a branch stops by; nothing of a step that is refused.
-fn tell_stop<'a>(rt: &impl Print, 
+fn tell_stop<'a>(
+    rt: &impl Print,
     book: &[u8],
     shape: Shape,
     names: &[u8],
@@ -36,7 +37,8 @@ fn tell_stop<'a>(rt: &impl Print,
 }
 
 // Tells the step that was found at byte `at`.
-fn tell_step<'a>(rt: &impl Print, 
+fn tell_step<'a>(
+    rt: &impl Print,
     book: &[u8],
     shape: Shape,
     names: &[u8],
@@ -64,7 +66,8 @@ fn tell_step<'a>(rt: &impl Print,
 }
 
 // The step at byte `at`, checked by the checker, and told where it may be made.
-fn explain_step<'a>(rt: &impl Print, 
+fn explain_step<'a>(
+    rt: &impl Print,
     book: &[u8],
     shape: Shape,
     names: &[u8],
@@ -81,12 +84,15 @@ fn explain_step<'a>(rt: &impl Print,
         (lent (listed on.now) (listed off.now)) result }
 {
     let step = check_step(book, shape, paper, trailer, at, on, off);
-    tell_step(rt, book, shape, names, paper, trailer, depth, at, step, on, off);
+    tell_step(
+        rt, book, shape, names, paper, trailer, depth, at, step, on, off,
+    );
     step
 }
 
 // Runs the steps from byte `at` on, each of which adds to the colouring, as the checker does.
-pub fn explain_run(rt: &impl Print, 
+pub fn explain_run(
+    rt: &impl Print,
     book: &[u8],
     shape: Shape,
     names: &[u8],
@@ -107,8 +113,8 @@ pub fn explain_run(rt: &impl Print,
         let off = colours.off;
         let on_words = on.w;
         let off_words = off.w;
-        match explain_step(rt, 
-            book, shape, names, paper, trailer, depth, i, &on_words, &off_words,
+        match explain_step(
+            rt, book, shape, names, paper, trailer, depth, i, &on_words, &off_words,
         ) {
             Step::On(r) => {
                 colours = colours.with_on(r);

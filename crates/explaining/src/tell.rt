@@ -12,7 +12,8 @@ use meaning::{AtomNo, Claim, Kind, RuleNo, next_in, whole};
 use talk::{put_number, put_text};
 
 // 41: the rule, and why it goes on.
-pub fn tell_on(rt: &impl Print, 
+pub fn tell_on(
+    rt: &impl Print,
     book: &[u8],
     shape: Shape,
     names: &[u8],
@@ -30,7 +31,8 @@ pub fn tell_on(rt: &impl Print,
 }
 
 // 42: the rule, and the negative atom that holds.
-pub fn tell_off(rt: &impl Print, 
+pub fn tell_off(
+    rt: &impl Print,
     book: &[u8],
     shape: Shape,
     names: &[u8],
@@ -49,7 +51,8 @@ pub fn tell_off(rt: &impl Print,
 }
 
 // A rule of a 55's list, and the positive atom that is left without a rule.
-fn tell_starved(rt: &impl Print, 
+fn tell_starved(
+    rt: &impl Print,
     book: &[u8],
     shape: Shape,
     names: &[u8],
@@ -68,7 +71,8 @@ fn tell_starved(rt: &impl Print,
 }
 
 // A line for each rule of a list. `gone` has the rules that are off and those of the list.
-fn tell_each(rt: &impl Print, 
+fn tell_each(
+    rt: &impl Print,
     book: &[u8],
     shape: Shape,
     names: &[u8],
@@ -87,7 +91,8 @@ fn tell_each(rt: &impl Print,
 }
 
 // 55: the rules of its list, which go off together.
-pub fn tell_list(rt: &impl Print, 
+pub fn tell_list(
+    rt: &impl Print,
     book: &[u8],
     shape: Shape,
     names: &[u8],
@@ -104,7 +109,15 @@ pub fn tell_list(rt: &impl Print,
 }
 
 // 53: the rule; and, one level further in, that it is on first.
-pub fn tell_split(rt: &impl Print, book: &[u8], shape: Shape, names: &[u8], depth: usize, at: usize, r: RuleNo)
+pub fn tell_split(
+    rt: &impl Print,
+    book: &[u8],
+    shape: Shape,
+    names: &[u8],
+    depth: usize,
+    at: usize,
+    r: RuleNo,
+)
     requires { ReadAs book.now shape × (r.0 < shape.rules) }
 {
     let mut line = [0u8; LINE_ROOM];
@@ -171,7 +184,8 @@ fn put_clash<'a>(on: &'a [u64; 4], off: &'a [u64; 4], line: &mut [u8], held: usi
 }
 
 // 45: why the branch ends.
-pub fn tell_end<'a>(rt: &impl Print, 
+pub fn tell_end<'a>(
+    rt: &impl Print,
     book: &[u8],
     shape: Shape,
     names: &[u8],

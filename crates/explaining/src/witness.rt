@@ -91,7 +91,8 @@ fn tell_listed(rt: &impl Print, book: &[u8], shape: Shape, names: &[u8], from: u
 }
 
 // A rule that is not listed, and why it fails; nothing of one that is.
-fn tell_other<'a>(rt: &impl Print, 
+fn tell_other<'a>(
+    rt: &impl Print,
     book: &[u8],
     shape: Shape,
     names: &[u8],
@@ -118,7 +119,8 @@ fn tell_other<'a>(rt: &impl Print,
 }
 
 // Every rule that is not listed.
-fn tell_others<'a>(rt: &impl Print, 
+fn tell_others<'a>(
+    rt: &impl Print,
     book: &[u8],
     shape: Shape,
     names: &[u8],
@@ -150,7 +152,14 @@ fn tell_witness(rt: &impl Print, book: &[u8], shape: Shape, names: &[u8], from: 
 }
 
 // The witness of a claim about an atom, where the checker finds it right.
-fn explain_witness(rt: &impl Print, book: &[u8], shape: Shape, names: &[u8], paper: &[u8], trailer: Trailer)
+fn explain_witness(
+    rt: &impl Print,
+    book: &[u8],
+    shape: Shape,
+    names: &[u8],
+    paper: &[u8],
+    trailer: Trailer,
+)
     requires { ReadAs book.now shape
         × (trailer.from + trailer.count + 6 ≡ length paper.now)
         × (length paper.now ≤ paper_bytes) }
@@ -164,7 +173,14 @@ fn explain_witness(rt: &impl Print, book: &[u8], shape: Shape, names: &[u8], pap
 }
 
 // What stands behind the steps: a witness; nothing where the claim is that there is no reading.
-pub fn explain_grounds(rt: &impl Print, book: &[u8], shape: Shape, names: &[u8], paper: &[u8], trailer: Trailer)
+pub fn explain_grounds(
+    rt: &impl Print,
+    book: &[u8],
+    shape: Shape,
+    names: &[u8],
+    paper: &[u8],
+    trailer: Trailer,
+)
     requires { ReadAs book.now shape
         × (trailer.from + trailer.count + 6 ≡ length paper.now)
         × (length paper.now ≤ paper_bytes) }

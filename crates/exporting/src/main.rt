@@ -7,9 +7,9 @@
 //     exporting --text TEXTFILE
 #![tactic(auto)]
 
-use system::{arg_count};
 use aspif::{Exported, TEXT_ROOM, export};
 use calling::{open_book, shift};
+use system::arg_count;
 use talk::{BOOK_ROOM, NAMES_ROOM, explain_book, first_bytes, print};
 
 // Writes the text of a good book, or why the bytes are none. The longest text has room.

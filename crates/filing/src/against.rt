@@ -93,7 +93,8 @@ fn byte_against(kind: Kind) -> u8 {
 }
 
 // Writes that a reading speaks against the claim, and which. Every reading has a byte for each atom.
-pub fn explain_against(rt: &impl Print, 
+pub fn explain_against(
+    rt: &impl Print,
     book: &[u8],
     kind: Kind,
     atom: AtomNo,

@@ -1,14 +1,14 @@
 // What naming, clearing and contradicting answer, in one line.
 ghost use Rattle.system.specs.Counts.{IsPrefixLen};
 
-use std::rt::{Env, Files};
-use system::{PATH_ROOM};
 use crate::against::explain_against;
 use crate::arguments::{is_to_replace, paper_place};
 use crate::giving_way::gives_way;
 use book::{Read, read_book};
 use meaning::{AtomNo, Claim, Colouring, Kind};
 use saving::{look_at, save_file, take_path};
+use std::rt::{Env, Files};
+use system::PATH_ROOM;
 use talk::{
     PAPER_ROOM, explain, explain_book, first_bytes, print, put_number, put_subject, put_text,
     refused_name,
@@ -16,7 +16,13 @@ use talk::{
 use writer::{Named, write_claim};
 
 // Saves the paper at the path where what stands there gives way, and gives whether it is saved.
-fn save_at(rt: &(impl Env + Files + Print), path: &[u8], book: &[u8], claim: Claim, paper: &[u8]) -> bool {
+fn save_at(
+    rt: &(impl Env + Files + Print),
+    path: &[u8],
+    book: &[u8],
+    claim: Claim,
+    paper: &[u8],
+) -> bool {
     let mut old = [0u8; PAPER_ROOM];
     let there = look_at(rt, path, &mut old);
     if !there.good {
@@ -69,7 +75,14 @@ fn put_claim(claim: Claim, names: &[u8], line: &mut [u8]) -> usize
 }
 
 // Saves the paper, and says so where it could be saved.
-fn tell_paper(rt: &(impl Env + Files + Print), book: &[u8], claim: Claim, tries: u32, names: &[u8], paper: &[u8]) {
+fn tell_paper(
+    rt: &(impl Env + Files + Print),
+    book: &[u8],
+    claim: Claim,
+    tries: u32,
+    names: &[u8],
+    paper: &[u8],
+) {
     if !save_paper(rt, book, claim, paper) {
         return;
     }
@@ -111,7 +124,15 @@ fn tell_against(rt: &impl Print, book: &[u8], kind: Kind, atom: AtomNo, limit: u
 }
 
 // Writes why the atom has no paper. Where there are names, a refusal by a reading tells which.
-fn refuse_about(rt: &impl Print, book: &[u8], kind: Kind, atom: AtomNo, limit: u32, names: &[u8], answer: Named) {
+fn refuse_about(
+    rt: &impl Print,
+    book: &[u8],
+    kind: Kind,
+    atom: AtomNo,
+    limit: u32,
+    names: &[u8],
+    answer: Named,
+) {
     let is_against = is_by_reading(answer);
     if is_against && 0 < names.len() {
         tell_against(rt, book, kind, atom, limit, names);
@@ -121,7 +142,14 @@ fn refuse_about(rt: &impl Print, book: &[u8], kind: Kind, atom: AtomNo, limit: u
 }
 
 // Writes why there is no paper.
-fn tell_refused(rt: &impl Print, book: &[u8], claim: Claim, limit: u32, names: &[u8], answer: Named) {
+fn tell_refused(
+    rt: &impl Print,
+    book: &[u8],
+    claim: Claim,
+    limit: u32,
+    names: &[u8],
+    answer: Named,
+) {
     match claim {
         Claim::About(kind, atom) => refuse_about(rt, book, kind, atom, limit, names, answer),
         Claim::NoReading => explain(rt, refused_name(answer), Kind::Naming, 0),
@@ -129,7 +157,14 @@ fn tell_refused(rt: &impl Print, book: &[u8], claim: Claim, limit: u32, names: &
 }
 
 // Asks the engine, and writes what it answers.
-pub fn tell_named(rt: &(impl Env + Files + Print), book: &[u8], claim: Claim, limit: u32, names: &[u8], paper: &mut [u8]) {
+pub fn tell_named(
+    rt: &(impl Env + Files + Print),
+    book: &[u8],
+    claim: Claim,
+    limit: u32,
+    names: &[u8],
+    paper: &mut [u8],
+) {
     let kind = kind_of(claim);
     let answer = write_claim(book, claim, limit, paper);
     match answer {

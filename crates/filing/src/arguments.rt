@@ -2,11 +2,11 @@
 // none; --words WORDSFILE or --text TEXTFILE in the place of BOOKFILE shifts the others by one.
 ghost use Rattle.std.specs.Prelude.{◌≤◌};
 
-use std::rt::Env;
-use system::{arg, arg_count};
 use calling::shift;
 use meaning::Claim;
 use saving::is_replacing;
+use std::rt::Env;
+use system::{arg, arg_count};
 use talk::{Number, read_number};
 
 // The tries of each walk where no limit is given.

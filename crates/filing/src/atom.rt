@@ -1,8 +1,8 @@
 // The argument ATOM: a number, or, where the rules are in words or in a grounder's text, a name of theirs.
-use std::rt::Env;
-use system::{PATH_ROOM, arg};
 use crate::arguments::read_atom;
 use calling::{Asked, Source, source_at};
+use std::rt::Env;
+use system::{PATH_ROOM, arg};
 use talk::{Number, print, put_name, put_text};
 
 // Where ATOM stands, behind `--words` or `--text` and its file.

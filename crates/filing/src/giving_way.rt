@@ -19,8 +19,16 @@ fn is_no_paper(answer: Checked) -> bool {
 // Says in a line why a paper stays, which is no paper for the claim.
 fn complain_of_paper(rt: &impl Print, path: &[u8], answer: Checked) {
     match answer {
-        Checked::Accepted(_) => complain(rt, path, b"it is a paper for another claim; see --replace"),
-        _ => complain(rt, path, b"it is a paper that this book refuses; see --replace"),
+        Checked::Accepted(_) => complain(
+            rt,
+            path,
+            b"it is a paper for another claim; see --replace",
+        ),
+        _ => complain(
+            rt,
+            path,
+            b"it is a paper that this book refuses; see --replace",
+        ),
     }
 }
 
@@ -62,7 +70,14 @@ fn is_for(answer: Checked, claim: Claim) -> bool {
 
 // Whether the bytes that stand at the path give way to a paper for the claim. Where they do not a
 // line says so.
-pub fn gives_way(rt: &impl Print, path: &[u8], book: &[u8], claim: Claim, old: &[u8], is_replacing: bool) -> bool {
+pub fn gives_way(
+    rt: &impl Print,
+    path: &[u8],
+    book: &[u8],
+    claim: Claim,
+    old: &[u8],
+    is_replacing: bool,
+) -> bool {
     if old.len() == 0 {
         return true;
     }

@@ -16,12 +16,12 @@ mod arguments;
 mod atom;
 mod giving_way;
 
-use std::rt::{Env, Files};
 use answer::tell_named;
 use arguments::{WITH_ATOM, WITHOUT_ATOM, is_right, read_limit};
 use atom::{complain_of_number, take_atom};
 use calling::{Asked, Opened, open_book};
 use meaning::{AtomNo, Claim, Kind, PAPER_BYTES};
+use std::rt::{Env, Files};
 use talk::{BOOK_ROOM, NAMES_ROOM, Number, print};
 
 // Reads the limit, behind the arguments that must be there, and asks for the paper.
@@ -50,7 +50,12 @@ fn file_atom(rt: &(impl Env + Files + Print), book: &[u8], kind: Kind, names: &[
 }
 
 // How the program that writes papers of this kind is called.
-fn open_kind(rt: &(impl Env + Files + Print), kind: Kind, book: &mut [u8], names: &mut [u8]) -> Opened
+fn open_kind(
+    rt: &(impl Env + Files + Print),
+    kind: Kind,
+    book: &mut [u8],
+    names: &mut [u8],
+) -> Opened
     ensures { IsPrefixLen result.count book.new
         × IsPrefixLen result.names names.new }
 {

@@ -7,13 +7,13 @@
 
 mod atoms;
 
-use std::rt::{Env, Files};
-use system::{arg_count};
 use atoms::show_atoms;
 use book::BOOK_BYTES;
 use calling::{TEXT_ROOM, explain_text, read_text};
 use lparse::{Imported, import};
 use saving::{is_replacing, save_book};
+use std::rt::{Env, Files};
+use system::arg_count;
 use talk::{complain_of_call, first_bytes};
 
 // The arguments that must be there, the program's own name among them.

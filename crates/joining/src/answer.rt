@@ -1,10 +1,10 @@
 // What joining answers, in one line.
-use std::rt::{Env, Files};
 use crate::arguments::{is_to_replace, saved};
 use book::{BOOK_BYTES, Read, read_book};
 use crews::{Logged, log};
 use meaning::{Colouring, Kind};
 use saving::save_book;
+use std::rt::{Env, Files};
 use talk::{Refused, explain, explain_book_of, first_bytes, print, put_number, put_size, put_text};
 use walk::{Found, find};
 
@@ -57,7 +57,13 @@ fn tell_stopped(rt: &impl Print, first: &[u8], limit: u32, tries: u32) {
 }
 
 // Asks the engine, and writes what it answers.
-pub fn tell_log<'a>(rt: &(impl Env + Files + Print), first: &'a [u8], second: &'a [u8], limit: u32, other: u32) {
+pub fn tell_log<'a>(
+    rt: &(impl Env + Files + Print),
+    first: &'a [u8],
+    second: &'a [u8],
+    limit: u32,
+    other: u32,
+) {
     let mut room = [0u8; BOOK_BYTES];
     let answer = log(first, second, limit, other, &mut room);
     let both = b"both books have a reading";

@@ -2,10 +2,10 @@
 // two may stand --words WORDSFILE or --text TEXTFILE, which shifts the others by one.
 ghost use Rattle.std.specs.Prelude.{◌≤◌};
 
-use std::rt::Env;
-use system::{arg, arg_count};
 use calling::shift_at;
 use saving::is_replacing;
+use std::rt::Env;
+use system::{arg, arg_count};
 use talk::{Number, read_number};
 
 // The tries of each search where no limits are given.

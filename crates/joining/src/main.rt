@@ -10,10 +10,10 @@
 mod answer;
 mod arguments;
 
-use std::rt::{Env, Files};
 use answer::tell_log;
 use arguments::{FIRST, is_right, read_limit, second};
 use calling::open_at;
+use std::rt::{Env, Files};
 use talk::{BOOK_ROOM, NAMES_ROOM, Number, complain_of_call, print};
 
 // Reads the limits of the two searches, and joins the books.
@@ -34,7 +34,13 @@ fn join_books<'a>(rt: &(impl Env + Files + Print), first: &'a [u8], second: &'a 
 fn join_to(rt: &(impl Env + Files + Print), first: &[u8]) {
     let mut other = [0u8; BOOK_ROOM];
     let mut names = [0u8; NAMES_ROOM];
-    let opened = open_at(rt, second(rt), b" in the second book", &mut other, &mut names);
+    let opened = open_at(
+        rt,
+        second(rt),
+        b" in the second book",
+        &mut other,
+        &mut names,
+    );
     if opened.good {
         let n = opened.count;
         join_books(rt, first, &other[..n]);
@@ -55,7 +61,10 @@ fn join_arguments(rt: &(impl Env + Files + Print)) {
 
 fn main(rt: HostRuntime) {
     if !is_right(&rt) {
-        complain_of_call(&rt, b"joining FIRSTBOOK SECONDBOOK BOOKFILE [L1 L2] [--replace]");
+        complain_of_call(
+            &rt,
+            b"joining FIRSTBOOK SECONDBOOK BOOKFILE [L1 L2] [--replace]",
+        );
         return;
     }
     join_arguments(&rt);

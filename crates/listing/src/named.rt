@@ -62,7 +62,15 @@ fn print_named(rt: &impl Print, page: &[u8], atoms: usize, rows: u64, before: u6
 }
 
 // Writes the lines of the first rows of a page, with names where there are any.
-pub fn print_page(rt: &impl Print, page: &[u8], atoms: usize, rows: u64, before: u64, line_end: u8, names: &[u8])
+pub fn print_page(
+    rt: &impl Print,
+    page: &[u8],
+    atoms: usize,
+    rows: u64,
+    before: u64,
+    line_end: u8,
+    names: &[u8],
+)
     requires { atoms ≤ 255 }
 {
     if names.len() == 0 {

@@ -7,7 +7,7 @@ ghost use Rattle.meaning.specs.Choice.{if_lt};
 ghost use Rattle.listing.specs.Gathered.{Piece, gather};
 ghost use Rattle.listing.specs.Text.{longest_line, number_text};
 
-use system::{decimal};
+use system::decimal;
 use talk::print;
 
 // The longest line of a listing has a number, a colon, 255 atoms and a line end.

@@ -90,7 +90,8 @@ fn keep_row(rows: &[u8], count: usize, atoms: usize, last: &mut [u8])
 
 // Writes the next page, and keeps its last row where another follows. What it writes is the rows of
 // the page that is promised, by their comment; how the listing stands then is promised.
-fn list_page(rt: &impl Print, 
+fn list_page(
+    rt: &impl Print,
     book: &[u8],
     atoms: usize,
     line_end: u8,
@@ -142,8 +143,8 @@ fn list_pages(rt: &impl Print, book: &[u8], shape: Shape, line_end: u8, names: &
     let mut before: u64 = 0;
     let mut tries: u32 = 0;
     loop {
-        match list_page(rt, 
-            book, atoms, line_end, names, before, tries, &mut rows, &mut last,
+        match list_page(
+            rt, book, atoms, line_end, names, before, tries, &mut rows, &mut last,
         ) {
             Step::Goes(sets, more) => {
                 before = sets;

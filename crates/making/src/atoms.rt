@@ -3,9 +3,9 @@
 ghost use Rattle.std.specs.Prelude.{◌+◌, ◌<◌, ◌≤◌};
 ghost use Rattle.book.specs.Format.{ReadAs};
 
-use system::{find};
 use book::{Shape, head, negatives, positives};
 use meaning::RuleNo;
+use system::find;
 use talk::{name_of, print, put_number, put_size, put_text};
 
 // Whether the part of a body has the atom.

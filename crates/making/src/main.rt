@@ -10,13 +10,13 @@ mod remarks;
 
 ghost use Rattle.book.specs.Format.{ReadAs};
 
-use std::rt::{Env, Files};
-use system::{arg_count};
 use atoms::show_atoms;
 use book::{Read, Shape, read_book};
 use calling::open_words;
 use remarks::show_remarks;
 use saving::{is_replacing, save_book};
+use std::rt::{Env, Files};
+use system::arg_count;
 use talk::{BOOK_ROOM, NAMES_ROOM, complain_of_call};
 
 // The arguments that must be there, the program's own name among them.

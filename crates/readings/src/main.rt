@@ -6,9 +6,9 @@
 //     readings --text TEXTFILE
 #![tactic(auto)]
 
-use std::rt::{Env, Files};
-use system::{arg_count};
 use calling::{open_at, shift};
+use std::rt::{Env, Files};
+use system::arg_count;
 
 // Lists the readings of the words or of the text in the file that the second argument names.
 fn list_named(rt: &(impl Env + Files + Print)) {

@@ -4,12 +4,12 @@
 //     restoring TEXTFILE BOOKFILE [--replace]
 #![tactic(auto)]
 
-use std::rt::{Env, Files};
-use system::{arg_count};
 use aspif::{Restored, restore};
 use book::{BOOK_BYTES, Read, read_book};
 use meaning::Kind;
 use saving::{is_replacing, save_book};
+use std::rt::{Env, Files};
+use system::arg_count;
 use talk::{Refused, complain, explain, first_bytes, open_call, print, put_size, put_text};
 
 // Room for a text: one byte more than is taken, so that a longer file is refused and not cut.

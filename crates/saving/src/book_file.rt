@@ -1,12 +1,12 @@
 // Saving a book. An empty file gives way to it, and so does the same book; another book only where
 // the call says `--replace`, and what is no book never: a slip in a file's name must not cost
 // anybody a file, nor a crew its book.
-use std::rt::{Env, Files};
-use system::{PATH_ROOM};
 use crate::argument::take_path;
 use crate::place::look_at;
 use crate::save::save_file;
 use book::{Read, read_book};
+use std::rt::{Env, Files};
+use system::PATH_ROOM;
 use talk::{BOOK_ROOM, complain};
 
 // Whether the bytes that stand at the path give way to the book. Where they do not a line says so.
@@ -41,7 +41,12 @@ fn save_at(rt: &(impl Files + Print), path: &[u8], book: &[u8], is_replacing: bo
 
 // Saves the book in the file that an argument names, and gives whether it is saved; where it is not
 // a line says so.
-pub fn save_book(rt: &(impl Env + Files + Print), i: usize, book: &[u8], is_replacing: bool) -> bool {
+pub fn save_book(
+    rt: &(impl Env + Files + Print),
+    i: usize,
+    book: &[u8],
+    is_replacing: bool,
+) -> bool {
     let mut path = [0u8; PATH_ROOM];
     let taken = take_path(rt, i, &mut path);
     if !taken.good {

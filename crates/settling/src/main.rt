@@ -12,12 +12,12 @@ mod rules;
 
 ghost use Rattle.book.specs.Format.{ReadAs};
 
-use system::{arg_count};
 use atoms::show_atoms;
 use book::{Read, Shape, read_book};
 use calling::{open_book, shift};
 use closing::{Settled, settle};
 use rules::{show_rules, show_settled};
+use system::arg_count;
 use talk::{BOOK_ROOM, NAMES_ROOM, explain_book, first_bytes};
 
 // Writes the rules, the atoms and what that is worth, from the bytes that settling wrote.

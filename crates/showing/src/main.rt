@@ -13,11 +13,11 @@ mod atoms;
 ghost use Rattle.std.specs.Prelude.{◌<◌};
 ghost use Rattle.book.specs.Format.{ReadAs};
 
-use system::{arg_count};
 use atoms::show_atoms;
 use book::{Read, Shape, read_book};
 use calling::{open_book, shift};
 use meaning::RuleNo;
+use system::arg_count;
 use talk::{BOOK_ROOM, NAMES_ROOM, explain_book, print, show_rule};
 
 // Writes the rule, without a word for it.

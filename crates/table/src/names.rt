@@ -45,7 +45,7 @@ fn count_names(names: &[u8]) -> usize {
 }
 
 // Says on standard error how far the work is, where that is a terminal.
-fn say_how_far(rt: &impl Print, errors: &(impl IsTerminal + Print), number: usize, count: usize) {
+fn say_how_far(errors: &(impl IsTerminal + Print), number: usize, count: usize) {
     if !errors.is_terminal() {
         return;
     }
@@ -55,7 +55,7 @@ fn say_how_far(rt: &impl Print, errors: &(impl IsTerminal + Print), number: usiz
     let held = put_text(b" of ", &mut line, held);
     let held = put_number(count as u64, &mut line, held);
     let held = put_text(b"\n", &mut line, held);
-    print(rt, errors, &line[..held]);
+    print(errors, &line[..held]);
 }
 
 // Writes the lines of all names.

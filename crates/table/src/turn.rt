@@ -1,6 +1,6 @@
 // The turn of a name: its file is a book, or with `--words` or `--text` what a book is made of.
-use std::rt::{Env, Files};
 use calling::{Made, Source, TEXT_ROOM, make_quietly, source_at};
+use std::rt::{Env, Files};
 use tabling::{Layout, Table};
 use talk::{BOOK_ROOM, first_bytes, read_quietly};
 

@@ -94,7 +94,8 @@ fn put_name_behind(name: &[u8], layout: Layout, line: &mut [u8], held: usize) ->
 
 // Writes a book's line: its number, its name where there are names, and its values. The longest has
 // a name of 4,096 bytes and 256 numbers.
-pub fn print_book(rt: &impl Print, 
+pub fn print_book(
+    rt: &impl Print,
     number: u64,
     name: &[u8],
     values: Line,

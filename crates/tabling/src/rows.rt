@@ -32,8 +32,9 @@ impl Table {
     };
 
     // Writes the line of the next book. A book behind the last that a table has changes nothing.
-    fn with_turn(rt: &impl Print, 
+    fn with_turn(
         self,
+        rt: &impl Print,
         turn: Turn,
         counts: &[u32; Colouring::ATOMS],
         name: &[u8],
@@ -56,7 +57,14 @@ impl Table {
 
     // Takes the turn of the next book and writes its line; `is_open` says whether its name could be
     // opened and read.
-    pub fn with_book(self, rt: &impl Print, is_open: bool, book: &[u8], name: &[u8], layout: Layout) -> Table {
+    pub fn with_book(
+        self,
+        rt: &impl Print,
+        is_open: bool,
+        book: &[u8],
+        name: &[u8],
+        layout: Layout,
+    ) -> Table {
         let mut counts = [0u32; Colouring::ATOMS];
         let turn = take_turn(is_open, book, LIMIT, self.totals, &mut counts);
         self.with_turn(rt, turn, &counts, name, layout)

@@ -3,11 +3,11 @@ ghost use Rattle.system.specs.Counts.{IsPrefixLen};
 
 use crate::line::put_text;
 use crate::name::put_subject;
-use system::print;
 use crate::refusals::refused_paper;
 use crate::sentences::{explain_book, explain_paper};
 use checker::{Checked, check};
 use meaning::{AtomNo, Claim, Kind};
+use system::print;
 
 // What holds of the atom of a claim of this kind, and the line end.
 fn put_holds(kind: Kind, line: &mut [u8], held: usize) -> usize

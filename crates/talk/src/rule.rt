@@ -6,9 +6,9 @@ ghost use Rattle.system.specs.Counts.{IsPrefixLen};
 
 use crate::line::{put_number, put_text};
 use crate::name::put_called;
-use system::print;
 use book::{Shape, head, negatives, positives};
 use meaning::{AtomNo, RuleNo};
+use system::print;
 
 // `if` before the first atom of a body and `and` before every other.
 fn put_joint(is_first: bool, line: &mut [u8], held: usize) -> usize

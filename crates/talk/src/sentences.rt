@@ -4,10 +4,10 @@ ghost use Rattle.system.specs.Counts.{IsPrefixLen};
 
 use crate::hints::{put_hint_of_book, put_hint_of_paper};
 use crate::line::{put_number, put_text};
-use system::print;
 use crate::refusals::{Refused, refused_book};
 use book::Refusal;
 use meaning::Kind;
+use system::print;
 
 // Text, a number and more text.
 fn put_about(text: &[u8], n: u64, more: &[u8], line: &mut [u8], held: usize) -> usize

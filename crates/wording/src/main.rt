@@ -14,12 +14,12 @@ mod rules;
 
 ghost use Rattle.book.specs.Format.{ReadAs};
 
-use std::rt::Env;
-use system::{arg_count};
 use book::{Read, Shape, read_book};
 use called::show_called;
 use calling::{Source, open_book, shift, source_at};
 use rules::{show_names, show_rules};
+use std::rt::Env;
+use system::arg_count;
 use talk::{BOOK_ROOM, NAMES_ROOM, explain_book, print, put_size, put_text};
 
 // Writes the size in a line that says nothing in a text, so that one sees that it is whole.
