@@ -2,7 +2,7 @@
 --
 --   slice from to l    the bytes from one place up to another
 --   index_of x l       the first place of the byte; the length where it is nowhere
-use Rattle.std.specs.Prelude.{ℕ, zero, suc, List, [], ◌∷◌, take, drop, length, if◌then◌else◌, ◌==◌}
+use Rattle.std.specs.Prelude.{ℕ, suc, List, [], ◌∷◌, take, drop, if◌then◌else◌, ◌==◌}
 
 unfoldable pub slice : ℕ → ℕ → List ℕ → List ℕ
 slice from to l = drop from (take to l)
