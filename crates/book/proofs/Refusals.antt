@@ -100,6 +100,7 @@ module _ (s : List ℕ) where
 
   -- 3, at length - 4: these are right, and index start + 2R + 6 isn't the length
   pub refused-trailer : (place : ℕ) → (read_of s ≡ bad 3 place) ↔ (LengthGood s × MarkGood s × (¬ TrailerGood s) × (place ≡ length s - 4))
+  there (in-records _ h) = elim h [ ]
   refused-trailer place = (λ e. there (row_of e), λ c. rw c.3 (book-told (at-trailer c.0 c.1 c.2)))
     where
       there : {place : ℕ} → BookRow s (bad 3 place) → LengthGood s × MarkGood s × (¬ TrailerGood s) × (place ≡ length s - 4)
