@@ -1,7 +1,7 @@
 -- The engine's witness (document 01, "next comes always the lowest on rule that may be listed"; blueprint, N6): the list that grows so
 -- holds the generating rules of the answer set, all of them, and is a witness. It ends only when nothing can be listed: the unlisted rules
 -- get fewer at each turn, and there are no more turns than rules. Then the listed rules are upheld, so every generating rule is among them.
-use mathlib.Core.Path.{◌≡◌, refl, sym, ◌∙◌, ap, fun_ext}
+use mathlib.Core.Path.{◌≡◌, refl, sym, ◌∙◌, ap, fun_ext, subst}
 use mathlib.Core.Logic.{◌⊎◌, inl, inr, ⊎_elim, ⊎_map}
 use mathlib.Core.Bool.{true, not, ◌||◌, false≢true}
 use mathlib.Core.List.{List, [], ◌∷◌, ◌++◌}
@@ -54,7 +54,7 @@ module _ (r : RuleNo) where
       moved : (u : RuleNo) → u ∈ s → (u ∈ among (q ∷ before)) ⊎ (u ∈ among w)
       moved u m =
           ⊎_elim (λ z. inl (among_there q before u z))
-          (λ z. ⊎_map (λ (e : u ≡ q). rw e (among-here q before)) (λ k. k) (among-front q w u z)) (f u m)
+          (λ z. ⊎_map (λ (e : u ≡ q). subst (λ (x : RuleNo). x ∈ among (q ∷ before)) (sym e) (among-here q before)) (λ k. k) (among-front q w u z)) (f u m)
 
 -- ---- the list as it grows
 

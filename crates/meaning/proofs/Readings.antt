@@ -83,6 +83,7 @@ readings b = passing b (tables b.atoms)
 passing-of : (b : Book) (m : List (List Bool)) (l : List Bool) → Memᴰ l m → is_answer_set b (atoms_of l) ≡ true
     → Memᴰ l (passing b m)
 unfolding passing
+passing-of b [] l h e = elim h [ ]
 passing-of b (k ∷ m) l (mathlib.Core.List.Memᴰ.head p) e = rw (b-yes _ (k ∷ passing b m) (passing b m) (rw p at e)) (mathlib.Core.List.Memᴰ.head p)
 passing-of b (k ∷ m) l (mathlib.Core.List.Memᴰ.tail j) e =
     let i = passing-of b m l j e in b-either (Memᴰ l) _ _ _ (λ t. mathlib.Core.List.Memᴰ.tail i) (λ t. i)

@@ -44,6 +44,7 @@ reduct-by x (p ∷ l) q m =
 -- and each of them is
 pub reduct-of : (x : Atoms) (l : List Rule) (r : Rule) → Memᴰ r l → some x r.neg ≡ false → Memᴰ (bare r) (reduct x l)
 unfolding reduct
+reduct-of x [] r h n = elim h [ ]
 reduct-of x (q ∷ l) r (Memᴰ.head p) n =
     Memᴰ.cast (λ i. bare (p i)) (keep-here (some x q.neg) q (reduct x l) (rw p at n))
 reduct-of x (q ∷ l) r (Memᴰ.tail m) n = keep-there (some x q.neg) q (reduct-of x l r m n)

@@ -46,6 +46,7 @@ among-member (q ∷ l) r m =
 
 pub member-among : (l : List RuleNo) (r : RuleNo) → Memᴰ r l → r ∈ among l
 unfolding some
+member-among [] r h = elim h [ ]
 member-among (q ∷ l) r (Memᴰ.head p) = or_left _ (rule-same p)
 member-among (q ∷ l) r (Memᴰ.tail m) = or_right (same_rule r q) (member-among l r m)
 
@@ -79,6 +80,7 @@ place-member (x ∷ l) zero d h = Memᴰ.head refl
 place-member (x ∷ l) (suc i) d h = Memᴰ.tail (place-member l i d (le_of_suc-le-suc h))
 
 member-place : {A : Type 0} (l : List A) (a d : A) → Memᴰ a l → (i : ℕ) × (i < length l) × (get_or l i d ≡ a)
+member-place {A = A} [] a d h = elim h [ ]
 member-place (x ∷ l) a d (Memᴰ.head p) = (0, omega arith, sym p)
 member-place (x ∷ l) a d (Memᴰ.tail m) = let (i, h, e) = member-place l a d m in (suc i, suc-le-suc h, e)
 

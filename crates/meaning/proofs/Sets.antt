@@ -19,6 +19,7 @@ use Rattle.meaning.proofs.Tests.{either, or_left, or_right, neither, neither_lef
 module _ {A : Type 0} (s : Set A) where
   pub every-at : (l : List A) → every s l ≡ true → (a : A) → Memᴰ a l → a ∈ s
   unfolding every
+  every-at [] e a h = elim h [ ]
   every-at (x ∷ l) e a (Memᴰ.head p) = rw p (and_left (s x) _ e)
   every-at (x ∷ l) e a (Memᴰ.tail m) = every-at l (and_right (s x) _ e) a m
 
@@ -29,6 +30,7 @@ module _ {A : Type 0} (s : Set A) where
 
   pub some_one : (l : List A) (a : A) → Memᴰ a l → a ∈ s → some s l ≡ true
   unfolding some
+  some_one [] a h e = elim h [ ]
   some_one (x ∷ l) a (Memᴰ.head p) e = or_left _ (rw p at e)
   some_one (x ∷ l) a (Memᴰ.tail m) e = or_right (s x) (some_one l a m e)
 

@@ -1,0 +1,77 @@
+-- The nested search: outside, what is asked of the body is what is asked of the atoms that are left; inside, the rules so far that have
+-- the atom as head are off. The search goes on by label at a rule that is not off, and is left by label at the first atom without one.
+use mathlib.Core.Path.{refl, sym, ◌∙◌}
+use mathlib.Core.Logic.{⊎_elim}
+use mathlib.Core.Bool.{true}
+use Prim.Native.Nat.{◌-◌}
+use native.Mathlib.Omega.{arith}
+use borrow.Author.Rules.{rules}
+use borrow.Author.Tests.{not-false}
+use Rattle.meaning.specs.Bits.{listed}
+use Rattle.meaning.specs.Written.{of}
+use Rattle.meaning.proofs.Tests.{or_left}
+use Rattle.book.specs.Format.{book_in}
+use Rattle.book.proofs.AtomSets.{all-at-none, all-at-skip, all-at-other, all-at-end}
+use Rattle.book.proofs.Bodies.{some_end, some_turn, some-part, not-all-in}
+use Rattle.book.proofs.Places.{shape-count}
+use Rattle.book.proofs.conditions.is_starved.Goals as goal
+use Rattle.book.proofs.conditions.is_starved.Goals.{then-not-has+else-head-a, else-not-has}
+use Rattle.book.proofs.conditions.is_starved.Lts as lts
+use Rattle.book.proofs.conditions.is_starved.Tie as tie
+
+abbrev Start : Type 0
+Start = lts.Start tie.the-claims tie.handed_pre tie.handed_post goal.the-invariant-loop-q goal.the-decreases-loop-q goal.the-invariant-atoms goal.the-decreases-atoms
+
+abbrev At-atoms : Type 0
+At-atoms = lts.At-atoms tie.the-claims tie.handed_pre tie.handed_post goal.the-invariant-loop-q goal.the-decreases-loop-q goal.the-invariant-atoms goal.the-decreases-atoms
+
+abbrev At-loop-q : Type 0
+At-loop-q = lts.At-loop tie.the-claims tie.handed_pre tie.handed_post goal.the-invariant-loop-q goal.the-decreases-loop-q goal.the-invariant-atoms goal.the-decreases-atoms
+
+pub atoms-init : goal.atoms-init
+atoms-init c = (search rules, refl, refl)
+
+pub loop-q-init : goal.loop-q-init
+loop-q-init c = (search rules, all-at-none _ _ 0 _)
+
+-- a turn of the inner search: that of the outer one, and the start
+module _ (l : At-loop-q) where
+  abbrev outer : At-atoms
+  outer = l.before.before.before
+
+  abbrev start : Start
+  start = l.before.before.before.before.before.before
+
+pub atoms-preserved : goal.atoms-preserved
+atoms-preserved c =
+    let n = shape-count _ c.args.shape c.requires.0 in
+    let e = not-all-in (book_in c.args.book.now) (of (listed c.args.off.now)) c.loop-q.q _ _ (omega arith)
+    c.head.ensures c.if-head-a.true (sym c.has.ensures ∙ c.if-not-has.true) in (
+      search rules,
+      c.atoms.invariant.1 ∙ some_turn _ c.positives-body.result.now c.atoms.i (omega arith) ∙ rw e,
+      c.atoms.invariant.2,
+    )
+
+pub loop-q-preserved : goal.loop-q-preserved
+loop-q-preserved c =
+    (
+      search rules,
+      elim c.if-not-has.branch [
+        then-not-has+else-head-a w ↦ all-at-other _ _ c.loop-q.q _ _ w.head.ensures w.if-head-a.false c.loop-q.invariant.1
+      | else-not-has w ↦ all-at-skip _ _ c.loop-q.q _ (sym c.has.ensures ∙ w.if-not-has.false) c.loop-q.invariant.1 ],
+    )
+
+pub returns-after-atoms : goal.returns-after-atoms
+returns-after-atoms c =
+    c.atoms.invariant.2
+    ∙ sym
+    (sym (some-part _ _ _ c.positives-body.ensures) ∙ c.atoms.invariant.1
+    ∙ some_end _ c.positives-body.result.now c.atoms.i (omega arith))
+
+pub returns-after-loop-q : goal.returns-after-loop-q
+returns-after-loop-q c =
+    let n = shape-count _ c.args.shape c.requires.0 in
+    sym
+    (sym (some-part _ _ _ c.positives-body.ensures) ∙ c.atoms.invariant.1
+    ∙ some_turn _ c.positives-body.result.now c.atoms.i (omega arith)
+    ∙ or_left _ (all-at-end _ _ c.loop-q.q _ (omega arith) c.loop-q.invariant.1))
