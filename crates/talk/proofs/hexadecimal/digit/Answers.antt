@@ -1,48 +1,41 @@
 -- `digit` goes through the choices of its definition in their order.
 use mathlib.Core.Path.{sym, ◌∙◌}
 use native.Mathlib.Omega.{arith}
-use borrow.Author.Rules.{rules}
 use Rattle.talk.specs.Hexadecimal.{digit_of}
 use Rattle.meaning.proofs.Choice.{lt_yes, lt_no}
-use Rattle.talk.proofs.hexadecimal.digit.Statement.{statement}
-use Rattle.talk.proofs.hexadecimal.digit.Tie as tie
+use Rattle.talk.proofs.hexadecimal.digit.Goals as goal
 
-returns : tie.Need-returns
+pub returns-then-x-lt48 : goal.returns-then-x-lt48
 unfolding digit_of
-returns c = sym (lt_yes _ _ _ _ (omega arith))
+returns-then-x-lt48 c = sym (lt_yes _ _ _ _ (omega arith))
 
-returns-2 : tie.Need-returns-2
+pub returns-then-x-le57 : goal.returns-then-x-le57
 unfolding digit_of
-returns-2 c = sym (lt_no _ _ _ _ (omega arith) ∙ lt_yes _ _ _ _ (omega arith))
+returns-then-x-le57 c = sym (lt_no _ _ _ _ (omega arith) ∙ lt_yes _ _ _ _ (omega arith))
 
-returns-3 : tie.Need-returns-3
+pub returns-then-x-lt65 : goal.returns-then-x-lt65
 unfolding digit_of
-returns-3 c = sym (lt_no _ _ _ _ (omega arith) ∙ lt_no _ _ _ _ (omega arith) ∙ lt_yes _ _ _ _ (omega arith))
+returns-then-x-lt65 c = sym (lt_no _ _ _ _ (omega arith) ∙ lt_no _ _ _ _ (omega arith) ∙ lt_yes _ _ _ _ (omega arith))
 
-returns-4 : tie.Need-returns-4
+pub returns-then-x-le70 : goal.returns-then-x-le70
 unfolding digit_of
-returns-4 c =
+returns-then-x-le70 c =
     sym (lt_no _ _ _ _ (omega arith) ∙ lt_no _ _ _ _ (omega arith) ∙ lt_no _ _ _ _ (omega arith) ∙ lt_yes _ _ _ _ (omega arith))
 
-returns-5 : tie.Need-returns-5
+pub returns-then-x-lt97 : goal.returns-then-x-lt97
 unfolding digit_of
-returns-5 c =
+returns-then-x-lt97 c =
     sym (lt_no _ _ _ _ (omega arith) ∙ lt_no _ _ _ _ (omega arith) ∙ lt_no _ _ _ _ (omega arith) ∙ lt_no _ _ _ _ (omega arith)
     ∙ lt_yes _ _ _ _ (omega arith))
 
-returns-6 : tie.Need-returns-6
+pub returns-then-x-le102 : goal.returns-then-x-le102
 unfolding digit_of
-returns-6 c =
+returns-then-x-le102 c =
     sym (lt_no _ _ _ _ (omega arith) ∙ lt_no _ _ _ _ (omega arith) ∙ lt_no _ _ _ _ (omega arith) ∙ lt_no _ _ _ _ (omega arith)
     ∙ lt_no _ _ _ _ (omega arith) ∙ lt_yes _ _ _ _ (omega arith))
 
-returns-7 : tie.Need-returns-7
+pub returns : goal.returns
 unfolding digit_of
-returns-7 c =
+returns c =
     sym (lt_no _ _ _ _ (omega arith) ∙ lt_no _ _ _ _ (omega arith) ∙ lt_no _ _ _ _ (omega arith) ∙ lt_no _ _ _ _ (omega arith)
     ∙ lt_no _ _ _ _ (omega arith) ∙ lt_no _ _ _ _ (omega arith))
-
-pub digit-spec : {M : Type 1} → statement M
-digit-spec =
-    tie.close (tie.spec returns returns-2 returns-3 (λ c. search rules) returns-4 returns-5 (λ c. search rules) returns-6
-    returns-7)
