@@ -90,6 +90,7 @@ module _ (s : List ℕ) where
     where
       there : {place : ℕ} → BookRow s (bad 1 place) → (¬ LengthGood s) × (place ≡ 0)
       there (at_length m) = (m, refl)
+      there (in-records _ w) = elim w [ ]
 
   -- 2, at length - 2: the length is right, and the mark is not
   pub refused-mark : (place : ℕ) → (read_of s ≡ bad 2 place) ↔ (LengthGood s × (¬ MarkGood s) × (place ≡ length s - 2))
@@ -97,14 +98,15 @@ module _ (s : List ℕ) where
     where
       there : {place : ℕ} → BookRow s (bad 2 place) → LengthGood s × (¬ MarkGood s) × (place ≡ length s - 2)
       there (at_mark l m) = (l, m, refl)
+      there (in-records _ w) = elim w [ ]
 
   -- 3, at length - 4: these are right, and index start + 2R + 6 isn't the length
   pub refused-trailer : (place : ℕ) → (read_of s ≡ bad 3 place) ↔ (LengthGood s × MarkGood s × (¬ TrailerGood s) × (place ≡ length s - 4))
-  there (in-records _ h) = elim h [ ]
   refused-trailer place = (λ e. there (row_of e), λ c. rw c.3 (book-told (at-trailer c.0 c.1 c.2)))
     where
       there : {place : ℕ} → BookRow s (bad 3 place) → LengthGood s × MarkGood s × (¬ TrailerGood s) × (place ≡ length s - 4)
       there (at-trailer l m t) = (l, m, t, refl)
+      there (in-records _ w) = elim w [ ]
 
   -- 4: these are right, and so are all records up to an entry, or to the last end, that is wrong
   pub refused-entry : (place : ℕ) → (read_of s ≡ bad 4 place) ↔ (FramedBook s × EntryWrong s n k index place)

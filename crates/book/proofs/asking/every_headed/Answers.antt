@@ -6,34 +6,20 @@ use borrow.Author.Rules.{rules}
 use Rattle.meaning.proofs.Tests.{not_first}
 use Rattle.book.proofs.Bodies.{every-end, every-turn}
 use Rattle.book.proofs.asking.every_headed.Goals as goal
-use Rattle.book.proofs.asking.every_headed.Lts as lts
-use Rattle.book.proofs.asking.every_headed.Tie as tie
-
-abbrev At-loop-i : Type 0
-At-loop-i = lts.At-loop tie.the-claims tie.handed_pre tie.handed_post goal.the-invariant-loop-i goal.the-decreases-loop-i
-
-abbrev After-is_headed : Type 0
-After-is_headed = lts.After-is_headed tie.the-claims tie.handed_pre tie.handed_post goal.the-invariant-loop-i goal.the-decreases-loop-i
-
--- where a turn begins, from behind the question
-abbrev turn : After-is_headed → At-loop-i
-turn c = c
 
 pub loop-i-init : goal.loop-i-init
 loop-i-init c = (search rules, refl)
 
 pub returns-then-not-is_headed : goal.returns-then-not-is_headed
 returns-then-not-is_headed c =
-    let k = turn c.before.before in
     sym
-    (k.loop.inv.1 ∙ every-turn _ k.before.before.args.part.now k.loop.i (omega arith)
+    (c.loop-i.invariant.1 ∙ every-turn _ c.args.part.now c.loop-i.i (omega arith)
     ∙ not_first _ (sym c.is_headed.ensures ∙ c.if-not-is_headed.true))
 
 pub loop-i-preserved : goal.loop-i-preserved
 loop-i-preserved c =
-    let k = turn c.before.before in
     let e = sym c.is_headed.ensures ∙ c.if-not-is_headed.false in
-    (search rules, k.loop.inv.1 ∙ every-turn _ k.before.before.args.part.now k.loop.i (omega arith) ∙ rw e)
+    (search rules, c.loop-i.invariant.1 ∙ every-turn _ c.args.part.now c.loop-i.i (omega arith) ∙ rw e)
 
 pub returns : goal.returns
 returns c =

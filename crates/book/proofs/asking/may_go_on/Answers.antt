@@ -36,12 +36,13 @@ module _ (c : After-every_headed) where
       let n : c.args.shape.atoms < 256 = search rules in
       c.every_headed.ensures ∙ every-part _ _ _ c.positives.ensures
       ∙ every-headed _ _ c.requires.2 _ _ (pos-small _ c.args.shape c.requires.0 n c.args.r c.requires.1)
+
 module _ (c : After-every_lost) where
   abbrev after-every-headed : After-every_headed
-  after-every-headed = c
+  after-every-headed = c.before.before.before
 
   abbrev entry : Start
-  entry = c.before.before.before
+  entry = c.before.before.before.before.before.before
 
   lost : c.every_lost.result ≡ every (all_in (book_in c.args.book.now) (of (listed c.args.off.now))) (rule (book_in c.args.book.now) c.args.r).neg
   lost =
@@ -55,4 +56,4 @@ returns-then-not-every_headed c = sym (not_first _ (sym (headed c.before.before)
 
 pub returns : goal.returns
 unfolding may_on
-returns c = then-decides (sym (headed c.before.before.before.before) ∙ c.if-not-every_headed.false) (lost c.before.before.before.before)
+returns c = then-decides (sym (headed c.before.before.before.before) ∙ c.if-not-every_headed.false) (lost c.before)

@@ -16,7 +16,7 @@ pub returns-then-not-every_in : goal.returns-then-not-every_in
 returns-then-not-every_in c =
     sym
     (not_first _
-    (sym (c.Every-in.ensures ∙ every-part _ _ _ c.positives.ensures)
+    (sym (c.every_in.ensures ∙ every-part _ _ _ c.positives.ensures)
     ∙ c.if-not-every_in.true))
 
 pub every_in-requires-2 : goal.every_in-requires-2
@@ -28,7 +28,7 @@ pub returns : goal.returns
 returns c =
     then-decides
     (sym
-    (c.Every-in.ensures
+    (c.every_in.ensures
     ∙ every-part _ _ _ c.positives.ensures)
     ∙ c.if-not-every_in.false)
     (c.every_in-2.ensures ∙ every-part _ _ _ c.negatives.ensures)

@@ -15,6 +15,7 @@ use Rattle.book.proofs.AtomSets.{all-at-none, all-at-skip, all-at-other, all-at-
 use Rattle.book.proofs.Bodies.{some_end, some_turn, some-part, not-all-in}
 use Rattle.book.proofs.Places.{shape-count}
 use Rattle.book.proofs.conditions.is_starved.Goals as goal
+use Rattle.book.proofs.conditions.is_starved.Goals.{then-not-has+else-head-a, else-not-has}
 use Rattle.book.proofs.conditions.is_starved.Lts as lts
 use Rattle.book.proofs.conditions.is_starved.Tie as tie
 
@@ -47,18 +48,17 @@ atoms-preserved c =
     let e = not-all-in (book_in c.args.book.now) (of (listed c.args.off.now)) c.loop-q.q _ _ (omega arith)
     c.head.ensures c.if-head-a.true (sym c.has.ensures ∙ c.if-not-has.true) in (
       search rules,
-      c.atoms.inv.1 ∙ some_turn _ c.positives-body.result.now c.atoms.i (omega arith) ∙ rw e,
-      c.atoms.inv.2,
+      c.atoms.invariant.1 ∙ some_turn _ c.positives-body.result.now c.atoms.i (omega arith) ∙ rw e,
+      c.atoms.invariant.2,
     )
 
 pub loop-q-preserved : goal.loop-q-preserved
 loop-q-preserved c =
     (
       search rules,
-      ⊎_elim (λ w. all-at-other _ _ c.loop-q.q _ _ w.1.ensures w.3.left c.loop-q.invariant.1)
-          (λ w. all-at-skip _ _ c.loop-q.q _
-          (sym c.has.ensures ∙ not-false _ w.left) c.loop-q.invariant.1)
-          c.if-not-has.branch,
+      elim c.if-not-has.branch [
+        then-not-has+else-head-a w ↦ all-at-other _ _ c.loop-q.q _ _ w.head.ensures w.if-head-a.false c.loop-q.invariant.1
+      | else-not-has w ↦ all-at-skip _ _ c.loop-q.q _ (sym c.has.ensures ∙ w.if-not-has.false) c.loop-q.invariant.1 ],
     )
 
 pub returns-after-atoms : goal.returns-after-atoms
@@ -72,6 +72,6 @@ pub returns-after-loop-q : goal.returns-after-loop-q
 returns-after-loop-q c =
     let n = shape-count _ c.args.shape c.requires.0 in
     sym
-    (sym (some-part _ _ _ c.positives-body.ensures) ∙ c.atoms.inv.1
+    (sym (some-part _ _ _ c.positives-body.ensures) ∙ c.atoms.invariant.1
     ∙ some_turn _ c.positives-body.result.now c.atoms.i (omega arith)
     ∙ or_left _ (all-at-end _ _ c.loop-q.q _ (omega arith) c.loop-q.invariant.1))

@@ -3,6 +3,7 @@ use mathlib.Core.Path.{◌≡◌, sym, ◌∙◌}
 use mathlib.Core.Bool.{true}
 use native.Mathlib.Omega.{arith}
 use borrow.Author.Rules.{rules}
+use borrow.Author.Tests.{not-true, not-false}
 use Rattle.book.specs.Making.{listed, takes}
 use lib.ListN.{length}
 use Rattle.book.proofs.Made.{listed_small, adds-over, adds-refused, adds-made, room-rules, room-length, room-pos, room-neg}
@@ -20,7 +21,7 @@ abbrev Else-not-has_room : Type 0
 Else-not-has_room = lts.Else2 tie.the-claims tie.handed_pre tie.handed_post
 
 pub returns-then-not-m : goal.returns-then-not-m
-returns-then-not-m c = adds-over _ _ _ c.if-not-m.true
+returns-then-not-m c = adds-over _ _ _ (not-true _ c.if-not-m.true)
 
 -- the room is asked for: the start, and what the answer says of the rule
 module _ (c : After-has_room) where
@@ -56,5 +57,5 @@ pub returns : goal.returns
 returns c =
     let r = room c.before.before.before in
     let a = c.args in
-    adds-made _ _ (listed a.pos.now) (listed a.neg.now) c.if-not-m.false r (listed_small a.pos.now (room-pos _ _ _ _ r))
+    adds-made _ _ (listed a.pos.now) (listed a.neg.now) (not-false _ c.if-not-m.false) r (listed_small a.pos.now (room-pos _ _ _ _ r))
     (listed_small a.neg.now (room-neg _ _ _ _ r)) c.write_record.ensures

@@ -1,6 +1,5 @@
 -- The atoms below the one that is tried are counted.
 use mathlib.Core.Path.{◌≡◌, ◌∙◌}
-use mathlib.Core.Logic.{⊎_elim}
 use Prim.Native.Nat.{◌-◌}
 use native.Mathlib.Omega.{arith}
 use borrow.Author.Rules.{rules}
@@ -8,6 +7,7 @@ use Rattle.book.specs.Making.{said_of}
 use Rattle.book.proofs.AtomsFrom.{atoms-length}
 use Rattle.book.proofs.Puts.{count_none, count-in, count-out}
 use Rattle.book.proofs.making.count_atoms.Goals as goal
+use Rattle.book.proofs.making.count_atoms.Goals.{then-table-a, else-table-a}
 
 pub loop-a-init : goal.loop-a-init
 loop-a-init c = (search rules, count_none c.args.table.now)
@@ -21,9 +21,9 @@ pub loop-a-preserved : goal.loop-a-preserved
 loop-a-preserved c =
     let t = c.args.table.now in (
       search rules,
-      ⊎_elim
-          (λ w. count-in t c.loop-a.a c.loop-a.invariant.1 w.0.taken w.1)
-          (λ w. count-out t c.loop-a.a c.loop-a.invariant.1 w.0.left w.1) c.if-table-a.branch,
+      elim c.if-table-a.branch [
+        then-table-a w ↦ count-in t c.loop-a.a c.loop-a.invariant.1 w.if-table-a.true w.n-is
+      | else-table-a w ↦ count-out t c.loop-a.a c.loop-a.invariant.1 w.if-table-a.false w.n-is ],
     )
 
 pub returns : goal.returns

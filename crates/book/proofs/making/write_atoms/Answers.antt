@@ -6,6 +6,7 @@ use native.Mathlib.Omega.{arith}
 use borrow.Author.Rules.{rules}
 use Rattle.book.proofs.Puts.{atoms-begun, atoms-put, atoms-skipped, atoms-room}
 use Rattle.book.proofs.making.write_atoms.Goals as goal
+use Rattle.book.proofs.making.write_atoms.Goals.{then-table-wide, else-table-wide}
 
 pub loop-a-init : goal.loop-a-init
 loop-a-init c = (search rules, atoms-begun c.args.table.now _ _)
@@ -22,9 +23,9 @@ loop-a-preserved c =
     let t = a.table.now in
     let e = c.wide.ensures.0 in (
       search rules,
-      ⊎_elim
-          (λ w. rw (w.3, w.4) (atoms-put t a.at _ c.loop-a.invariant.1 e w.0.taken w.2.ensures))
-          (λ w. rw (w.1, w.2) (atoms-skipped t a.at _ c.loop-a.invariant.1 e w.0.left)) c.if-table-wide.branch,
+      elim c.if-table-wide.branch [
+        then-table-wide w ↦ rw (w.draft-is, w.n-is) (atoms-put t a.at _ c.loop-a.invariant.1 e w.if-table-wide.true w.write_byte-n.ensures)
+      | else-table-wide w ↦ rw (w.draft-is, w.n-is) (atoms-skipped t a.at _ c.loop-a.invariant.1 e w.if-table-wide.false) ],
     )
 
 pub returns : goal.returns

@@ -41,7 +41,7 @@ module _ (t : In-loop-rule) where
     more = omega (arith, held.rules)
 
   inside : t.loop-rule.start + 3 ≤ t.args.m.length
-  inside = let (l, g) = t.requires.1 in indexed-inside (held l g) (t.loop-rule.inv.1 l g) (more l g)
+  inside = let (l, g) = t.requires.1 in indexed-inside (held l g) (t.loop-rule.invariant.1 l g) (more l g)
 
   small : t.args.m.length ≤ 8925
   small = let (l, g) = t.requires.1 in omega (arith, whole-size (held l g), (held l g).rules, (held l g).small.rules)
@@ -49,7 +49,7 @@ module _ (t : In-loop-rule) where
 pub write_number-at-requires : goal.write_number-at-requires
 write_number-at-requires c =
     let (l, g) = c.requires.1 in
-    (indexed-room (held t l g) (c.loop-rule.invariant.1 l g) (more t l g), omega (arith, inside c.before, small c.before))
+    (indexed-room (held c.before l g) (c.loop-rule.invariant.1 l g) (more c.before l g), omega (arith, inside c.before, small c.before))
 
 pub size_at-start-requires : goal.size_at-start-requires
 size_at-start-requires c =
@@ -65,7 +65,7 @@ pub loop-rule-preserved : goal.loop-rule-preserved
 loop-rule-preserved c =
     (
       omega arith,
-      λ l g. indexed-more (held tested l g) (c.loop-rule.invariant.1 l g) (more tested l g) c.write_number-at.ensures
+      λ l g. indexed-more (held c.before.before.before l g) (c.loop-rule.invariant.1 l g) (more c.before.before.before l g) c.write_number-at.ensures
           c.size_at-start.ensures.0 (search rules),
     )
 

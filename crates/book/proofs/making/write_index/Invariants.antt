@@ -8,7 +8,7 @@ use Rattle.book.proofs.making.write_index.Given as goal
 
 abbrev pub invariant-loop-rule : goal.invariant-loop-rule
 invariant-loop-rule l =
-    (l.rule ≤ l.m.rules) × ((l : List Rule) → Made l l.m l.initial.draft → Indexed l l.m l.initial.draft l.rule l.start l.at l.draft)
+    (l.rule ≤ l.m.rules) × ((rules : List Rule) → Made rules l.m l.initial.draft → Indexed rules l.m l.initial.draft l.rule l.start l.at l.draft)
 
 abbrev pub decreases-loop-rule : goal.decreases-loop-rule
 decreases-loop-rule l = l.m.rules - l.rule

@@ -72,8 +72,8 @@ module _ (c : After-check_records) where
 
 pub returns-in-Wrong : goal.returns-in-Wrong
 returns-in-Wrong c =
-    read-wrong (framed c.before.before.before.before) _ c.check_records.ensures _ _ (ap checked c.in-Wrong.is)
+    read-wrong (framed c.before.before) _ c.check_records.ensures _ _ (ap checked c.in-Wrong.is)
 
 pub returns-in-Fine : goal.returns-in-Fine
 returns-in-Fine c =
-    read-fine (framed c.before.before.before) _ c.check_records.ensures (ap checked c.in-Fine.is)
+    read-fine (framed c.before.before) _ c.check_records.ensures (ap checked c.in-Fine.is)

@@ -58,12 +58,12 @@ returns-then-atoms-part c = sym (bytes c.before.before.before ∙ bytes-head _ _
 pub returns-in-Wrong : goal.returns-in-Wrong
 returns-in-Wrong c =
     sym
-    (bytes c.before.before.before.before.before.before.before.before ∙ bytes-parts _ _ _ _ _ (omega arith)
+    (bytes c.before.before.before.before.before.before ∙ bytes-parts _ _ _ _ _ (omega arith)
     ∙ after-wrong _ _ _ c.check_part.ensures _ _ (ap checked c.in-Wrong.is))
 
 pub returns-in-Fine : goal.returns-in-Fine
 returns-in-Fine c =
     c.check_part-in-Fine.ensures
     ∙ sym
-    (bytes c.before.before.before.before.before.before.before.before.before ∙ bytes-parts _ _ _ _ _ (omega arith)
+    (bytes c.before.before.before.before.before.before.before.before ∙ bytes-parts _ _ _ _ _ (omega arith)
     ∙ after-fine _ _ _ c.check_part.ensures (ap checked c.in-Fine.is))

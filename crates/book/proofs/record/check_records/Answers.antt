@@ -25,7 +25,7 @@ abbrev After-check_record : Type 0
 After-check_record = lts.After-check_record tie.the-claims tie.handed_pre tie.handed_post goal.the-invariant-loop-rule goal.the-decreases-loop-rule
 
 abbrev In_default : Type 0
-In_default = lts.After-enum_told tie.the-claims tie.handed_pre tie.handed_post goal.the-invariant-loop-rule goal.the-decreases-loop-rule
+In_default = lts.Past-After-enum_told tie.the-claims tie.handed_pre tie.handed_post goal.the-invariant-loop-rule goal.the-decreases-loop-rule
 
 pub loop-rule-init : goal.loop-rule-init
 loop-rule-init c = (search rules, search rules, rw sub-zero)
@@ -53,36 +53,38 @@ module _ (c : After-check_record) where
       (records_of (s.rules - (c.loop-rule.rule + 1)) s.book.now s.atoms s.index (c.loop-rule.rule + 1)
       (c.loop-rule.start + length_of bytes))
   asked =
-      c.loop-rule.inv.2 ∙ records-turn _ _ _ c.args.rules c.loop-rule.rule _ (omega arith) ∙ eq_yes _ _ _ _ (omega arith)
+      c.loop-rule.invariant.2 ∙ records-turn _ _ _ c.args.rules c.loop-rule.rule _ (omega arith) ∙ eq_yes _ _ _ _ (omega arith)
+
+-- the record is right: it ends before the index
 module _ (c : In_default) where
   abbrev found : After-check_record
-  found = c
+  found = c.before
 
-  right : record_of c.args.atoms c.loop-rule.start (bytes found) ≡ fine
+  right : record_of c.args.atoms c.loop-rule.start (bytes c.before) ≡ fine
   right = sym c.check_record.ensures ∙ ap checked c.in_default.is
 
-  ends : c.loop-rule.start + length_of (bytes found) ≤ c.args.index
+  ends : c.loop-rule.start + length_of (bytes c.before) ≤ c.args.index
   ends =
       record-ends c.args.book.now _ c.args.index c.loop-rule.start (omega arith) (omega arith)
       (record-fine _ _ _ right)
 
 pub returns-in-Wrong : goal.returns-in-Wrong
 returns-in-Wrong c =
-    sym (asked c.before.before.before.before ∙ after-wrong _ _ _ c.check_record.ensures _ _ (ap checked c.in-Wrong.is))
+    sym (asked c.before.before ∙ after-wrong _ _ _ c.check_record.ensures _ _ (ap checked c.in-Wrong.is))
 
 pub record_length-start-requires : goal.record_length-start-requires
-record_length-start-requires c = (record-fine _ _ _ (right c.before.before.before.before)).room
+record_length-start-requires c = (record-fine _ _ _ (right c.before.before)).room
 
 pub overflow_add-start : goal.overflow_add-start
-overflow_add-start c = let h = ends c.before.before.before.before.before in search rules
+overflow_add-start c = let h = ends c.before.before.before in search rules
 
 pub loop-rule-preserved : goal.loop-rule-preserved
 loop-rule-preserved c =
-    let h = ends c.before.before.before.before.before in (
+    let h = ends c.before.before.before in (
       search rules,
       search rules,
       rw c.record_length-start.ensures
-          (asked c.before.before.before.before.before ∙ after-fine _ _ _ c.check_record.ensures (ap checked c.in_default.is)),
+          (asked c.before.before.before.before ∙ after-fine _ _ _ c.check_record.ensures (ap checked c.in_default.is)),
     )
 
 pub returns-then-start-index : goal.returns-then-start-index

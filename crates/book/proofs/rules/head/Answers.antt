@@ -3,4 +3,4 @@ use mathlib.Core.Path.{sym}
 use Rattle.book.proofs.rules.head.Goals as goal
 
 pub returns : goal.returns
-returns c = sym c.start_of_lem.ensures.head
+returns c = sym c.start_of-start.ensures.head

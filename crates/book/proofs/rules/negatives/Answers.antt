@@ -5,5 +5,5 @@ use Rattle.book.proofs.rules.negatives.Goals as goal
 
 pub returns : goal.returns
 returns c =
-    part-taken c.args.book.now (c.start_of_lem.result + 3 + c.wide-p.result) _ _ _ c.wide-n.ensures.0
-    (rw (← c.wide-p.ensures.0) at c.start_of_lem.ensures.neg)
+    part-taken c.args.book.now (c.start_of-start.result + 3 + c.wide-p.result) _ _ _ c.wide-n.ensures.0
+    (rw (← c.wide-p.ensures.0) at c.start_of-start.ensures.neg)

@@ -5,6 +5,6 @@ use Rattle.book.proofs.rules.positives.Goals as goal
 
 pub returns : goal.returns
 returns c =
-    let p = c.start_of_lem in
+    let p = c.start_of-start in
     part-taken c.args.book.now (p.result + 3) _ _ _
     c.wide-p.ensures.0 p.ensures.pos

@@ -11,6 +11,7 @@ use Rattle.book.specs.Format.{book_in}
 use Rattle.book.proofs.AtomSets.{heads-none, heads-skip, heads-store, heads-end}
 use Rattle.book.proofs.Places.{head_small, shape-count}
 use Rattle.book.proofs.tables.heads_of.Goals as goal
+use Rattle.book.proofs.tables.heads_of.Goals.{then-has, else-has}
 use Rattle.book.proofs.tables.heads_of.Lts as lts
 use Rattle.book.proofs.tables.heads_of.Tie as tie
 
@@ -45,11 +46,11 @@ pub loop-r-preserved : goal.loop-r-preserved
 loop-r-preserved c =
     (
       search rules,
-      ⊎_elim
-          (λ w. w.3
-          ∙ heads-store _ _ _ _ w.1.ensures (small c.before.before _ w.1.ensures)
-          (sym c.has.ensures ∙ w.0.taken) _ _ c.loop-r.invariant.1 w.2.ensures.0)
-          (λ w. w.1 ∙ c.loop-r.invariant.1 ∙ heads-skip _ _ _ (sym c.has.ensures ∙ w.0.left)) c.if-has.branch,
+      elim c.if-has.branch [
+        then-has w ↦ w.out-is
+          ∙ heads-store _ _ _ _ w.head.ensures (small c.before.before _ w.head.ensures)
+          (sym c.has.ensures ∙ w.if-has.true) _ _ c.loop-r.invariant.1 w.wide-a.ensures.0
+      | else-has w ↦ w.out-is ∙ c.loop-r.invariant.1 ∙ heads-skip _ _ _ (sym c.has.ensures ∙ w.if-has.false) ],
     )
 
 pub returns : goal.returns

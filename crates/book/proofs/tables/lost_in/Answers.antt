@@ -12,6 +12,7 @@ use Rattle.book.specs.Format.{book_in}
 use Rattle.book.proofs.AtomSets.{all_none, all-skip, all-store, all_end}
 use Rattle.book.proofs.Places.{head_small, shape-count}
 use Rattle.book.proofs.tables.lost_in.Goals as goal
+use Rattle.book.proofs.tables.lost_in.Goals.{then-not-has, else-not-has}
 use Rattle.book.proofs.tables.lost_in.Lts as lts
 use Rattle.book.proofs.tables.lost_in.Tie as tie
 
@@ -46,12 +47,11 @@ pub loop-r-preserved : goal.loop-r-preserved
 loop-r-preserved c =
     (
       search rules,
-      ⊎_elim
-          (λ w. w.3
-          ∙ all-store _ _ _ _ w.1.ensures (small c.before.before _ w.1.ensures)
-          (sym c.has.ensures ∙ not-true _ w.0.taken) _ _ c.loop-r.invariant.1 w.2.ensures.0)
-          (λ w. w.1 ∙ c.loop-r.invariant.1 ∙ all-skip _ _ _ (sym c.has.ensures ∙ not-false _ w.0.left))
-          c.if-not-has.branch,
+      elim c.if-not-has.branch [
+        then-not-has w ↦ w.out-is
+          ∙ all-store _ _ _ _ w.head.ensures (small c.before.before _ w.head.ensures)
+          (sym c.has.ensures ∙ w.if-not-has.true) _ _ c.loop-r.invariant.1 w.wide-a.ensures.0
+      | else-not-has w ↦ w.out-is ∙ c.loop-r.invariant.1 ∙ all-skip _ _ _ (sym c.has.ensures ∙ w.if-not-has.false) ],
     )
 
 pub returns : goal.returns
