@@ -1,5 +1,4 @@
 -- The loop over the heads: the rules for the first j of them are added, and the next helper is counted on by j.
-use Prim.Native.Nat.{◌-◌}
 use borrow.Author.Rules.{rules}
 use Rattle.lparse.proofs.HeadRules.{heads-begun, heads-turn, heads-all}
 use Rattle.lparse.proofs.adding.add_heads.Goals as goal

@@ -2,25 +2,6 @@
 use native.Mathlib.Omega.{arith}
 use Rattle.lparse.proofs.Formed.{placed-atom, forms-silent, forms-choice, forms-atom}
 use Rattle.lparse.proofs.form.form_said.Goals as goal
-use Rattle.lparse.proofs.form.form_said.Lts as lts
-use Rattle.lparse.proofs.form.form_said.Tie as tie
-
-abbrev Start : Type 0
-Start = lts.Start tie.the-claims tie.handed_pre tie.handed_post
-
-abbrev In-Atom-2 : Type 0
-In-Atom-2 = lts.Past-After-said tie.the-claims tie.handed_pre tie.handed_post
-
-abbrev After-add_entry : Type 0
-After-add_entry = lts.Past-After-add_entry tie.the-claims tie.handed_pre tie.handed_post
-
--- an atom is said: the word's arm, and the start
-module _ (c : After-add_entry) where
-  abbrev matched : In-Atom-2
-  matched = c.before.before.before.before
-
-  abbrev start : Start
-  start = c.before.before.before.before.before.before.before
 
 pub opened_by-requires : goal.opened_by-requires
 opened_by-requires c =

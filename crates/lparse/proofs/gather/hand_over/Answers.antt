@@ -1,7 +1,6 @@
 -- The atoms handed over: the first i are the ones found, the others stay.
 use mathlib.Core.Path.{◌≡◌, refl, ◌∙◌, ap}
 use mathlib.Core.List.{◌++◌}
-use Prim.Native.Nat.{◌-◌}
 use native.Mathlib.Omega.{arith}
 use lib.ListN.{take, drop, length-set}
 use borrow.Author.Rules.{rules}

@@ -1,6 +1,5 @@
 -- The search: the atoms passed have other numbers.
 use mathlib.Core.Path.{refl}
-use Prim.Native.Nat.{◌-◌}
 use borrow.Author.Rules.{rules}
 use Rattle.lparse.proofs.Names.{whose-none, whose-here, whose-next}
 use Rattle.lparse.proofs.named.atom_at.Goals as goal

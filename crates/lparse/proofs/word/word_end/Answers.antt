@@ -1,6 +1,6 @@
 -- The end of a word: where it ends from here on is where the whole word ends.
 use mathlib.Core.Path.{sym, ◌∙◌, ap}
-use Prim.Native.Nat.{◌-◌, ◌+◌}
+use Prim.Native.Nat.{◌+◌}
 use native.Mathlib.Omega.{arith}
 use borrow.Author.Rules.{rules}
 use Rattle.lparse.proofs.Words.{end_from, end-first, end-end, end-here, end-turn}

@@ -1,6 +1,5 @@
 -- The start of a word: where the next word starts from here on is where it starts from `at` on.
 use mathlib.Core.Path.{refl, sym, ◌∙◌}
-use Prim.Native.Nat.{◌-◌}
 use native.Mathlib.Omega.{arith}
 use borrow.Author.Rules.{rules}
 use Rattle.lparse.proofs.Words.{start-end, start-here, start-turn}
