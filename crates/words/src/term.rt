@@ -4,8 +4,6 @@ ghost use Rattle.meaning.specs.Sets.{every};
 ghost use Rattle.words.specs.Names.{same_bytes};
 ghost use Rattle.words.specs.Terms.{in_range, name_byte, spelled, plain_term, term_of};
 
-use check::same;
-
 #[derive(Clone, Copy)]
 pub enum Term {
     If,
@@ -87,7 +85,7 @@ fn is_spelled(word: &[u8]) -> bool
 pub fn is_same<'a>(word: &'a [u8], other: &'a [u8]) -> bool
     ensures { result ≡ same_bytes word.now other.now }
 {
-    same(word, other)
+    word == other
 }
 
 // A word with no meaning of its own.
