@@ -1,6 +1,5 @@
 -- The search: the word stands at none of the places passed.
 use mathlib.Core.Path.{sym, ◌∙◌}
-use Prim.Native.Nat.{◌-◌}
 use native.Mathlib.Omega.{arith}
 use borrow.Author.Rules.{rules}
 use Rattle.words.specs.Names.{is_spelled, place_of}

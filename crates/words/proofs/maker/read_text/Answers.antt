@@ -1,6 +1,5 @@
 -- Reading goes on as the text says, and each turn takes a byte.
 use mathlib.Core.Path.{ap, sym, ◌∙◌}
-use Prim.Native.Nat.{◌-◌}
 use native.Mathlib.Omega.{arith}
 use Rattle.words.proofs.Turns.{on-way, along-start}
 use Rattle.words.proofs.Handing.{goes-fate}

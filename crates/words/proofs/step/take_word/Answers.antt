@@ -1,6 +1,5 @@
 -- `take_word` does as it was decided.
 use mathlib.Core.Path.{ap, sym, ◌∙◌}
-use lib.ListN.{take}
 use Rattle.words.specs.Progress.{on_weighed}
 use Rattle.words.proofs.Able.{weighed-able}
 use Rattle.words.proofs.step.take_word.Goals as goal

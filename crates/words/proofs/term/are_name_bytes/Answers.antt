@@ -1,9 +1,7 @@
 -- Every byte passed may stand in a name.
 use mathlib.Core.Path.{refl, sym, ◌∙◌}
-use Prim.Native.Nat.{◌-◌}
 use native.Mathlib.Omega.{arith}
 use borrow.Author.Rules.{rules}
-use mathlib.Core.Bool.{true}
 use Rattle.meaning.specs.Sets.{every}
 use Rattle.meaning.proofs.Sets.{every_here, every-all-next, every-all-end}
 use Rattle.words.specs.Terms.{name_byte}
