@@ -55,14 +55,13 @@ pub returns-then-wide-gt255-2 : goal.returns-then-wide-gt255-2
 returns-then-wide-gt255-2 c = (over-rules _ _ _ (few c.before.before) (omega (arith, rules c.before.before)), λ n e. over-book e)
 
 pub join_in-n-requires : goal.join_in-n-requires
-join_in-n-requires c =
-    (
-      c.requires.0,
-      c.requires.1,
-      omega (arith, c.wide.ensures.0, c.wide-2.ensures.0),
-      omega (arith, c.wide-3.ensures.0, c.wide-4.ensures.0),
-      c.requires.2,
-    )
+join_in-n-requires c = (
+  c.requires.0,
+  c.requires.1,
+  omega (arith, c.wide.ensures.0, c.wide-2.ensures.0),
+  omega (arith, c.wide-3.ensures.0, c.wide-4.ensures.0),
+  c.requires.2,
+)
 
 -- the joined book is made
 module _ (c : After-join_in-n) where
