@@ -2,9 +2,8 @@
 -- The bytes left fall round the cycle.
 use native.Mathlib.Omega.{arith}
 use borrow.Author.Rules.{rules}
-use Prim.Native.Nat.{ℕ, ◌≤◌}
+use Prim.Native.Nat.{ℕ}
 use mathlib.Core.Path.{refl, ap}
-use Rattle.meaning.specs.Books.{count}
 use Rattle.meaning.specs.Written.{written}
 use Rattle.meaning.proofs.Listed.{listed-long}
 use Rattle.book.specs.Format.{book_in}

@@ -1,5 +1,4 @@
 -- What both sets have is asked whether it meets the rules.
-use borrow.Author.Rules.{rules}
 use native.Mathlib.Omega.{arith}
 use mathlib.Core.Path.{ap₂, ◌∙◌}
 use mathlib.Core.List.{List}

@@ -1,5 +1,4 @@
 -- A contradiction ends the branch; without one the claim decides.
-use borrow.Author.Rules.{rules}
 use mathlib.Core.Path.{◌≡◌, sym, ◌∙◌}
 use Rattle.meaning.specs.Books.{count}
 use Rattle.book.specs.Format.{book_in}

@@ -2,11 +2,9 @@
 use borrow.Author.Rules.{rules}
 use native.Mathlib.Omega.{arith}
 use mathlib.Core.Path.{◌≡◌, sym, ◌∙◌}
-use mathlib.Core.Logic.{⊎_elim}
-use mathlib.Core.Bool.{Bool, true, false}
-use Prim.Native.Nat.{◌-◌}
+use mathlib.Core.Bool.{Bool, true}
 use Rattle.meaning.specs.Sets.{some_below}
-use Rattle.meaning.specs.Books.{Rules, rule_no, Book, rule}
+use Rattle.meaning.specs.Books.{Rules, rule_no, Book}
 use Rattle.meaning.specs.Bits.{listed}
 use Rattle.meaning.specs.Written.{of}
 use Rattle.meaning.proofs.Sets.{none-next, none_end}

@@ -1,4 +1,3 @@
-use borrow.Author.Rules.{rules}
 use mathlib.Core.Path.{◌≡◌}
 use mathlib.Core.Bool.{false, not, ◌&&◌}
 use Prim.Native.Nat.{◌-◌, ◌≤◌}

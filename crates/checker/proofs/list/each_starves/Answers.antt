@@ -2,11 +2,9 @@
 use borrow.Author.Rules.{rules}
 use native.Mathlib.Omega.{arith}
 use mathlib.Core.Path.{sym, ◌∙◌}
-use mathlib.Core.Bool.{true}
 use mathlib.Core.List.{List}
-use Prim.Native.Nat.{ℕ, ◌-◌}
+use Prim.Native.Nat.{ℕ}
 use Rattle.meaning.specs.Sets.{every}
-use Rattle.meaning.specs.Written.{of}
 use Rattle.checker.proofs.Conditions.{starved-stops, starved-next, starved-end}
 use Rattle.checker.proofs.list.each_starves.Goals as goal
 use Rattle.checker.proofs.list.each_starves.Lts as lts

@@ -3,7 +3,7 @@ use borrow.Author.Rules.{rules}
 use native.Mathlib.Omega.{arith}
 use mathlib.Core.Path.{sym, ◌∙◌}
 use mathlib.Core.List.{List}
-use Prim.Native.Nat.{ℕ, ◌-◌}
+use Prim.Native.Nat.{ℕ}
 use Rattle.meaning.specs.Sets.{every}
 use Rattle.checker.proofs.Lists.{rising-all, rising-next, proper-out, proper-stops, proper-next, proper-end}
 use Rattle.checker.proofs.list.is_proper.Goals as goal

@@ -4,7 +4,6 @@ use mathlib.Core.Path.{◌≡◌, refl, sym, ◌∙◌}
 use mathlib.Core.List.{List}
 use Prim.Native.Nat.{ℕ, ◌+◌, ◌-◌}
 use lib.ListN.{take, drop}
-use borrow.Author.Tests.{not-false}
 use Rattle.book.specs.Format.{book_in}
 use Rattle.book.proofs.Places.{shape-count}
 use Rattle.checker.specs.Steps.{proper_list}

@@ -2,12 +2,11 @@
 use native.Mathlib.Omega.{arith}
 use mathlib.Core.Path.{◌≡◌, sym, ◌∙◌}
 use mathlib.Core.List.{Memᴰ}
-use Prim.Native.Nat.{ℕ, ◌-◌, ◌<◌}
+use Prim.Native.Nat.{ℕ, ◌<◌}
 use lib.ListN.{get_or, replicate}
 use Rattle.meaning.specs.declared.AtomNo.{AtomNo}
 use Rattle.meaning.specs.Sets.{every}
 use Rattle.meaning.specs.Books.{rule_no, Rule, rule}
-use Rattle.meaning.specs.Bits.{listed}
 use Rattle.meaning.proofs.Four.{members-nothing}
 use Rattle.meaning.proofs.Listed.{listed-empty}
 use Rattle.book.specs.Format.{book_in}

@@ -2,7 +2,6 @@
 use borrow.Author.Rules.{rules}
 use native.Mathlib.Omega.{arith}
 use mathlib.Core.Path.{sym, ◌∙◌}
-use Prim.Native.Nat.{◌-◌}
 use native.Mathlib.Nat.{add-zero}
 use Rattle.checker.proofs.WitnessChecked.{blocked-end, blocked-stops, blocked-next}
 use Rattle.checker.proofs.witness.check_unblocked.Goals as goal
