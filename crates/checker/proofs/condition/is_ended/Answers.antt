@@ -8,17 +8,11 @@ use Rattle.checker.proofs.condition.is_ended.Goals as goal
 use Rattle.checker.proofs.condition.is_ended.Lts as lts
 use Rattle.checker.proofs.condition.is_ended.Tie as tie
 
-abbrev Start : Type 0
-Start = lts.Start tie.the-claims tie.handed_pre tie.handed_post
-
 abbrev After-is_clashing : Type 0
 After-is_clashing = lts.After-is_clashing tie.the-claims tie.handed_pre tie.handed_post
 
 -- rule by rule it was asked whether one is in both sets, for as many rules as the book has
 module _ (c : After-is_clashing) where
-  abbrev start : Start
-  start = c.before.before
-
   counted : c.args.shape.rules ≡ count (book_in c.args.book.now)
   counted = sym (shape-count _ _ c.requires)
 

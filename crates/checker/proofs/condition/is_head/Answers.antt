@@ -16,12 +16,6 @@ use Rattle.checker.proofs.condition.is_head.Goals.{then-has+else-head-a, else-ha
 use Rattle.checker.proofs.condition.is_head.Lts as lts
 use Rattle.checker.proofs.condition.is_head.Tie as tie
 
-abbrev Start : Type 0
-Start = lts.Start tie.the-claims tie.handed_pre tie.handed_post goal.the-invariant-loop-r goal.the-decreases-loop-r
-
-abbrev At-loop-r : Type 0
-At-loop-r = lts.At-loop tie.the-claims tie.handed_pre tie.handed_post goal.the-invariant-loop-r goal.the-decreases-loop-r
-
 abbrev After-has : Type 0
 After-has = lts.After-has tie.the-claims tie.handed_pre tie.handed_post goal.the-invariant-loop-r goal.the-decreases-loop-r
 
@@ -29,14 +23,8 @@ pub loop-r-init : goal.loop-r-init
 unfolding some_below
 loop-r-init c = search rules
 
--- rule r is looked up in the set: the turn of the loop, and the start
+-- rule r is looked up in the set: what holds of the rule
 module _ (c : After-has) where
-  abbrev turn : At-loop-r
-  turn = c.before.before.before
-
-  abbrev start : Start
-  start = c.before.before.before.before.before
-
   abbrev b : Book
   b = book_in c.args.book.now
 
@@ -53,13 +41,13 @@ returns-then-head-a c =
     (shape-in _ _ c.requires (rule_no c.loop-r.r) (omega arith)) (says c.before.before.before.before.before.before true c.if-has.true) c.if-head-a.true)
 
 pub loop-r-preserved : goal.loop-r-preserved
-loop-r-preserved c =
-    (
-      omega arith,
-      none-next _ _ (elim c.if-has.branch [
-        then-has+else-head-a w ↦ head-other _ (of (listed c.args.set.now)) _ _ c.loop-r.r w.head.ensures w.if-head-a.false
-      | else-has w ↦ head-out _ (of (listed c.args.set.now)) _ c.loop-r.r (sym c.has.ensures ∙ w.if-has.false) ]) c.loop-r.invariant.1,
-    )
+loop-r-preserved c = (
+  omega arith,
+  none-next _ _ (elim c.if-has.branch [
+    | then-has+else-head-a w ↦ head-other _ (of (listed c.args.set.now)) _ _ c.loop-r.r w.head.ensures w.if-head-a.false
+    | else-has w ↦ head-out _ (of (listed c.args.set.now)) _ c.loop-r.r (sym c.has.ensures ∙ w.if-has.false)
+  ]) c.loop-r.invariant.1,
+)
 
 pub returns : goal.returns
 returns c =

@@ -1,8 +1,8 @@
 -- No rule below r that is outside the set has the atom as head, until one is found.
 use borrow.Author.Rules.{rules}
 use native.Mathlib.Omega.{arith}
-use mathlib.Core.Path.{◌≡◌, sym, ap, ◌∙◌}
-use mathlib.Core.Bool.{Bool, true, false, not}
+use mathlib.Core.Path.{sym, ap, ◌∙◌}
+use mathlib.Core.Bool.{true, false, not}
 use Rattle.meaning.specs.Sets.{some_below}
 use Rattle.meaning.specs.Books.{Rules, rule_no, Book}
 use Rattle.meaning.specs.Bits.{listed}
@@ -16,12 +16,6 @@ use Rattle.checker.proofs.condition.is_lost.Goals.{then-not-has+else-head-a, els
 use Rattle.checker.proofs.condition.is_lost.Lts as lts
 use Rattle.checker.proofs.condition.is_lost.Tie as tie
 
-abbrev Start : Type 0
-Start = lts.Start tie.the-claims tie.handed_pre tie.handed_post goal.the-invariant-loop-r goal.the-decreases-loop-r
-
-abbrev At-loop-r : Type 0
-At-loop-r = lts.At-loop tie.the-claims tie.handed_pre tie.handed_post goal.the-invariant-loop-r goal.the-decreases-loop-r
-
 abbrev After-has : Type 0
 After-has = lts.After-has tie.the-claims tie.handed_pre tie.handed_post goal.the-invariant-loop-r goal.the-decreases-loop-r
 
@@ -29,23 +23,14 @@ pub loop-r-init : goal.loop-r-init
 unfolding some_below
 loop-r-init c = search rules
 
--- rule r is looked up in the set: the turn of the loop, and the start
+-- rule r is looked up in the set: what holds of the rule
 module _ (c : After-has) where
-  abbrev turn : At-loop-r
-  turn = c.before.before.before
-
-  abbrev start : Start
-  start = c.before.before.before.before.before
-
   abbrev b : Book
   b = book_in c.args.book.now
 
   abbrev outside : Rules
   outside r = not (of (listed c.args.set.now) r)
-
   -- what the code was told of rule r
-  says : (v : Bool) → not c.has.result ≡ v → outside (rule_no c.loop-r.r) ≡ v
-  says v t = ap not (sym c.has.ensures) ∙ t
 
 pub returns-then-head-a : goal.returns-then-head-a
 returns-then-head-a c =
@@ -53,13 +38,13 @@ returns-then-head-a c =
     (shape-in _ _ c.requires (rule_no c.loop-r.r) (omega arith)) (ap not (sym c.has.ensures ∙ c.if-not-has.true)) c.if-head-a.true)
 
 pub loop-r-preserved : goal.loop-r-preserved
-loop-r-preserved c =
-    (
-      omega arith,
-      none-next _ _ (elim c.if-not-has.branch [
-        then-not-has+else-head-a w ↦ head-other _ (λ r. not (of (listed c.args.set.now) r)) _ _ c.loop-r.r w.head.ensures w.if-head-a.false
-      | else-not-has w ↦ head-out _ (λ r. not (of (listed c.args.set.now) r)) _ c.loop-r.r (ap not (sym c.has.ensures ∙ w.if-not-has.false)) ]) c.loop-r.invariant.1,
-    )
+loop-r-preserved c = (
+  omega arith,
+  none-next _ _ (elim c.if-not-has.branch [
+    | then-not-has+else-head-a w ↦ head-other _ (λ r. not (of (listed c.args.set.now) r)) _ _ c.loop-r.r w.head.ensures w.if-head-a.false
+    | else-not-has w ↦ head-out _ (λ r. not (of (listed c.args.set.now) r)) _ c.loop-r.r (ap not (sym c.has.ensures ∙ w.if-not-has.false))
+  ]) c.loop-r.invariant.1,
+)
 
 pub returns : goal.returns
 returns c =

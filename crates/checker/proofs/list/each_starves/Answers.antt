@@ -10,9 +10,6 @@ use Rattle.checker.proofs.list.each_starves.Goals as goal
 use Rattle.checker.proofs.list.each_starves.Lts as lts
 use Rattle.checker.proofs.list.each_starves.Tie as tie
 
-abbrev At-loop-i : Type 0
-At-loop-i = lts.At-loop tie.the-claims tie.handed_pre tie.handed_post goal.the-invariant-loop-i goal.the-decreases-loop-i
-
 abbrev After-is_starved : Type 0
 After-is_starved = lts.After-is_starved tie.the-claims tie.handed_pre tie.handed_post goal.the-invariant-loop-i goal.the-decreases-loop-i
 
@@ -24,11 +21,8 @@ pub is_starved-requires : goal.is_starved-requires
 is_starved-requires c =
     (c.requires.0, c.requires.1.at c.loop-i.i (omega arith))
 
--- a rule is asked: the turn of the loop, and the list
+-- a rule is asked: the list
 module _ (c : After-is_starved) where
-  abbrev turn : At-loop-i
-  turn = c.before.before.before
-
   abbrev list : List ℕ
   list = c.args.list.now
 
@@ -37,12 +31,11 @@ returns-then-not-is_starved c =
     sym (starved-stops _ _ (list c.before.before) c.loop-i.i (omega arith) (sym c.is_starved.ensures ∙ c.if-not-is_starved.true))
 
 pub loop-i-preserved : goal.loop-i-preserved
-loop-i-preserved c =
-    (
-      omega arith,
-      starved-next _ _ (list c.before.before) c.loop-i.i (omega arith) (sym c.is_starved.ensures ∙ c.if-not-is_starved.false)
-          c.loop-i.invariant.1,
-    )
+loop-i-preserved c = (
+  omega arith,
+  starved-next _ _ (list c.before.before) c.loop-i.i (omega arith) (sym c.is_starved.ensures ∙ c.if-not-is_starved.false)
+      c.loop-i.invariant.1,
+)
 
 pub returns : goal.returns
 returns c =

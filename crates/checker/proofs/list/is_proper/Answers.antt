@@ -10,9 +10,6 @@ use Rattle.checker.proofs.list.is_proper.Goals as goal
 use Rattle.checker.proofs.list.is_proper.Lts as lts
 use Rattle.checker.proofs.list.is_proper.Tie as tie
 
-abbrev At-loop-i : Type 0
-At-loop-i = lts.At-loop tie.handed_pre tie.handed_post goal.the-invariant-loop-i goal.the-decreases-loop-i
-
 abbrev After-shared_slice_known-1 : Type 0
 After-shared_slice_known-1 = lts.After-shared_slice_known tie.handed_pre tie.handed_post goal.the-invariant-loop-i goal.the-decreases-loop-i
 
@@ -20,11 +17,8 @@ pub loop-i-init : goal.loop-i-init
 unfolding every
 loop-i-init c = let e = rising-all c.args.list.now in search rules
 
--- a number is read: the turn of the loop, and the list
+-- a number is read: the list
 module _ (c : After-shared_slice_known-1) where
-  abbrev turn : At-loop-i
-  turn = c.before.before
-
   abbrev numbers : List ℕ
   numbers = c.args.list.now
 
@@ -36,12 +30,11 @@ returns-then-n-least c =
     sym (proper-stops (numbers c.before.before.before) _ c.loop-i.i _ c.loop-i.invariant.2 (omega arith) (omega arith))
 
 pub loop-i-preserved : goal.loop-i-preserved
-loop-i-preserved c =
-    (
-      omega arith,
-      proper-next (numbers c.before.before.before) c.loop-i.i _ (omega arith) (omega arith) c.loop-i.invariant.1,
-      c.loop-i.invariant.2 ∙ rising-next (numbers c.before.before.before) _ c.loop-i.i (omega arith) (omega arith),
-    )
+loop-i-preserved c = (
+  omega arith,
+  proper-next (numbers c.before.before.before) c.loop-i.i _ (omega arith) (omega arith) c.loop-i.invariant.1,
+  c.loop-i.invariant.2 ∙ rising-next (numbers c.before.before.before) _ c.loop-i.i (omega arith) (omega arith),
+)
 
 pub returns : goal.returns
 returns c =

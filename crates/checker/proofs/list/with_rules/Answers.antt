@@ -11,35 +11,22 @@ use Rattle.checker.proofs.list.with_rules.Goals as goal
 use Rattle.checker.proofs.list.with_rules.Lts as lts
 use Rattle.checker.proofs.list.with_rules.Tie as tie
 
-abbrev Start : Type 0
-Start = lts.Start tie.the-claims tie.handed_pre tie.handed_post goal.the-invariant-loop-i goal.the-decreases-loop-i
-
-abbrev At-loop-i : Type 0
-At-loop-i = lts.At-loop tie.the-claims tie.handed_pre tie.handed_post goal.the-invariant-loop-i goal.the-decreases-loop-i
-
 abbrev After-put : Type 0
 After-put = lts.After-put tie.the-claims tie.handed_pre tie.handed_post goal.the-invariant-loop-i goal.the-decreases-loop-i
 
 pub loop-i-init : goal.loop-i-init
 loop-i-init c = (search rules, add_none _)
 
--- the turn of the loop in which a rule is put in, and the start: the rule has a place in the set
+-- a rule is put in: it has a place in the set
 module _ (c : After-put) where
-  abbrev turn : At-loop-i
-  turn = c.before.before.before.before
-
-  abbrev start : Start
-  start = c.before.before.before.before.before.before.before
-
   small : get_or c.args.list.now c.loop-i.i 0 < 255
   small = c.requires.at c.loop-i.i (omega arith)
 
 pub loop-i-preserved : goal.loop-i-preserved
-loop-i-preserved c =
-    (
-      omega arith,
-      add-put (of (listed c.args.set.w)) _ _ c.args.list.now c.loop-i.i (omega arith) (omega (arith, small c.before, listed-long c.loop-i.w)) c.put.ensures c.loop-i.invariant.1,
-    )
+loop-i-preserved c = (
+  omega arith,
+  add-put (of (listed c.args.set.w)) _ _ c.args.list.now c.loop-i.i (omega arith) (omega (arith, small c.before, listed-long c.loop-i.w)) c.put.ensures c.loop-i.invariant.1,
+)
 
 pub returns : goal.returns
 returns c =

@@ -9,17 +9,11 @@ use Rattle.checker.proofs.paper.check_paper.Goals as goal
 use Rattle.checker.proofs.paper.check_paper.Lts as lts
 use Rattle.checker.proofs.paper.check_paper.Tie as tie
 
-abbrev Start : Type 0
-Start = lts.Start tie.the-claims tie.handed_pre tie.handed_post
-
 abbrev After-read_trailer : Type 0
 After-read_trailer = lts.After-read_trailer tie.the-claims tie.handed_pre tie.handed_post
 
 -- behind the trailer
 module _ (c : After-read_trailer) where
-  abbrev start : Start
-  start = c.before.before.before
-
   ends : let s = c.args in
       EndsAs (book_in s.book.now) s.paper.now (paper_of (book_in s.book.now) s.paper.now) c.read_trailer.result
   ends = c.read_trailer.ensures _ (shape-atoms _ _ c.requires)

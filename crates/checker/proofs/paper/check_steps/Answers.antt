@@ -9,17 +9,11 @@ use Rattle.checker.proofs.paper.check_steps.Goals as goal
 use Rattle.checker.proofs.paper.check_steps.Lts as lts
 use Rattle.checker.proofs.paper.check_steps.Tie as tie
 
-abbrev Start : Type 0
-Start = lts.Start tie.the-claims tie.handed_pre tie.handed_post
-
 abbrev After-branch-at : Type 0
 After-branch-at = lts.After-branch tie.the-claims tie.handed_pre tie.handed_post
 
 -- behind the first branch, which has come to x
 module _ (c : After-branch-at) where
-  abbrev start : Start
-  start = c.before.before.before.before
-
   came : (x : Walked) → walked c.branch-at.result ≡ x → let s = c.args in let t = s.trailer in
       branch_told (book_in s.book.now) t.claim s.paper.now t.count t.from x
       ≡ steps_told (book_in s.book.now) t.claim s.paper.now t.count t.from

@@ -18,20 +18,11 @@ use Rattle.checker.proofs.run.run_steps.Tie as tie
 abbrev Start : Type 0
 Start = lts.Start tie.the-claims tie.handed_pre tie.handed_post goal.the-invariant-loop-r goal.the-decreases-loop-r
 
-abbrev At-loop-r : Type 0
-At-loop-r = lts.At-loop tie.the-claims tie.handed_pre tie.handed_post goal.the-invariant-loop-r goal.the-decreases-loop-r
-
 abbrev After-check_step : Type 0
 After-check_step = lts.After-check_step tie.the-claims tie.handed_pre tie.handed_post goal.the-invariant-loop-r goal.the-decreases-loop-r
 
--- behind the step that was found: the turn of the loop, the start, and that a good book has at most 255 rules
+-- behind the step that was found: a good book has at most 255 rules
 module _ (c : After-check_step) where
-  abbrev turn : At-loop-r
-  turn = c.before.before.before.before.before.before.before
-
-  abbrev start : Start
-  start = c.before.before.before.before.before.before.before.before.before.before
-
   few : count (book_in c.args.book.now) ≤ 255
   few = omega (arith, shape-count _ _ c.requires.read)
 

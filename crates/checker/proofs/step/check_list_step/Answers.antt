@@ -13,23 +13,11 @@ use Rattle.checker.proofs.step.check_list_step.Goals as goal
 use Rattle.checker.proofs.step.check_list_step.Lts as lts
 use Rattle.checker.proofs.step.check_list_step.Tie as tie
 
-abbrev Start : Type 0
-Start = lts.Start tie.the-claims tie.handed_pre tie.handed_post
-
-abbrev After-wide-m : Type 0
-After-wide-m = lts.After-wide tie.the-claims tie.handed_pre tie.handed_post
-
 abbrev After-is_proper : Type 0
 After-is_proper = lts.After-is_proper tie.the-claims tie.handed_pre tie.handed_post
 
-abbrev start : After-wide-m → Start
-start c = c.before.before.before.before.before.before
-
 -- the list is read and tested
 module _ (c : After-is_proper) where
-  abbrev read : After-wide-m
-  read = c.before.before.before.before.before
-
   abbrev first : ℕ
   first = c.args.at + 2
 

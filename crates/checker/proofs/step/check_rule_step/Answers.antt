@@ -10,17 +10,11 @@ use Rattle.checker.proofs.step.check_rule_step.Goals as goal
 use Rattle.checker.proofs.step.check_rule_step.Lts as lts
 use Rattle.checker.proofs.step.check_rule_step.Tie as tie
 
-abbrev Start : Type 0
-Start = lts.Start tie.the-claims tie.handed_pre tie.handed_post
-
 abbrev Else-shape-n : Type 0
 Else-shape-n = lts.Else2 tie.the-claims tie.handed_pre tie.handed_post
 
 -- the rule is read
 module _ (c : Else-shape-n) where
-  abbrev start : Start
-  start = c.before.before.before.before.before.before.before.before
-
   rule : Ruled (book_in c.args.book.now) c.args.paper.now c.args.trailer.from c.args.at
   rule = record {
     here = c.requires.1;

@@ -20,23 +20,11 @@ use Rattle.checker.proofs.witness.check_order.Goals as goal
 use Rattle.checker.proofs.witness.check_order.Lts as lts
 use Rattle.checker.proofs.witness.check_order.Tie as tie
 
-abbrev Start : Type 0
-Start = lts.Start tie.the-claims tie.handed_pre tie.handed_post goal.the-invariant-loop-i goal.the-decreases-loop-i
-
-abbrev At-loop-i : Type 0
-At-loop-i = lts.At-loop tie.the-claims tie.handed_pre tie.handed_post goal.the-invariant-loop-i goal.the-decreases-loop-i
-
 abbrev After-has : Type 0
 After-has = lts.After-has tie.the-claims tie.handed_pre tie.handed_post goal.the-invariant-loop-i goal.the-decreases-loop-i
 
-abbrev Else-has : Type 0
-Else-has = lts.Else2 tie.the-claims tie.handed_pre tie.handed_post goal.the-invariant-loop-i goal.the-decreases-loop-i
-
 abbrev After-every_in : Type 0
 After-every_in = lts.After-every_in tie.the-claims tie.handed_pre tie.handed_post goal.the-invariant-loop-i goal.the-decreases-loop-i
-
-abbrev Else-not-every_in : Type 0
-Else-not-every_in = lts.Else3 tie.the-claims tie.handed_pre tie.handed_post goal.the-invariant-loop-i goal.the-decreases-loop-i
 
 abbrev After-head : Type 0
 After-head = lts.After-head tie.the-claims tie.handed_pre tie.handed_post goal.the-invariant-loop-i goal.the-decreases-loop-i
@@ -44,14 +32,8 @@ After-head = lts.After-head tie.the-claims tie.handed_pre tie.handed_post goal.t
 pub loop-i-init : goal.loop-i-init
 loop-i-init c = ordered-start _ _ _ _ (listed-empty (replicate {A = ℕ} 4 0) members-nothing)
 
--- the turn's number is one of the book: the turn of the loop, the start, and that its positive atoms have places in the table
+-- the turn's number is one of the book: that its positive atoms have places in the table
 module _ (c : After-has) where
-  abbrev turn : At-loop-i
-  turn = c.before.before.before.before.before.before
-
-  abbrev start : Start
-  start = c.before.before.before.before.before.before.before.before.before
-
   abbrev rule_at : Rule
   rule_at = rule (book_in c.args.book.now) (rule_no (get_or c.args.list.now c.loop-i.i 0))
 
@@ -60,23 +42,11 @@ module _ (c : After-has) where
 
 -- its positive atoms are looked up, as it wasn't listed before
 module _ (c : After-every_in) where
-  abbrev unlisted : Else-has
-  unlisted = c.before.before.before
-
-  abbrev known : After-has
-  known = c.before.before.before.before
-
   looked-up : every (atoms_in c.loop-i.headed) (rule_at c.before.before.before.before).pos ≡ c.every_in.result
   looked-up = sym (every-part _ _ _ c.positives.ensures) ∙ sym c.every_in.ensures
 
 -- its head is read, as all its positive atoms are there, and has a place in the table
 module _ (c : After-head) where
-  abbrev all_there : Else-not-every_in
-  all_there = c.before.before.before
-
-  abbrev asked : After-every_in
-  asked = c.before.before.before.before
-
   place : c.head.result.0 < 255
   place = head_small _ _ c.requires.0 _ (omega arith) (omega arith) _ c.head.ensures
 

@@ -28,13 +28,10 @@ After-check_order = lts.After-check_order tie.the-claims tie.handed_pre tie.hand
 abbrev In_default : Type 0
 In_default = lts.Past-After-enum_told tie.the-claims tie.handed_pre tie.handed_post
 
-abbrev After-with_rules-all : Type 0
-After-with_rules-all = lts.After-with_rules tie.the-claims tie.handed_pre tie.handed_post
-
 abbrev After-heads_of : Type 0
 After-heads_of = lts.After-heads_of tie.the-claims tie.handed_pre tie.handed_post
 
--- behind the first pass: the start, and the witness as the code has it
+-- behind the first pass: the witness as the code has it
 module _ (c : After-check_order) where
   abbrev start : Start
   start = c.before.before.before.before.before
@@ -47,9 +44,6 @@ module _ (c : After-check_order) where
 
 -- the order is right
 module _ (c : In_default) where
-  abbrev first : After-check_order
-  first = c.before
-
   ordered : order_of (book_in c.args.book.now) (from c.before) [] (list c.before) ≡ fine
   ordered = sym c.check_order.ensures ∙ ap verdict c.in_default.is
 
@@ -58,12 +52,6 @@ module _ (c : In_default) where
 
 -- the tables are made
 module _ (c : After-heads_of) where
-  abbrev made : After-with_rules-all
-  made = c.before.before.before.before
-
-  abbrev right : In_default
-  right = c.before.before.before.before.before.before.before
-
   -- the last argument of heads_of, as it left it
   abbrev headed : List Bool
   headed = c.heads_of.new.out

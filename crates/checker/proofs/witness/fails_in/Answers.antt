@@ -12,17 +12,11 @@ use Rattle.checker.proofs.witness.fails_in.Goals as goal
 use Rattle.checker.proofs.witness.fails_in.Lts as lts
 use Rattle.checker.proofs.witness.fails_in.Tie as tie
 
-abbrev Start : Type 0
-Start = lts.Start tie.the-claims tie.handed_pre tie.handed_post
-
 abbrev After-every_in : Type 0
 After-every_in = lts.After-every_in tie.the-claims tie.handed_pre tie.handed_post
 
 -- the positive atoms are looked up
 module _ (c : After-every_in) where
-  abbrev start : Start
-  start = c.before.before.before
-
   looked-up : every (atoms_in c.args.headed.now) (rule (book_in c.args.book.now) c.args.r).pos
       ≡ c.every_in.result
   looked-up = sym (every-part _ _ _ c.positives.ensures) ∙ sym c.every_in.ensures
