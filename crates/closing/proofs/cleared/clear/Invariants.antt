@@ -1,0 +1,15 @@
+use lib.ListN.{length}
+use Rattle.meaning.specs.Lowest.{rules_in}
+use Rattle.meaning.specs.Bits.{listed}
+use Rattle.meaning.specs.Written.{of}
+use Rattle.meaning.specs.Suspects.{live}
+use Rattle.book.specs.Format.{book_in}
+use Rattle.closing.proofs.Clearing.{Clearing}
+use Rattle.closing.proofs.cleared.clear.Given as goal
+
+abbrev pub invariant-loop-shape : goal.invariant-loop-shape
+invariant-loop-shape l =
+    Clearing (book_in l.book) (of (listed l.suspects)) (of (listed l.initial.held)) (of (listed l.held)) (of (listed l.cand))
+
+abbrev pub decreases-loop-shape : goal.decreases-loop-shape
+decreases-loop-shape l = length (rules_in (book_in l.book) (live (of (listed l.held))))

@@ -1,0 +1,19 @@
+use mathlib.Core.Path.{◌≡◌}
+use Prim.Native.Nat.{◌≤◌, ◌-◌}
+use borrow.Author.Rules.{rules}
+use Rattle.meaning.specs.Colours.{heads}
+use Rattle.meaning.specs.Bits.{listed}
+use Rattle.meaning.specs.Written.{of}
+use Rattle.book.specs.Tables.{atom_table}
+use Rattle.book.specs.Format.{book_in}
+use Rattle.closing.specs.Growing.{Pass}
+use Rattle.closing.specs.Conditions.{marking}
+use Rattle.closing.proofs.marking.sweep.Given as goal
+
+abbrev pub invariant-loop-r : goal.invariant-loop-r
+invariant-loop-r l =
+    (l.r ≤ l.shape.rules) × Pass (book_in l.book) (marking (book_in l.book) (of (listed l.off))) l.r (listed l.initial.marks) (listed l.marks) l.more
+    × (l.supported ≡ atom_table (heads (book_in l.book) (of (listed l.marks))))
+
+abbrev pub decreases-loop-r : goal.decreases-loop-r
+decreases-loop-r l = l.shape.rules - l.r

@@ -1,0 +1,14 @@
+use mathlib.Core.Path.{◌≡◌}
+use Prim.Native.Nat.{ℕ, ◌-◌}
+use Rattle.meaning.specs.Bits.{plus, members, NextIn}
+use Rattle.closing.specs.News.{rows_below}
+use Rattle.closing.proofs.propagation.spread.Given as goal
+
+abbrev pub invariant-loop-a : goal.invariant-loop-a
+invariant-loop-a l =
+    ((from : ℕ) × NextIn (members l.atoms) from l.a)
+    × (members l.by_neg ≡ plus (members l.initial.by_neg) (rows_below l.rows 512 (members l.atoms) l.a))
+    × (members l.by_pos ≡ plus (members l.initial.by_pos) (rows_below l.rows 256 (members l.atoms) l.a))
+
+abbrev pub decreases-loop-a : goal.decreases-loop-a
+decreases-loop-a l = 256 - l.a

@@ -1,0 +1,8 @@
+-- A row by value is joined as the row of the table.
+use Rattle.closing.proofs.Spreading.{row-joined}
+use Rattle.closing.proofs.suspected.join_standing.Goals as goal
+
+pub returns : goal.returns
+returns c =
+    let s = c.args in
+    row-joined s.rows.now s.set.now c.pos_row-pos.result.w _ c.pos_row-pos.ensures c.join.ensures
