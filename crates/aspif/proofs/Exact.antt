@@ -29,6 +29,7 @@ body-long r = simp length-append (omega (arith, part-long 32 [] r.pos, part-long
 
 line-within : (l : List Rule) (r : Rule) → Memᴰ r l → length (rule_line r) ≤ length (rule_lines l)
 unfolding rule_lines
+line-within [] r h = elim h [ ]
 line-within (q ∷ l) r (Memᴰ.head p) = rw p (simp length-append (omega arith))
 line-within (q ∷ l) r (Memᴰ.tail m) = simp length-append (omega (arith, line-within l r m))
 

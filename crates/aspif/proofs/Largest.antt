@@ -9,6 +9,7 @@ use Rattle.aspif.specs.Reading.{top_atom, top_rule, top_rules}
 
 pub atom-below : (l : List AtomNo) (a : AtomNo) → Memᴰ a l → a.0 < top_atom l
 unfolding top_atom
+atom-below [] a h = elim h [ ]
 atom-below (b ∷ l) a (Memᴰ.head p) = rw p (omega arith)
 atom-below (b ∷ l) a (Memᴰ.tail m) = omega (arith, atom-below l a m)
 
@@ -19,6 +20,7 @@ atoms-top n (a ∷ l) f = omega (arith, f a (Memᴰ.head refl), atoms-top n l (�
 
 pub rule-below : (l : List Rule) (r : Rule) → Memᴰ r l → top_rule r ≤ top_rules l
 unfolding top_rules
+rule-below [] r h = elim h [ ]
 rule-below (q ∷ l) r (Memᴰ.head p) = rw p (omega arith)
 rule-below (q ∷ l) r (Memᴰ.tail m) = omega (arith, rule-below l r m)
 

@@ -27,7 +27,7 @@ use Rattle.aspif.specs.Scanning.{went, seen, Reaches}
 use Rattle.aspif.specs.Gathering.{Rises, PartSeen}
 use Rattle.aspif.specs.Lining.{Lined, lined, other, RulesSeen}
 use Rattle.aspif.proofs.Pieces.{on-got, on-outside, item_back}
-use Rattle.aspif.proofs.Scanned.{behind, reaches}
+use Rattle.aspif.proofs.Scanned.{reaches}
 use Rattle.aspif.proofs.PartsRead.{part-rises}
 
 -- ---- a body

@@ -183,16 +183,16 @@ module _ (b : Book) (k : Claim) (s : List ℕ) (from : ℕ) where
   branch-done (step-41 {c = c} r i m p) at rest e h (suc f) g =
       let (x, y, d) = read-two s at e in
       goes-done f at c (rw y at (is-step b k s from at c (held (form-41 x (omega arith) (rw y i)) (rw y m))))
-      (branch-done p (at + 2) rest d (omega arith) f (omega arith)) (omega arith)
+      (branch-done {c = put on_side (r ∷ []) c} p (at + 2) rest d (omega arith) f (omega arith)) (omega arith)
   branch-done (step-42 {c = c} r i m p) at rest e h (suc f) g =
       let (x, y, d) = read-two s at e in
       goes-done f at c (rw y at (is-step b k s from at c (held (form-42 x (omega arith) (rw y i)) (rw y m))))
-      (branch-done p (at + 2) rest d (omega arith) f (omega arith)) (omega arith)
+      (branch-done {c = put off_side (r ∷ []) c} p (at + 2) rest d (omega arith) f (omega arith)) (omega arith)
   branch-done (step-55 {c = c} {l = l} w n a i m p) at rest e h (suc f) g =
       let (x, y, z, d) = list_read s at w (e ∙ ap (λ (r : List ℕ). code_unfounded ∷ (length w ∷ r)) (append_assoc (numbers w) l rest)) in
       let v : length (numbers w ++ l) ≡ length w + length l = length-append (numbers w) l ∙ rw (length-map w (λ r. r.0)) in
       goes-done f at c (drops at c w x y z (omega arith) n a i m)
-      (branch-done p (at + 2 + length w) rest d (omega arith) f (omega arith)) (omega arith)
+      (branch-done {c = put off_side w c} p (at + 2 + length w) rest d (omega arith) f (omega arith)) (omega arith)
   branch-done (step-53 {c = c} {l = l} {m = m'} r i m p q) at rest e h (suc f) g =
       let (x, y, d₁) = read-two s at e in
       let d₂ = d₁ ∙ append_assoc l m' rest in
@@ -200,8 +200,8 @@ module _ (b : Book) (k : Claim) (s : List ℕ) (from : ℕ) where
       let v : length (l ++ m') ≡ length l + length m' = length-append l m' in
       let n : at + 2 + length l + length m' ≡ at + suc (suc (length (l ++ m'))) = omega arith in
       turn f at c (rw y at (is-step b k s from at c (held (form-53 x u (rw y i)) (rw y m))))
-      ∙ rw (branch-done p (at + 2) (m' ++ rest) d₂ (omega arith) f (omega arith))
-      (branch-done q (at + 2 + length l) rest (read_past s (at + 2) l d₂) (omega arith) f (omega arith))
+      ∙ rw (branch-done {c = put on_side (r ∷ []) c} p (at + 2) (m' ++ rest) d₂ (omega arith) f (omega arith))
+      (branch-done {c = put off_side (r ∷ []) c} q (at + 2 + length l) rest (read_past s (at + 2) l d₂) (omega arith) f (omega arith))
       ∙ ap done n
   branch-done (step-45 {c = c} m) at rest e h (suc f) g =
       turn f at c (is-step b k s from at c (held (form-45 (read_one s at e).0 (omega arith)) m))

@@ -27,6 +27,7 @@ pub number-member : (l : List ℕ) (r : RuleNo) → r ∈ among (map rule_no l) 
 number-member l r m = back l (among-member (map rule_no l) r m)
   where
     back : (l : List ℕ) → Memᴰ r (map rule_no l) → Memᴰ r.0 l
+    back [] h = elim h [ ]
     back (n ∷ l) (Memᴰ.head p) = Memᴰ.head (ap (λ (q : RuleNo). q.0) p)
     back (n ∷ l) (Memᴰ.tail m) = Memᴰ.tail (back l m)
 
@@ -34,6 +35,7 @@ pub member-rule : (l : List ℕ) (n : ℕ) → Memᴰ n l → rule_no n ∈ amon
 member-rule l n m = member-among (map rule_no l) (rule_no n) (there l m)
   where
     there : (l : List ℕ) → Memᴰ n l → Memᴰ (rule_no n) (map rule_no l)
+    there [] h = elim h [ ]
     there (i ∷ l) (Memᴰ.head p) = Memᴰ.head (ap rule_no p)
     there (i ∷ l) (Memᴰ.tail m) = Memᴰ.tail (there l m)
 

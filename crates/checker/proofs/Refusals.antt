@@ -21,7 +21,7 @@ use Rattle.checker.specs.Check.{check_of}
 use Rattle.checker.specs.Rows.{count_of, start_of, claim_of, witness_bytes, LengthGood, MarkGood, TrailerGood, AtomGood, FramedPaper}
 use Rattle.checker.specs.Rows.{Malformed, Unheld, Comes, first_step}
 use Rattle.checker.specs.Places.{UngroundedAt}
-use Rattle.checker.proofs.Steps.{StepIs, malformed, unheld}
+use Rattle.checker.proofs.Steps.{StepIs, malformed, unheld, held}
 use Rattle.checker.proofs.Branches.{done-between, done-branch, part-done}
 use Rattle.checker.proofs.Comes.{refused-comes, comes-refused}
 use Rattle.checker.proofs.Grounds.{grounds-wrong, wrong-grounds}
@@ -119,6 +119,7 @@ module _ (book paper : List ℕ) where
     where
       is-malformed : {c : Pair} → StepIs b k paper from at c (fails 24) → Malformed b paper from at
       is-malformed (malformed m) = m
+      is-malformed (held {t = t} h _) = elim h [ ]
 
       there : PaperRow b paper (refused_at 24 at) → FramedPaper b paper × (c : Pair) × Comes b k paper from at c × Malformed b paper from at
       there (at-form f e) = let (c, p, q) = came f e in (f, c, p, is-malformed q)
@@ -130,6 +131,7 @@ module _ (book paper : List ℕ) where
       (λ (f, c, p, u). at-step f (comes-refused b k paper from (inside f) 25 at p (unheld u.formed u.fails)))
     where
       is-unheld : {c : Pair} → StepIs b k paper from at c (fails 25) → Unheld b k paper from at c
+      is-unheld (held {t = t} h _) = elim h [ ]
       is-unheld (unheld f e) = record { test = _; next = _; formed = f; fails = e }
 
       there : PaperRow b paper (refused_at 25 at) → FramedPaper b paper × (c : Pair) × Comes b k paper from at c × Unheld b k paper from at c

@@ -204,6 +204,7 @@ module _ (b : Book) (k : Claim) (s : List ℕ) (from at : ℕ) (c : Pair) where
   formed-further (form-45 p h) = (omega arith, omega arith)
 
   pub fails-number : {i : ℕ} → StepIs b k s from at c (fails i) → (i ≡ 24) ⊎ (i ≡ 25)
+  fails-number {i = i} (held {t = t} h _) = elim h [ ]
   fails-number (malformed m) = inl refl
   fails-number (unheld f e) = inr refl
 

@@ -100,6 +100,7 @@ module _ (b : Book) where
   module _ (x : Atoms) where
     blocked-fine : (at : ℕ) (l : List ℕ) → blocked_of b x at l ≡ fine → (n : ℕ) → Memᴰ n l → some x (rule b (rule_no n)).neg ≡ false
     unfolding blocked_of
+    blocked-fine at [] e i h = elim h [ ]
     blocked-fine at (n ∷ l) e i (Memᴰ.head p) = rw p (fine-no _ _ _ e).0
     blocked-fine at (n ∷ l) e i (Memᴰ.tail m) = blocked-fine (at + 1) l (fine-no _ _ _ e).1 i m
 

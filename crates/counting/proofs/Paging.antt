@@ -42,9 +42,9 @@ module _ (es done later : List Event) (t : ℕ) (w : es ≡ done ++ later) (e : 
   front_fits : t ≤ length es
   front_fits = omega (arith, e, ap length w, length-append done later)
 
-row_before : (m n : ℕ) → 1 ≤ m → m * n - n ≡ (m - 1) * n
-row_before zero n h = absurd (omega arith)
-row_before (suc m) n h = let z : suc m - 1 ≡ m = omega arith in omega (arith, suc-mul m n, ap (λ (k : ℕ). k * n) z)
+row-front : (m n : ℕ) → 1 ≤ m → m * n - n ≡ (m - 1) * n
+row-front zero n h = absurd (omega arith)
+row-front (suc m) n h = let z : suc m - 1 ≡ m = omega arith in omega (arith, suc-mul m n, ap (λ (k : ℕ). k * n) z)
 
 -- what is asked before m rows are added
 pub record Addable (atoms limit sets : ℕ) (counts : List ℕ) (m : ℕ) : Type 0 where
@@ -148,7 +148,7 @@ module _ (s : List ℕ) (h : Shape) (e : ReadAs s h) where
 
         last-is : {kept : List ℕ} → kept ≡ take h.atoms (drop (full * h.atoms - h.atoms) page)
             → kept ≡ last_row b (room_in b (length rows)) (page_in b limit tries row_before rows).buffer
-        last-is q = q ∙ rw (row_before full h.atoms full-one, ← shape-atoms s h e, full_is, page-bytes)
+        last-is q = q ∙ rw (row-front full h.atoms full-one, ← shape-atoms s h e, full_is, page-bytes)
 
         pub more-counted : length page ≡ 65280 → {kept added : List ℕ} → kept ≡ take h.atoms (drop (full * h.atoms - h.atoms) page)
             → added ≡ summed h.atoms counts (sets_in h.atoms full page) → SoFar b limit (sets + full) t kept added × (tries < t)

@@ -31,6 +31,7 @@ module _ (a : AtomNo) where
 
   pub holder-counts : (l : List Atoms) (x : Atoms) → Memᴰ x l → a ∈ x → 0 < standing a l
   unfolding standing ifb
+  holder-counts [] x h e = elim h [ ]
   holder-counts (y ∷ l) x (Memᴰ.head p) e = rw (rw p at e) (omega arith)
   holder-counts (y ∷ l) x (Memᴰ.tail m) e =
       b-either (λ n. 0 < n) (y a) _ _ (λ q. omega arith) (λ q. holder-counts l x m e)
@@ -43,6 +44,7 @@ module _ (a : AtomNo) where
 
   pub lacker-counts : (l : List Atoms) (x : Atoms) → Memᴰ x l → a ∉ x → standing a l < length l
   unfolding standing ifb
+  lacker-counts [] x h e = elim h [ ]
   lacker-counts (y ∷ l) x (Memᴰ.head p) e = rw (rw p at e) (omega (arith, standing-at-most l))
   lacker-counts (y ∷ l) x (Memᴰ.tail m) e = let h = lacker-counts l x m e in
       b-either (λ n. n < suc (length l)) (y a) _ _ (λ q. omega arith) (λ q. omega arith)

@@ -11,7 +11,7 @@ use Rattle.lparse.specs.declared.due.Standing.TheVariants.{Table as InTable, Plu
 use Rattle.lparse.specs.declared.due.Said.TheVariants.{Nothing as Silent, Atom}
 use Rattle.lparse.specs.Words.{Word}
 use Rattle.lparse.specs.Reading.{text_atom, on_listed, on_number, on_sign, move_of, Entry, Part, with, with_atom, says, heard}
-use Rattle.lparse.specs.Says.{Token, number, name, exactly, atom_tokens, table_tokens, minus_tokens, plus_tokens, behind_rules, Spelled, Spelling, from_one}
+use Rattle.lparse.specs.Says.{Token, number, exactly, atom_tokens, table_tokens, minus_tokens, plus_tokens, behind_rules, Spelled, Spelling, from_one}
 use Rattle.lparse.proofs.Phases.{NoRule, NoTable, NoPlus, NoMinus, Fits, FitsRole}
 use Rattle.lparse.proofs.Spelled.{RestRole, Rest}
 use Rattle.lparse.proofs.Tokens.{first_one, others-one, token-one, tokens-one, spelled-value, spelled-name, spelled-bytes, number-move, listed-move, sign-move}

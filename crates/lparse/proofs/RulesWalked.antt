@@ -102,6 +102,7 @@ rules-walked ws r = rules-all [] (Number Kind) nothing_left r.rules r.atoms r.he
   where
     nothing_left : (vs : List Word) → Spelling vs [] → Walked (Number Kind) vs (Number Kind)
     nothing_left [] none = here
+    nothing_left (_ ∷ _) h = elim h [ ]
 
 -- ---- and what is read from type to type is whole rules
 

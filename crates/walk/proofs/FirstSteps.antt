@@ -120,4 +120,4 @@ module _ (b : Book) (s : List AtomNo) (x : Atoms) where
 
     pub first-fork : verdict_from c ≡ or_else (verdict_from (chosen on_side r d)) (verdict_from (chosen off_side r d))
     unfolding readings_in
-    first-fork = rw (events-fork f, readings-append) (first-append b s x _ _)
+    first-fork = rw (events-fork f, readings-append b _ _) (first-append b s x _ _)

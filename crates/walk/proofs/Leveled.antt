@@ -9,7 +9,6 @@ use native.Mathlib.Omega.{arith}
 use lib.Dec.{eqb}
 use lib.ListN.{length, get_or, take, drop, set, replicate, get_or-append, get_or-eq_default, length-replicate, get_or-replicate}
 use lib.Seq.{paste, length-take-le, get_or-take, get_or-drop, get_or-append-add}
-use types.Run.{OneOf}
 use denote.Enum.Declared.{tag_of}
 use Rattle.meaning.specs.Written.{Tables}
 use Rattle.meaning.specs.Books.{Atoms, Book, count}
@@ -62,11 +61,11 @@ module _ (levels out : List ℕ) (n : ℕ) (long : n ≤ length levels) where
 
 -- ---- the ways of a call
 
--- a state whose tag is none of the others
-full-told : (b : Book) (h : Halt) (row out : List ℕ) → OneOf (0 ∷ (2 ∷ [])) (tag_of the_type h) → levels_by b h row out ≡ out
+-- a state that is none of the others
+full-told : (b : Book) (h : Halt) (row out : List ℕ) → (h ≡ Full → ⊥) → levels_by b h row out ≡ out
 unfolding levels_by
 full-told b Going row out k = refl
-full-told b Full row out k = absurd (⊎_elim (λ z. omega arith) (λ z. omega arith) k)
+full-told b Full row out k = absurd (k refl)
 full-told b Limit row out k = refl
 
 module _ (s : List ℕ) (h : Shape) (e : ReadAs s h) (k limit : ℕ) (out : List ℕ) where
@@ -92,7 +91,7 @@ module _ (s : List ℕ) (h : Shape) (e : ReadAs s h) (k limit : ℕ) (out : List
           rw (g ∙ any-buffer t.halt t limit [] row)
           (sym (eq_no _ _ _ _ n ∙ lt_no _ _ _ _ (omega (arith, shape-count s h e)) ∙ ap (λ (u : State). leveled_by b u limit out) (sym f)))
 
-      pub levels-other : OneOf (0 ∷ (2 ∷ [])) (tag_of the_type t.halt) → record { told = r; buffer = out } ≡ levels_in (book_in s) k limit out
+      pub levels-other : (t.halt ≡ Full → ⊥) → record { told = r; buffer = out } ≡ levels_in (book_in s) k limit out
       levels-other o = rw (full-told b t.halt row out o) at levels-walked
 
       pub levels-full : t.halt ≡ Full → {d : Tables} → d ≡ down (book_in s) nothing (set_in row) → {w : List ℕ}

@@ -40,14 +40,14 @@ module _ {b : Book} where
   walk-sound (at-reading k t p) x m = rw (Memᴰ.eq_of_singleton m) (stands-reading k t p)
   walk-sound (at_fork f v w) x m = ⊎_elim
       (λ e. side-stands f on_side x (walk-sound v x e)) (λ e. side-stands f off_side x (walk-sound w x e))
-      (Memᴰ.append_cases _ (rw readings-append at m))
+      (Memᴰ.append_cases _ (rw (readings-append b _ _) at m))
 
   pub walk-complete : {c : Tables} {es : List Event} → Walk b c es → (x : Atoms) → Stands b c x
       → (y : Atoms) × Memᴰ y (readings_in b es) × Agree x y
   unfolding readings_in side
   walk-complete (at_clash k t) x s = absurd (stands-clash k t x s)
   walk-complete (at-reading {d = d} k t p) x s = (reading_of b d, Memᴰ.head refl, reading-only k t p x s)
-  walk-complete (at_fork {d = d} {r = r} f v w) x s = rw readings-append (⊎_elim
+  walk-complete (at_fork {d = d} {r = r} f v w) x s = rw (readings-append b _ _) (⊎_elim
       (λ g. let (y, m, e) = walk-complete v x (stands-side f on_side x s g) in (y, Memᴰ.append_left _ m, e))
       (λ g.
       let (y, m, e) = walk-complete w x (stands-side f off_side x s (ap not g)) in
@@ -58,7 +58,7 @@ module _ {b : Book} where
   unfolding readings_in
   walk-ordered (at_clash k t) = no_more
   walk-ordered (at-reading k t p) = comes-first (λ y m. absurd (Memᴰ.not-nil m)) no_more
-  walk-ordered (at_fork f v w) = rw readings-append (ordered-append b (walk-ordered v) (walk-ordered w)
+  walk-ordered (at_fork f v w) = rw (readings-append b _ _) (ordered-append b (walk-ordered v) (walk-ordered w)
       (λ x m y n. fork-before f x y (walk-sound v x m) (walk-sound w y n)))
 
 -- ---- the readings of the book

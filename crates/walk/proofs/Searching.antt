@@ -6,8 +6,6 @@ use mathlib.Core.List.{List, [], ◌∷◌}
 use mathlib.Core.Logic.{⊎_elim}
 use Prim.Native.Nat.{ℕ}
 use native.Mathlib.Omega.{arith}
-use types.Run.{OneOf}
-use denote.Enum.Declared.{tag_of}
 use Rattle.meaning.specs.declared.AtomNo.{AtomNo}
 use Rattle.meaning.specs.declared.RuleNo.{RuleNo}
 use Rattle.meaning.specs.Sets.{every_below}
@@ -32,7 +30,6 @@ use Rattle.walk.specs.FirstAlike.{lost_shown, first_among, or_else, is_this}
 use Rattle.walk.specs.Search.{lost_in, Searches, TellsFirst}
 use Rattle.walk.specs.declared.verdict.Verdict.{Verdict}
 use Rattle.walk.specs.declared.verdict.Verdict.TheVariants.{Nobody, This, Another}
-use Rattle.walk.specs.contracts.verdict.Verdict.{the_type}
 use Rattle.walk.proofs.Events.{Closes, Forks}
 use Rattle.walk.proofs.FirstSteps.{first-clash, first-left, first-total, total-same, side-avoids, first-fork}
 
@@ -101,9 +98,9 @@ module _ {b : Book} {t : List ℕ} (rows : RuleRows b t) (inside : List ℕ) whe
 
 -- ---- both ways
 
-or-else-told : (v w : Verdict) → OneOf (1 ∷ (2 ∷ [])) (tag_of the_type v) → or_else v w ≡ v
+or-else-told : (v w : Verdict) → (v ≡ Nobody → ⊥) → or_else v w ≡ v
 unfolding or_else
-or-else-told Nobody w k = ⊎_elim (λ z. absurd (omega arith)) (λ z. absurd (omega arith)) k
+or-else-told Nobody w k = absurd (k refl)
 or-else-told This w k = refl
 or-else-told Another w k = refl
 
@@ -124,7 +121,7 @@ module _ {b : Book} (inside on : List ℕ) {c d : Tables} {r : RuleNo} (f : Fork
     abbrev off-verdict : List AtomNo → Atoms → Verdict
     off-verdict s x = first_among b s x (readings_in b (events b (chosen off_side r d)))
 
-    pub tells-on : OneOf (1 ∷ (2 ∷ [])) (tag_of the_type v) → TellsFirst b inside on c v
+    pub tells-on : (v ≡ Nobody → ⊥) → TellsFirst b inside on c v
     tells-on k = record {
       each = λ s x g. sym (first-fork b s x f ∙ ap (λ (u : Verdict). or_else u (off-verdict s x)) (sym (on-verdict s x g))
           ∙ or-else-told v _ k);
@@ -143,8 +140,8 @@ pub this-told : (v : Verdict) → v ≡ This → true ≡ is_this v
 unfolding is_this
 this-told v e = rw e
 
-pub not-this : (v : Verdict) → OneOf (0 ∷ (2 ∷ [])) (tag_of the_type v) → false ≡ is_this v
+pub not-this : (v : Verdict) → (v ≡ This → ⊥) → false ≡ is_this v
 unfolding is_this
 not-this Nobody k = refl
-not-this This k = ⊎_elim (λ z. absurd (omega arith)) (λ z. absurd (omega arith)) k
+not-this This k = absurd (k refl)
 not-this Another k = refl

@@ -7,8 +7,6 @@ use mathlib.Core.List.{List, [], ◌∷◌, ◌++◌}
 use Prim.Native.Nat.{ℕ, ◌+◌, ◌≤◌, ◌<◌}
 use native.Mathlib.Omega.{arith}
 use lib.ListN.{length}
-use types.Run.{OneOf}
-use denote.Enum.Declared.{tag_of}
 use Rattle.meaning.specs.declared.RuleNo.{RuleNo}
 use Rattle.meaning.specs.Written.{Tables}
 use Rattle.meaning.specs.Sets.{Set}
@@ -56,10 +54,6 @@ going-or-not : (h : Halt) → (h ≡ Going) ⊎ (h ≡ Going → ⊥)
 going-or-not Going = inl refl
 going-or-not Full = inr (λ e. apart (cc))
 going-or-not Limit = inr (λ e. apart (cc))
-
--- a state whose tag is none of the others
-pub halted-told : (h : Halt) → OneOf (1 ∷ (2 ∷ [])) (tag_of the_type h) → h ≡ Going → ⊥
-halted-told h k e = ⊎_elim (λ z. omega arith) (λ z. omega arith) (rw e at k)
 
 module _ {b : Book} {pass room : ℕ} {s : State} (f : Room b pass room s) where
   pub room-tried : {t : Tally} → s.tally.halt ≡ Going → t ≡ counted s s.tally.sets Going
