@@ -1,6 +1,5 @@
 -- `all_digits`: as long as no other byte was met, the rest of the word decides.
 use mathlib.Core.Path.{sym, ◌∙◌}
-use Prim.Native.Nat.{◌-◌}
 use native.Mathlib.Omega.{arith}
 use borrow.Author.Rules.{rules}
 use Rattle.talk.proofs.Turns.{digits-end, digits-turn}
@@ -15,12 +14,11 @@ returns-then-digit-gt15 c =
     )))
 
 pub loop-i-preserved : goal.loop-i-preserved
-loop-i-preserved c =
-    (
-      search rules,
-      c.loop-i.invariant.1 ∙ digits-turn c.args.word.now c.loop-i.i (omega arith)
-          ∙ lt_yes _ _ _ _ (omega (arith, c.digit.ensures)),
-    )
+loop-i-preserved c = (
+  search rules,
+  c.loop-i.invariant.1 ∙ digits-turn c.args.word.now c.loop-i.i (omega arith)
+      ∙ lt_yes _ _ _ _ (omega (arith, c.digit.ensures)),
+)
 
 pub returns : goal.returns
 returns c = sym (c.loop-i.invariant.1 ∙ digits-end c.args.word.now c.loop-i.i (omega arith))

@@ -29,16 +29,16 @@ pub returns-then-room-n-clause-value : goal.returns-then-room-n-clause-value
 unfolding decoded_of
 returns-then-room-n-clause-value c =
     sym (eq_no _ _ _ _ (λ e. omega arith) ∙ eq_no _ _ _ _ (λ e. omega arith) ∙ eq_no _ _ _ _ (λ e. omega arith)
-      ∙ lt_yes _ _ _ _ (omega arith))
+    ∙ lt_yes _ _ _ _ (omega arith))
 
 pub returns-then-not-all_digits-clause-value : goal.returns-then-not-all_digits-clause-value
 unfolding decoded_of
 returns-then-not-all_digits-clause-value c =
     sym (eq_no _ _ _ _ (λ e. omega arith) ∙ eq_no _ _ _ _ (λ e. omega arith) ∙ eq_no _ _ _ _ (λ e. omega arith)
-      ∙ lt_no _ _ _ _ (omega arith) ∙ b-no _ _ _ (sym c.all_digits.ensures ∙ c.if-not-all_digits.true))
+    ∙ lt_no _ _ _ _ (omega arith) ∙ b-no _ _ _ (sym c.all_digits.ensures ∙ c.if-not-all_digits.true))
 
 pub returns-clause-value : goal.returns-clause-value
 unfolding decoded_of
 returns-clause-value c =
     sym (eq_no _ _ _ _ (λ e. omega arith) ∙ eq_no _ _ _ _ (λ e. omega arith) ∙ eq_no _ _ _ _ (λ e. omega arith)
-      ∙ lt_no _ _ _ _ (omega arith) ∙ b-yes _ _ _ (sym c.all_digits.ensures ∙ c.if-not-all_digits.false))
+    ∙ lt_no _ _ _ _ (omega arith) ∙ b-yes _ _ _ (sym c.all_digits.ensures ∙ c.if-not-all_digits.false))

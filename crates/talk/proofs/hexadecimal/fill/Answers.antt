@@ -1,6 +1,5 @@
 -- `fill` stores one byte a turn, as its definition does.
 use mathlib.Core.Path.{◌≡◌}
-use Prim.Native.Nat.{◌-◌}
 use native.Mathlib.Omega.{arith}
 use borrow.Author.Rules.{rules}
 use Rattle.talk.proofs.Turns.{filled-turn}

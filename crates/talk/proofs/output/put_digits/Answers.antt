@@ -1,6 +1,5 @@
 -- `put_digits` writes the two digits of one byte a turn, as its definition does.
 use mathlib.Core.Path.{◌≡◌, refl}
-use Prim.Native.Nat.{◌-◌}
 use native.Mathlib.Omega.{arith}
 use lib.ListN.{length-set}
 use borrow.Author.Rules.{rules}
@@ -17,12 +16,11 @@ pub bounds-out-at-in-loop-i : goal.bounds-out-at-in-loop-i
 bounds-out-at-in-loop-i c = simp length-set (omega arith)
 
 pub loop-i-preserved : goal.loop-i-preserved
-loop-i-preserved c =
-    (
-      search rules,
-      spelled-turn _ _ c.loop-i.i _ _ c.digit.ensures c.digit-in-loop-i.ensures _ c.loop-i.invariant.1,
-      simp length-set c.loop-i.invariant.2,
-    )
+loop-i-preserved c = (
+  search rules,
+  spelled-turn _ _ c.loop-i.i _ _ c.digit.ensures c.digit-in-loop-i.ensures _ c.loop-i.invariant.1,
+  simp length-set c.loop-i.invariant.2,
+)
 
 pub returns : goal.returns
 returns c =

@@ -1,5 +1,4 @@
 -- `put_plain` is safe and ends, and its bytes lie within the buffer.
-use Prim.Native.Nat.{◌-◌}
 use native.Mathlib.Omega.{arith}
 use Rattle.system.proofs.Counting.{prefix_len_of_le}
 use Rattle.talk.proofs.output.put_plain.Goals as goal
