@@ -1,11 +1,9 @@
 -- The draft along the branches (specs/Draft, specs/Scan): a walk that is over leaves it, the limit stops it, and else one branch is taken
 -- down; behind a split the two walks go on from the colouring at the split, one after the other.
 use mathlib.Core.Path.{◌≡◌, refl, sym, ◌∙◌, ap}
-use mathlib.Core.Logic.{⊎_elim}
 use mathlib.Core.List.{List, [], ◌∷◌}
 use Prim.Native.Nat.{ℕ, ◌+◌, ◌≤◌, ◌<◌}
 use native.Mathlib.Omega.{arith}
-use lib.ListN.{length}
 use Rattle.meaning.specs.declared.RuleNo.{RuleNo}
 use Rattle.meaning.specs.Books.{Book, count}
 use Rattle.meaning.specs.Colours.{Pair, Side, on_side, off_side, put}

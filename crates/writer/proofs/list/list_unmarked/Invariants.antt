@@ -1,5 +1,4 @@
 use Prim.Native.Nat.{◌-◌, ◌≤◌}
-use borrow.Author.Rules.{rules}
 use Rattle.meaning.specs.Bits.{listed}
 use Rattle.writer.specs.Steps.{outside}
 use Rattle.writer.proofs.Lists.{Found}

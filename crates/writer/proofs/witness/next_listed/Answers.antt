@@ -1,12 +1,10 @@
 -- The lowest rule that may be listed next: no rule before may be.
-use Prim.Native.Nat.{◌-◌}
 use native.Mathlib.Omega.{arith}
 use mathlib.Core.Path.{◌≡◌, sym, ◌∙◌}
 use borrow.Author.Rules.{rules}
 use Rattle.meaning.specs.Books.{count}
 use Rattle.book.specs.Format.{book_in}
 use Rattle.book.proofs.Places.{shape-count}
-use Rattle.writer.specs.Steps.{may_list}
 use Rattle.writer.proofs.Searches.{none_yet, none_more, none_found, none_at_all}
 use Rattle.writer.proofs.witness.next_listed.Goals as goal
 use Rattle.writer.proofs.witness.next_listed.Lts as lts

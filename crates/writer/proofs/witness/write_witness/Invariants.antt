@@ -1,6 +1,4 @@
 use Prim.Native.Nat.{◌-◌}
-use borrow.Author.Rules.{rules}
-use Rattle.meaning.specs.Books.{count}
 use Rattle.meaning.specs.AnswerSet.{generating}
 use Rattle.meaning.specs.Bits.{listed}
 use Rattle.book.specs.Format.{book_in}
