@@ -1,6 +1,6 @@
 // What the atoms of a grounder's text are called: by the names that the table gives them, `#` and the
 // text's number where there is none, and what the helpers are.
-ghost use Rattle.io.specs.Counts.{IsPrefixLen};
+ghost use Rattle.system.specs.Counts.{IsPrefixLen};
 
 use crate::names::put_row;
 use imported::TextAtom;

@@ -15,7 +15,8 @@ pub fn put_row(name: &[u8], a: u8, names: &mut [u8])
     if names.len() < at + name.len() {
         return;
     }
-    bytes::copy(name, &mut names[at..]);
+    let end = at + name.len();
+    names[at..end].copy_from_slice(name);
 }
 
 // Copies the word from one place of the text up to another to the atom's row.

@@ -1,5 +1,4 @@
 // What stands at a place of a text: its word, and whether its line lists names.
-use check::same;
 use words::column_of;
 
 // The most bytes of a word that are shown: one more than a name may have.
@@ -54,7 +53,7 @@ pub fn word_at<'a>(text: &'a [u8], place: usize) -> &'a [u8] {
 // Whether the first word of the bytes is `atoms:`.
 fn starts_a_list(line: &[u8]) -> bool {
     let there = rest(line, blanks(line));
-    same(word_at(there, 0), b"atoms:")
+    word_at(there, 0) == b"atoms:".as_slice()
 }
 
 // Whether the line of the place is one that lists names.

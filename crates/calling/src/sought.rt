@@ -1,16 +1,17 @@
 // The atom of a grounder's text that has a name. The table may give one atom several names, and one
 // name to several atoms: no atom is picked then. Helpers have no name.
 use crate::opened::Asked;
-use check::same;
 use imported::TextAtom;
 use lparse::{Name, Whose, atom_at, nth_name};
+use std::rt::Env;
+use system::{PATH_ROOM, arg};
 
 // Whether the word stands in the text from one place up to another.
 fn stands_at(text: &[u8], from: usize, end: usize, word: &[u8]) -> bool {
     if end < from || text.len() < end {
         return false;
     }
-    same(&text[from..end], word)
+    &text[from..end] == word
 }
 
 // Whether the word is a name that the table gives the atom. All of them are looked at, and there are
@@ -64,9 +65,9 @@ fn sought(text: &[u8], seen: &[u32], word: &[u8]) -> Asked {
 }
 
 // Which of the text's atoms has the name that an argument is; nobody where it is missing or too long.
-pub fn asked_in(i: usize, text: &[u8], seen: &[u32]) -> Asked {
-    let mut word = io::buffer();
-    let n = os::arg(i, &mut word);
+pub fn asked_in(rt: &impl Env, i: usize, text: &[u8], seen: &[u32]) -> Asked {
+    let mut word = [0u8; PATH_ROOM];
+    let n = arg(rt, i, &mut word);
     if n == 0 {
         return Asked::Nobody;
     }

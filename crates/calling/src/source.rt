@@ -1,11 +1,12 @@
 // Where the book of a call comes from, and how it is opened.
 ghost use Rattle.std.specs.Prelude.{◌≤◌};
-ghost use Rattle.io.specs.Counts.{IsPrefixLen};
+ghost use Rattle.system.specs.Counts.{IsPrefixLen};
 
 use crate::grounded::open_text;
 use crate::opened::{Asked, Opened};
 use crate::worded::open_words;
-use check::same;
+use std::rt::{Env, Files};
+use system::arg;
 use talk::{complain_of_call, read_argument};
 
 #[derive(Clone, Copy)]
@@ -19,23 +20,23 @@ pub enum Source {
 }
 
 // What an argument says of the book that stands in its place.
-pub fn source_at(i: usize) -> Source {
+pub fn source_at(rt: &impl Env, i: usize) -> Source {
     let mut word = [0u8; 16];
-    let n = os::arg(i, &mut word);
-    if same(&word[..n], b"--words") {
+    let n = arg(rt, i, &mut word);
+    if &word[..n] == b"--words".as_slice() {
         return Source::Words;
     }
-    if same(&word[..n], b"--text") {
+    if &word[..n] == b"--text".as_slice() {
         return Source::Text;
     }
     Source::Book
 }
 
 // 1 where the argument is `--words` or `--text`, and the others stand one further back; otherwise 0.
-pub fn shift_at(i: usize) -> usize
+pub fn shift_at(rt: &impl Env, i: usize) -> usize
     ensures { result ≤ 1 }
 {
-    match source_at(i) {
+    match source_at(rt, i) {
         Source::Book => 0,
         Source::Words => 1,
         Source::Text => 1,
@@ -43,22 +44,28 @@ pub fn shift_at(i: usize) -> usize
 }
 
 // The same of the first argument.
-pub fn shift() -> usize
+pub fn shift(rt: &impl Env) -> usize
     ensures { result ≤ 1 }
 {
-    shift_at(1)
+    shift_at(rt, 1)
 }
 
 // Opens the book whose place in the call is i: its file, or `--words` or `--text` and the file behind
 // it. Where there is none a line says why; `whose` says there which book it is, where there are two.
-pub fn open_at(i: usize, whose: &[u8], book: &mut [u8], names: &mut [u8]) -> Opened
+pub fn open_at(
+    rt: &(impl Env + Files + Print),
+    i: usize,
+    whose: &[u8],
+    book: &mut [u8],
+    names: &mut [u8],
+) -> Opened
     requires { i ≤ 3 }
     ensures { IsPrefixLen result.count book.new
         × IsPrefixLen result.names names.new }
 {
-    match source_at(i) {
+    match source_at(rt, i) {
         Source::Book => {
-            let taken = read_argument(i, book);
+            let taken = read_argument(rt, i, book);
             Opened {
                 good: taken.good,
                 count: taken.count,
@@ -67,20 +74,26 @@ pub fn open_at(i: usize, whose: &[u8], book: &mut [u8], names: &mut [u8]) -> Ope
                 asked: Asked::Nobody,
             }
         }
-        Source::Words => open_words(i + 1, whose, book, names),
-        Source::Text => open_text(i + 1, whose, book, names),
+        Source::Words => open_words(rt, i + 1, whose, book, names),
+        Source::Text => open_text(rt, i + 1, whose, book, names),
     }
 }
 
 // How the programs for people open: where the call is right, the book in the first place of the call
 // is opened. Otherwise a line says what is wrong.
-pub fn open_book(is_right: bool, usage: &[u8], book: &mut [u8], names: &mut [u8]) -> Opened
+pub fn open_book(
+    rt: &(impl Env + Files + Print),
+    is_right: bool,
+    usage: &[u8],
+    book: &mut [u8],
+    names: &mut [u8],
+) -> Opened
     ensures { IsPrefixLen result.count book.new
         × IsPrefixLen result.names names.new }
 {
     if !is_right {
-        complain_of_call(usage);
+        complain_of_call(rt, usage);
         return Opened::NOTHING;
     }
-    open_at(1, b"", book, names)
+    open_at(rt, 1, b"", book, names)
 }

@@ -8,23 +8,26 @@
 #![tactic(auto)]
 
 use calling::{open_book, shift};
+use std::rt::{Env, Files};
+use system::arg_count;
 use talk::{BOOK_ROOM, NAMES_ROOM, PAPER_ROOM, read_argument, tell_checked};
 
 // Reads the paper, and checks it.
-fn check_argument(book: &[u8], names: &[u8]) {
+fn check_argument(rt: &(impl Env + Files + Print), book: &[u8], names: &[u8]) {
     let mut paper = [0u8; PAPER_ROOM];
-    let taken = read_argument(2 + shift(), &mut paper);
+    let taken = read_argument(rt, 2 + shift(rt), &mut paper);
     if taken.good {
         let n = taken.count;
-        tell_checked(book, names, &paper[..n]);
+        tell_checked(rt, book, names, &paper[..n]);
     }
 }
 
-fn main() {
-    let is_right = os::arg_count() == 3 + shift();
+fn main(rt: HostRuntime) {
+    let is_right = arg_count(&rt) == 3 + shift(&rt);
     let mut book = [0u8; BOOK_ROOM];
     let mut names = [0u8; NAMES_ROOM];
     let opened = open_book(
+        &rt,
         is_right,
         b"checking BOOKFILE PAPERFILE",
         &mut book,
@@ -33,6 +36,6 @@ fn main() {
     if opened.good {
         let n = opened.count;
         let m = opened.names;
-        check_argument(&book[..n], &names[..m]);
+        check_argument(&rt, &book[..n], &names[..m]);
     }
 }

@@ -6,6 +6,6 @@
 
 use meaning::Kind;
 
-fn main() {
-    filing::file_paper(Kind::Clearing);
+fn main(rt: HostRuntime) {
+    filing::file_paper(&rt, Kind::Clearing);
 }

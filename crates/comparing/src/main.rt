@@ -5,11 +5,12 @@
 //     comparing BOOKFILE --text TEXTFILE
 #![tactic(auto)]
 
-ghost use Rattle.io.specs.Counts.{IsPrefixLen};
+ghost use Rattle.system.specs.Counts.{IsPrefixLen};
 
 use book::{Read, Shape, read_book};
 use calling::{Opened, open_at, open_words, shift_at};
-use check::same;
+use std::rt::{Env, Files};
+use system::arg_count;
 use talk::{BOOK_ROOM, NAMES_ROOM, open_call, print, put_number, put_size, put_text};
 
 // The first place at which the two differ, or the length of the shorter one.
@@ -28,67 +29,68 @@ fn first_difference(book: &[u8], other: &[u8]) -> usize {
 }
 
 // Writes how large the book is that both are.
-fn tell_size(shape: Shape) {
+fn tell_size(rt: &impl Print, shape: Shape) {
     let mut line = [0u8; 64];
     let held = put_text(b"same: ", &mut line, 0);
     let held = put_size(shape, &mut line, held);
     let held = put_text(b"\n", &mut line, held);
-    print(&line[..held]);
+    print(rt, &line[..held]);
 }
 
 // The same, of its bytes.
-fn tell_same(book: &[u8]) {
+fn tell_same(rt: &impl Print, book: &[u8]) {
     match read_book(book) {
         Read::Refused(_) => {}
-        Read::Good(shape) => tell_size(shape),
+        Read::Good(shape) => tell_size(rt, shape),
     }
 }
 
 // Writes whether the book is the one of the words.
-fn tell_compared(book: &[u8], other: &[u8]) {
-    if same(book, other) {
-        tell_same(book);
+fn tell_compared(rt: &impl Print, book: &[u8], other: &[u8]) {
+    if book == other {
+        tell_same(rt, book);
         return;
     }
     let mut line = [0u8; 64];
     let held = put_text(b"different: byte ", &mut line, 0);
     let held = put_number(first_difference(book, other) as u64, &mut line, held);
     let held = put_text(b"\n", &mut line, held);
-    print(&line[..held]);
+    print(rt, &line[..held]);
 }
 
 // Makes the book of the words in the file that the second argument names, or of what stands behind
 // `--text`.
-fn open_other(book: &mut [u8], names: &mut [u8]) -> Opened
+fn open_other(rt: &(impl Env + Files + Print), book: &mut [u8], names: &mut [u8]) -> Opened
     ensures { IsPrefixLen result.count book.new
         × IsPrefixLen result.names names.new }
 {
-    if shift_at(2) == 1 {
-        return open_at(2, b"", book, names);
+    if shift_at(rt, 2) == 1 {
+        return open_at(rt, 2, b"", book, names);
     }
-    open_words(2, b"", book, names)
+    open_words(rt, 2, b"", book, names)
 }
 
 // Makes the other book, and compares.
-fn compare_argument(book: &[u8]) {
+fn compare_argument(rt: &(impl Env + Files + Print), book: &[u8]) {
     let mut other = [0u8; BOOK_ROOM];
     let mut names = [0u8; NAMES_ROOM];
-    let opened = open_other(&mut other, &mut names);
+    let opened = open_other(rt, &mut other, &mut names);
     if opened.good {
         let n = opened.count;
-        tell_compared(book, &other[..n]);
+        tell_compared(rt, book, &other[..n]);
     }
 }
 
-fn main() {
+fn main(rt: HostRuntime) {
     let mut book = [0u8; BOOK_ROOM];
     let taken = open_call(
-        os::arg_count() == 3 + shift_at(2),
+        &rt,
+        arg_count(&rt) == 3 + shift_at(&rt, 2),
         b"comparing BOOKFILE WORDSFILE",
         &mut book,
     );
     if taken.good {
         let n = taken.count;
-        compare_argument(&book[..n]);
+        compare_argument(&rt, &book[..n]);
     }
 }

@@ -4,6 +4,6 @@
 //     contradicting BOOKFILE PAPERFILE [LIMIT] [--replace]
 #![tactic(auto)]
 
-fn main() {
-    filing::file_no_reading();
+fn main(rt: HostRuntime) {
+    filing::file_no_reading(&rt);
 }

@@ -1,5 +1,5 @@
 // The words that `find`, `name` and others have in common: a number, L, ROOM and BOOK.
-ghost use Rattle.io.specs.Counts.{IsPrefixLen};
+ghost use Rattle.system.specs.Counts.{IsPrefixLen};
 
 use talk::{Number, first_word, other_words, read_bytes, read_number};
 

@@ -1,5 +1,5 @@
 // Number 11, as finding, naming and clearing tell it.
-ghost use Rattle.io.specs.Counts.{IsPrefixLen};
+ghost use Rattle.system.specs.Counts.{IsPrefixLen};
 
 use crate::numbers::put_two;
 use meaning::RuleNo;

@@ -1,7 +1,7 @@
 // `find K L ROOM BOOK`: the K-th reading, within L tries, in a buffer of ROOM bytes. Answers
 // `set TRIES a b c`, `fewer TRIES SETS RULE`, `limit L` or `refused NUMBER [PLACE]`.
 // `nomore K L ROOM BOOK`: the same by the no_mo_re way of choosing, over a walk of its own.
-ghost use Rattle.io.specs.Counts.{IsPrefixLen};
+ghost use Rattle.system.specs.Counts.{IsPrefixLen};
 
 use crate::call::read_call;
 use crate::fewer::put_fewer;

@@ -1,5 +1,5 @@
 // The words ROOM and BYTES, which several commands take, and bytes that were made, as an answer.
-ghost use Rattle.io.specs.Counts.{IsPrefixLen};
+ghost use Rattle.system.specs.Counts.{IsPrefixLen};
 
 use talk::{Number, first_word, other_words, put_bytes, put_text, read_bytes, read_number};
 

@@ -1,7 +1,7 @@
 // `levelsk K L ROOM BOOK`: the level of each rule in the K-th reading's colouring, within L tries, in a
 // buffer of ROOM bytes. Answers `levels TRIES l0 l1 ..`, `fewer TRIES SETS RULE`, `limit L` or
 // `refused NUMBER [PLACE]`. It names and clears nobody.
-ghost use Rattle.io.specs.Counts.{IsPrefixLen};
+ghost use Rattle.system.specs.Counts.{IsPrefixLen};
 
 use crate::call::read_call;
 use crate::find::put_unfound;

@@ -5,6 +5,8 @@
 // for it. A line that is no command is answered `bad line`.
 #![tactic(auto)]
 
+use system::arg_count;
+
 mod call;
 mod fewer;
 mod find;
@@ -24,9 +26,9 @@ mod text_import;
 mod two_books;
 mod words_text;
 
-fn main() {
-    if os::arg_count() != 1 {
-        talk::complain_of_call(b"desk takes its commands from standard input");
+fn main(rt: HostRuntime) {
+    if arg_count(&rt) != 1 {
+        talk::complain_of_call(&rt, b"desk takes its commands from standard input");
         return;
     }
     // The longest line that is taken has `check`, a book of 16,384 bytes and a paper of 65,536.
@@ -36,5 +38,5 @@ fn main() {
     let mut room = [0u8; 65536];
     // The longest answer but `readings` has `paper`, two numbers and the digits of all of the room.
     let mut out = [0u8; 131200];
-    input::answer_all(&mut line, &mut book, &mut other, &mut room, &mut out);
+    input::answer_all(&rt, &mut line, &mut book, &mut other, &mut room, &mut out);
 }

@@ -1,5 +1,5 @@
 // A word and two numbers, as several answers have them.
-ghost use Rattle.io.specs.Counts.{IsPrefixLen};
+ghost use Rattle.system.specs.Counts.{IsPrefixLen};
 
 use talk::{put_number, put_text};
 

@@ -1,5 +1,5 @@
 // `check BOOK PAPER`: answers `certain ATOM`, `clear ATOM`, `none` or `refused NUMBER PLACE`.
-ghost use Rattle.io.specs.Counts.{IsPrefixLen};
+ghost use Rattle.system.specs.Counts.{IsPrefixLen};
 
 use checker::{Checked, check};
 use meaning::{Claim, Kind};

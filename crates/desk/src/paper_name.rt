@@ -2,7 +2,7 @@
 // of its two walks within L tries, in a buffer of ROOM bytes. Answers `paper TRIES LENGTH PAPER`,
 // `fewer TRIES 0 RULE`, `limit L` or `refused NUMBER [PLACE]`.
 // `contradict L ROOM BOOK`: the paper that the book has no reading; it never answers `fewer`.
-ghost use Rattle.io.specs.Counts.{IsPrefixLen};
+ghost use Rattle.system.specs.Counts.{IsPrefixLen};
 
 use crate::call::read_call;
 use crate::fewer::put_fewer;

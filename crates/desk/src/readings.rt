@@ -3,13 +3,13 @@ use listing::list;
 use talk::{print, read_bytes};
 
 // Answers the command, or that its words are not right.
-pub fn answer_readings(words: &[u8], book: &mut [u8]) {
+pub fn answer_readings(rt: &impl Print, words: &[u8], book: &mut [u8]) {
     let decoded = read_bytes(words, book);
     if !decoded.good {
-        print(b"bad line\n");
+        print(rt, b"bad line\n");
         return;
     }
     let n = decoded.count;
-    list(&book[..n], b'|', b"");
-    print(b"\n");
+    list(rt, &book[..n], b'|', b"");
+    print(rt, b"\n");
 }

@@ -1,7 +1,7 @@
 // `levels BOOK`: what the first closing settles. Answers `levels on r.. off r.. true a.. false a..`, with
 // the rules that are on and off and the atoms that are true and false before any choice, or
 // `refused NUMBER PLACE`. It names and clears nobody.
-ghost use Rattle.io.specs.Counts.{IsPrefixLen};
+ghost use Rattle.system.specs.Counts.{IsPrefixLen};
 
 use book::{Read, read_book};
 use closing::{Settled, settle};

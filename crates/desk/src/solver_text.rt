@@ -1,6 +1,6 @@
 // `aspif ROOM BOOK`: the book as a text for other solvers, and `unaspif ROOM TEXT`: the book of such a
 // text, each in a buffer of ROOM bytes. Answers `text TEXT`, `book BOOK` or `refused NUMBER [PLACE]`.
-ghost use Rattle.io.specs.Counts.{IsPrefixLen};
+ghost use Rattle.system.specs.Counts.{IsPrefixLen};
 
 use crate::given::{put_made, read_given};
 use aspif::{Exported, Restored, export, restore};

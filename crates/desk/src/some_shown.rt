@@ -1,6 +1,6 @@
 // `shown K L ROOM SHOWN BOOK`: the K-th reading where only the atoms of the list SHOWN are shown, one
 // byte each. Answers as `find` does.
-ghost use Rattle.io.specs.Counts.{IsPrefixLen};
+ghost use Rattle.system.specs.Counts.{IsPrefixLen};
 
 use crate::call::read_numbers;
 use crate::find::put_found;

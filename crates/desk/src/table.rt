@@ -2,8 +2,7 @@
 // parted by spaces and each line end as `|`. `?` stands for a name that can't be opened.
 ghost use Rattle.std.specs.Prelude.{◌<◌, ◌≤◌, length};
 
-use bytes::scan::find;
-use check::same;
+use system::find;
 use tabling::{Layout, MOST_BOOKS, Table};
 use talk::{print, read_bytes};
 
@@ -33,7 +32,7 @@ fn end_of_word(line: &[u8], at: usize) -> usize
 
 // Whether the word says a book, or is `?`.
 fn is_right(word: &[u8], book: &mut [u8]) -> bool {
-    if same(word, b"?") {
+    if word == b"?".as_slice() {
         return true;
     }
     read_bytes(word, book).good
@@ -55,35 +54,35 @@ fn count_words(line: &[u8], book: &mut [u8]) -> Words {
 }
 
 // Takes the turn of the book that the word says.
-fn with_word(table: Table, word: &[u8], book: &mut [u8]) -> Table {
+fn with_word(rt: &impl Print, table: Table, word: &[u8], book: &mut [u8]) -> Table {
     let decoded = read_bytes(word, book);
     let n = decoded.count;
-    table.with_book(decoded.good, &book[..n], b"", LAYOUT)
+    table.with_book(rt, decoded.good, &book[..n], b"", LAYOUT)
 }
 
 // Writes the table of the words.
-fn print_words(line: &[u8], book: &mut [u8]) {
+fn print_words(rt: &impl Print, line: &[u8], book: &mut [u8]) {
     let mut table = Table::START;
     let mut at = COMMAND;
     while at < line.len() {
         let end = end_of_word(line, at);
-        table = with_word(table, &line[at + 1..end], book);
+        table = with_word(rt, table, &line[at + 1..end], book);
         at = end;
     }
-    table.end(LAYOUT);
+    table.end(rt, LAYOUT);
 }
 
 // Answers the command, or that its words are not right.
-pub fn answer_table(line: &[u8], book: &mut [u8]) {
+pub fn answer_table(rt: &impl Print, line: &[u8], book: &mut [u8]) {
     let words = count_words(line, book);
     if !words.good {
-        print(b"bad line\n");
+        print(rt, b"bad line\n");
         return;
     }
     if MOST_BOOKS < words.count {
-        print(b"refused 36|\n");
+        print(rt, b"refused 36|\n");
         return;
     }
-    print_words(line, book);
-    print(b"\n");
+    print_words(rt, line, book);
+    print(rt, b"\n");
 }

@@ -1,6 +1,6 @@
 // `lparse ROOM TEXT`: the book of a text that the grounder wrote, in a buffer of ROOM bytes. Answers
 // `book BOOK` or `refused NUMBER [PLACE]`.
-ghost use Rattle.io.specs.Counts.{IsPrefixLen};
+ghost use Rattle.system.specs.Counts.{IsPrefixLen};
 
 use crate::given::{put_made, read_given};
 use lparse::{Imported, import};

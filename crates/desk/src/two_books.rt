@@ -3,7 +3,7 @@
 // `none-in-first BOOK`, `none-in-second BOOK` or `none-in-either BOOK` by which have a reading, or
 // `limit L`. Both answer `book1 refused NUMBER PLACE`, `book2 refused NUMBER PLACE` or
 // `refused NUMBER`.
-ghost use Rattle.io.specs.Counts.{IsPrefixLen};
+ghost use Rattle.system.specs.Counts.{IsPrefixLen};
 
 use crate::given::put_made;
 use book::Refusal;

@@ -1,6 +1,6 @@
 // `words ROOM TEXT`: the book of rules in words, in a buffer of ROOM bytes, and the names of its atoms.
 // Answers `book BOOK NAME NAME ..` or `refused NUMBER [PLACE]`.
-ghost use Rattle.io.specs.Counts.{IsPrefixLen};
+ghost use Rattle.system.specs.Counts.{IsPrefixLen};
 
 use crate::given::{put_made, read_given};
 use talk::{Refused, first_bytes, put_refused, put_text};

@@ -18,6 +18,7 @@ use meaning::{Colouring, RuleNo};
 // The branch at byte `at`, which starts with the colouring c.
 #[cycle(explain_branch_explain_split)]
 pub fn explain_branch(
+    rt: &impl Print,
     book: &[u8],
     shape: Shape,
     names: &[u8],
@@ -32,7 +33,7 @@ pub fn explain_branch(
         paper.now trailer.from at (pair (written c)) (walked result)
         × Ends at trailer.from (walked result) }
 {
-    let ran = explain_run(book, shape, names, paper, trailer, depth, at, c);
+    let ran = explain_run(rt, book, shape, names, paper, trailer, depth, at, c);
     let stop = ran.stop;
     let last = ran.at;
     match stop {
@@ -42,7 +43,9 @@ pub fn explain_branch(
         }
         Stop::Split(r) => {
             let colours = ran.colours;
-            explain_split(book, shape, names, paper, trailer, depth, last, r, colours)
+            explain_split(
+                rt, book, shape, names, paper, trailer, depth, last, r, colours,
+            )
         }
         Stop::Form => Walked::Form(last),
         Stop::Fails => Walked::Fails(last),
@@ -53,6 +56,7 @@ pub fn explain_branch(
 // with r off.
 #[cycle(explain_branch_explain_split)]
 fn explain_split(
+    rt: &impl Print,
     book: &[u8],
     shape: Shape,
     names: &[u8],
@@ -74,6 +78,7 @@ fn explain_split(
     let start = at + 2;
     let first = c.with_on(r);
     match explain_branch(
+        rt,
         book,
         shape,
         names,
@@ -84,8 +89,9 @@ fn explain_split(
         first,
     ) {
         Walked::Done(next) => {
-            tell_second(depth, at, r);
+            tell_second(rt, depth, at, r);
             explain_branch(
+                rt,
                 book,
                 shape,
                 names,

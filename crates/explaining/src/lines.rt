@@ -1,7 +1,7 @@
 // How a line begins and ends: as far in as its case is deep, with the byte that it tells of.
 ghost use Rattle.std.specs.Prelude.{◌<◌};
 ghost use Rattle.book.specs.Format.{ReadAs};
-ghost use Rattle.io.specs.Counts.{IsPrefixLen};
+ghost use Rattle.system.specs.Counts.{IsPrefixLen};
 
 use book::Shape;
 use meaning::RuleNo;
@@ -74,9 +74,9 @@ pub fn put_about(
 }
 
 // Writes the line, with its end.
-pub fn end_line(line: &mut [u8], held: usize)
+pub fn end_line(rt: &impl Print, line: &mut [u8], held: usize)
     requires { IsPrefixLen held line.old }
 {
     let held = put_text(b"\n", line, held);
-    print(&line[..held]);
+    print(rt, &line[..held]);
 }

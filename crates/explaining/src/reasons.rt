@@ -2,7 +2,7 @@
 // the checker has found to be so; which rules they name is tested, not proved.
 ghost use Rattle.std.specs.Prelude.{◌<◌, ◌≤◌};
 ghost use Rattle.book.specs.Format.{ReadAs};
-ghost use Rattle.io.specs.Counts.{IsPrefixLen};
+ghost use Rattle.system.specs.Counts.{IsPrefixLen};
 
 use book::{Shape, head, negatives, positives};
 use checker::{is_head, is_lost};

@@ -11,6 +11,7 @@ use meaning::Colouring;
 
 // Tells what a branch stops by; nothing of a step that is refused.
 fn tell_stop<'a>(
+    rt: &impl Print,
     book: &[u8],
     shape: Shape,
     names: &[u8],
@@ -27,9 +28,9 @@ fn tell_stop<'a>(
     match stop {
         Stop::End => {
             let claim = trailer.claim;
-            tell_end(book, shape, names, depth, at, claim, on, off);
+            tell_end(rt, book, shape, names, depth, at, claim, on, off);
         }
-        Stop::Split(r) => tell_split(book, shape, names, depth, at, r),
+        Stop::Split(r) => tell_split(rt, book, shape, names, depth, at, r),
         Stop::Form => {}
         Stop::Fails => {}
     }
@@ -37,6 +38,7 @@ fn tell_stop<'a>(
 
 // Tells the step that was found at byte `at`.
 fn tell_step<'a>(
+    rt: &impl Print,
     book: &[u8],
     shape: Shape,
     names: &[u8],
@@ -52,19 +54,20 @@ fn tell_step<'a>(
         × StepWithin (book_in book.now) paper.now trailer.from at step }
 {
     match step {
-        Step::On(r) => tell_on(book, shape, names, depth, at, r, on),
-        Step::Off(r) => tell_off(book, shape, names, depth, at, r, on),
+        Step::On(r) => tell_on(rt, book, shape, names, depth, at, r, on),
+        Step::Off(r) => tell_off(rt, book, shape, names, depth, at, r, on),
         Step::Unfounded(m) => {
             let first = at + 2;
             let end = first + m;
-            tell_list(book, shape, names, depth, at, &paper[first..end], off);
+            tell_list(rt, book, shape, names, depth, at, &paper[first..end], off);
         }
-        Step::Stops(stop) => tell_stop(book, shape, names, trailer, depth, at, stop, on, off),
+        Step::Stops(stop) => tell_stop(rt, book, shape, names, trailer, depth, at, stop, on, off),
     }
 }
 
 // The step at byte `at`, checked by the checker, and told where it may be made.
 fn explain_step<'a>(
+    rt: &impl Print,
     book: &[u8],
     shape: Shape,
     names: &[u8],
@@ -81,12 +84,15 @@ fn explain_step<'a>(
         (lent (listed on.now) (listed off.now)) result }
 {
     let step = check_step(book, shape, paper, trailer, at, on, off);
-    tell_step(book, shape, names, paper, trailer, depth, at, step, on, off);
+    tell_step(
+        rt, book, shape, names, paper, trailer, depth, at, step, on, off,
+    );
     step
 }
 
 // Runs the steps from byte `at` on, each of which adds to the colouring, as the checker does.
 pub fn explain_run(
+    rt: &impl Print,
     book: &[u8],
     shape: Shape,
     names: &[u8],
@@ -108,7 +114,7 @@ pub fn explain_run(
         let on_words = on.w;
         let off_words = off.w;
         match explain_step(
-            book, shape, names, paper, trailer, depth, i, &on_words, &off_words,
+            rt, book, shape, names, paper, trailer, depth, i, &on_words, &off_words,
         ) {
             Step::On(r) => {
                 colours = colours.with_on(r);

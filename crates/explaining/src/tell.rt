@@ -2,7 +2,7 @@
 ghost use Rattle.std.specs.Prelude.{◌<◌};
 ghost use Rattle.book.specs.Format.{ReadAs};
 ghost use Rattle.book.specs.Tables.{Below};
-ghost use Rattle.io.specs.Counts.{IsPrefixLen};
+ghost use Rattle.system.specs.Counts.{IsPrefixLen};
 
 use crate::lines::{LINE_ROOM, deeper, end_line, put_about, put_numbered, put_start};
 use crate::reasons::{put_blocked, put_held, put_left, put_starved, put_why_on};
@@ -13,6 +13,7 @@ use talk::{put_number, put_text};
 
 // 41: the rule, and why it goes on.
 pub fn tell_on(
+    rt: &impl Print,
     book: &[u8],
     shape: Shape,
     names: &[u8],
@@ -26,11 +27,12 @@ pub fn tell_on(
     let mut line = [0u8; LINE_ROOM];
     let held = put_about(book, shape, names, depth, at, r, b" on: ", &mut line);
     let held = put_why_on(book, shape, names, r, on, &mut line, held);
-    end_line(&mut line, held);
+    end_line(rt, &mut line, held);
 }
 
 // 42: the rule, and the negative atom that holds.
 pub fn tell_off(
+    rt: &impl Print,
     book: &[u8],
     shape: Shape,
     names: &[u8],
@@ -45,11 +47,12 @@ pub fn tell_off(
     let held = put_about(book, shape, names, depth, at, r, b" off: ", &mut line);
     let held = put_text(b": ", &mut line, held);
     let held = put_blocked(book, shape, names, r, on, &mut line, held);
-    end_line(&mut line, held);
+    end_line(rt, &mut line, held);
 }
 
 // A rule of a 55's list, and the positive atom that is left without a rule.
 fn tell_starved(
+    rt: &impl Print,
     book: &[u8],
     shape: Shape,
     names: &[u8],
@@ -64,11 +67,12 @@ fn tell_starved(
     let held = put_about(book, shape, names, depth, at, r, b" off: ", &mut line);
     let held = put_text(b": ", &mut line, held);
     let held = put_starved(book, shape, names, r, gone, true, &mut line, held);
-    end_line(&mut line, held);
+    end_line(rt, &mut line, held);
 }
 
 // A line for each rule of a list. `gone` has the rules that are off and those of the list.
 fn tell_each(
+    rt: &impl Print,
     book: &[u8],
     shape: Shape,
     names: &[u8],
@@ -81,13 +85,14 @@ fn tell_each(
 {
     let mut i = 0;
     while i < list.len() {
-        tell_starved(book, shape, names, depth, at, RuleNo(list[i]), gone);
+        tell_starved(rt, book, shape, names, depth, at, RuleNo(list[i]), gone);
         i += 1;
     }
 }
 
 // 55: the rules of its list, which go off together.
 pub fn tell_list(
+    rt: &impl Print,
     book: &[u8],
     shape: Shape,
     names: &[u8],
@@ -100,11 +105,19 @@ pub fn tell_list(
 {
     let gone = with_rules(whole(off), list);
     let w = gone.w;
-    tell_each(book, shape, names, depth, at, list, &w);
+    tell_each(rt, book, shape, names, depth, at, list, &w);
 }
 
 // 53: the rule; and, one level further in, that it is on first.
-pub fn tell_split(book: &[u8], shape: Shape, names: &[u8], depth: usize, at: usize, r: RuleNo)
+pub fn tell_split(
+    rt: &impl Print,
+    book: &[u8],
+    shape: Shape,
+    names: &[u8],
+    depth: usize,
+    at: usize,
+    r: RuleNo,
+)
     requires { ReadAs book.now shape × (r.0 < shape.rules) }
 {
     let mut line = [0u8; LINE_ROOM];
@@ -118,21 +131,21 @@ pub fn tell_split(book: &[u8], shape: Shape, names: &[u8], depth: usize, at: usi
         b" on, or off: ",
         &mut line,
     );
-    end_line(&mut line, held);
-    tell_case(deeper(depth), at, b"first, rule ", r, b" on");
+    end_line(rt, &mut line, held);
+    tell_case(rt, deeper(depth), at, b"first, rule ", r, b" on");
 }
 
 // The start of one of the two cases of the split at byte `at`.
-fn tell_case(depth: usize, at: usize, before: &[u8], r: RuleNo, behind: &[u8]) {
+fn tell_case(rt: &impl Print, depth: usize, at: usize, before: &[u8], r: RuleNo, behind: &[u8]) {
     let mut line = [0u8; 256];
     let held = put_start(depth, at, &mut line);
     let held = put_numbered(before, r, behind, &mut line, held);
-    end_line(&mut line, held);
+    end_line(rt, &mut line, held);
 }
 
 // The start of the second case.
-pub fn tell_second(depth: usize, at: usize, r: RuleNo) {
-    tell_case(depth, at, b"now rule ", r, b" off");
+pub fn tell_second(rt: &impl Print, depth: usize, at: usize, r: RuleNo) {
+    tell_case(rt, depth, at, b"now rule ", r, b" off");
 }
 
 // Why the claim is shown: the atom holds, or is left without a rule. That there is no reading is
@@ -172,6 +185,7 @@ fn put_clash<'a>(on: &'a [u64; 4], off: &'a [u64; 4], line: &mut [u8], held: usi
 
 // 45: why the branch ends.
 pub fn tell_end<'a>(
+    rt: &impl Print,
     book: &[u8],
     shape: Shape,
     names: &[u8],
@@ -188,9 +202,9 @@ pub fn tell_end<'a>(
     let held = put_text(b"end: ", &mut line, held);
     if is_clashing(shape.rules, on, off) {
         let held = put_clash(on, off, &mut line, held);
-        end_line(&mut line, held);
+        end_line(rt, &mut line, held);
         return;
     }
     let held = put_shown(book, shape, names, claim, on, &mut line, held);
-    end_line(&mut line, held);
+    end_line(rt, &mut line, held);
 }

@@ -5,7 +5,7 @@ ghost use Rattle.std.specs.Prelude.{◌≡◌, ◌+◌, ◌<◌, ◌≤◌, leng
 ghost use Rattle.meaning.specs.Paper.{paper_bytes};
 ghost use Rattle.book.specs.Format.{ReadAs};
 ghost use Rattle.book.specs.Tables.{Below};
-ghost use Rattle.io.specs.Counts.{IsPrefixLen};
+ghost use Rattle.system.specs.Counts.{IsPrefixLen};
 
 use crate::lines::{LINE_ROOM, end_line, put_about, put_start};
 use crate::reasons::{put_blocked, put_starved};
@@ -58,7 +58,7 @@ fn put_members(
 }
 
 // The reading: the heads of the listed rules. The line has room for 255 names.
-fn tell_reading(book: &[u8], shape: Shape, names: &[u8], at: usize, on: &[u64; 4])
+fn tell_reading(rt: &impl Print, book: &[u8], shape: Shape, names: &[u8], at: usize, on: &[u64; 4])
     requires { ReadAs book.now shape }
 {
     let mut headed = [false; Colouring::ATOMS];
@@ -69,14 +69,14 @@ fn tell_reading(book: &[u8], shape: Shape, names: &[u8], at: usize, on: &[u64; 4
     let end = put_members(names, shape.atoms, &headed, &mut line, held);
     if end == held {
         let end = put_text(b"no atom", &mut line, end);
-        end_line(&mut line, end);
+        end_line(rt, &mut line, end);
         return;
     }
-    end_line(&mut line, end);
+    end_line(rt, &mut line, end);
 }
 
 // Each listed rule, with the rules listed before it on.
-fn tell_listed(book: &[u8], shape: Shape, names: &[u8], from: usize, list: &[u8])
+fn tell_listed(rt: &impl Print, book: &[u8], shape: Shape, names: &[u8], from: usize, list: &[u8])
     requires { ReadAs book.now shape × Below shape.rules list.now
         × (from + length list.now < 65536) }
 {
@@ -84,7 +84,7 @@ fn tell_listed(book: &[u8], shape: Shape, names: &[u8], from: usize, list: &[u8]
     let mut i = 0;
     while i < list.len() {
         let n = list[i];
-        tell_on(book, shape, names, 0, from + i, RuleNo(n), &before);
+        tell_on(rt, book, shape, names, 0, from + i, RuleNo(n), &before);
         put(&mut before, n);
         i += 1;
     }
@@ -92,6 +92,7 @@ fn tell_listed(book: &[u8], shape: Shape, names: &[u8], from: usize, list: &[u8]
 
 // A rule that is not listed, and why it fails; nothing of one that is.
 fn tell_other<'a>(
+    rt: &impl Print,
     book: &[u8],
     shape: Shape,
     names: &[u8],
@@ -111,14 +112,15 @@ fn tell_other<'a>(
     let end = put_starved(book, shape, names, r, off, false, &mut line, held);
     if end == held {
         let end = put_blocked(book, shape, names, r, on, &mut line, end);
-        end_line(&mut line, end);
+        end_line(rt, &mut line, end);
         return;
     }
-    end_line(&mut line, end);
+    end_line(rt, &mut line, end);
 }
 
 // Every rule that is not listed.
 fn tell_others<'a>(
+    rt: &impl Print,
     book: &[u8],
     shape: Shape,
     names: &[u8],
@@ -130,13 +132,13 @@ fn tell_others<'a>(
 {
     let mut r: u8 = 0;
     while r < shape.rules {
-        tell_other(book, shape, names, at, RuleNo(r), on, off);
+        tell_other(rt, book, shape, names, at, RuleNo(r), on, off);
         r += 1;
     }
 }
 
 // The witness that lists these rules from byte `from` on.
-fn tell_witness(book: &[u8], shape: Shape, names: &[u8], from: usize, list: &[u8])
+fn tell_witness(rt: &impl Print, book: &[u8], shape: Shape, names: &[u8], from: usize, list: &[u8])
     requires { ReadAs book.now shape × Below shape.rules list.now
         × (from + length list.now < 65536) }
 {
@@ -144,13 +146,20 @@ fn tell_witness(book: &[u8], shape: Shape, names: &[u8], from: usize, list: &[u8
     let rest = Bits::below(shape.rules).difference(all);
     let on = all.w;
     let off = rest.w;
-    tell_reading(book, shape, names, from, &on);
-    tell_listed(book, shape, names, from, list);
-    tell_others(book, shape, names, from + list.len(), &on, &off);
+    tell_reading(rt, book, shape, names, from, &on);
+    tell_listed(rt, book, shape, names, from, list);
+    tell_others(rt, book, shape, names, from + list.len(), &on, &off);
 }
 
 // The witness of a claim about an atom, where the checker finds it right.
-fn explain_witness(book: &[u8], shape: Shape, names: &[u8], paper: &[u8], trailer: Trailer)
+fn explain_witness(
+    rt: &impl Print,
+    book: &[u8],
+    shape: Shape,
+    names: &[u8],
+    paper: &[u8],
+    trailer: Trailer,
+)
     requires { ReadAs book.now shape
         × (trailer.from + trailer.count + 6 ≡ length paper.now)
         × (length paper.now ≤ paper_bytes) }
@@ -158,20 +167,27 @@ fn explain_witness(book: &[u8], shape: Shape, names: &[u8], paper: &[u8], traile
     let from = trailer.from;
     let end = from + trailer.count;
     match check_witness(book, shape, paper, trailer) {
-        Verdict::Right => tell_witness(book, shape, names, from, &paper[from..end]),
+        Verdict::Right => tell_witness(rt, book, shape, names, from, &paper[from..end]),
         Verdict::Wrong(_) => {}
     }
 }
 
 // What stands behind the steps: a witness; nothing where the claim is that there is no reading.
-pub fn explain_grounds(book: &[u8], shape: Shape, names: &[u8], paper: &[u8], trailer: Trailer)
+pub fn explain_grounds(
+    rt: &impl Print,
+    book: &[u8],
+    shape: Shape,
+    names: &[u8],
+    paper: &[u8],
+    trailer: Trailer,
+)
     requires { ReadAs book.now shape
         × (trailer.from + trailer.count + 6 ≡ length paper.now)
         × (length paper.now ≤ paper_bytes) }
 {
     let claim = trailer.claim;
     match claim {
-        Claim::About(_, _) => explain_witness(book, shape, names, paper, trailer),
+        Claim::About(_, _) => explain_witness(rt, book, shape, names, paper, trailer),
         Claim::NoReading => {}
     }
 }

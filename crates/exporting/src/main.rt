@@ -9,25 +9,26 @@
 
 use aspif::{Exported, TEXT_ROOM, export};
 use calling::{open_book, shift};
+use system::arg_count;
 use talk::{BOOK_ROOM, NAMES_ROOM, explain_book, first_bytes, print};
 
 // Writes the text of a good book, or why the bytes are none. The longest text has room.
-fn print_text(book: &[u8]) {
+fn print_text(rt: &impl Print, book: &[u8]) {
     let mut text = [0u8; TEXT_ROOM];
     match export(book, &mut text) {
-        Exported::Text(n) => print(first_bytes(&text, n)),
-        Exported::Book(why) => explain_book(why, book),
-        Exported::NoRoom => print(b""),
+        Exported::Text(n) => print(rt, first_bytes(&text, n)),
+        Exported::Book(why) => explain_book(rt, why, book),
+        Exported::NoRoom => print(rt, b""),
     }
 }
 
-fn main() {
+fn main(rt: HostRuntime) {
     let mut book = [0u8; BOOK_ROOM];
     let mut names = [0u8; NAMES_ROOM];
-    let is_right = os::arg_count() == 2 + shift();
-    let opened = open_book(is_right, b"exporting BOOKFILE", &mut book, &mut names);
+    let is_right = arg_count(&rt) == 2 + shift(&rt);
+    let opened = open_book(&rt, is_right, b"exporting BOOKFILE", &mut book, &mut names);
     if opened.good {
         let n = opened.count;
-        print_text(&book[..n]);
+        print_text(&rt, &book[..n]);
     }
 }

@@ -1,6 +1,6 @@
 // The line of 12 and 18 where there are names: it tells a reading that speaks against the claim, by its
 // number and its atoms, where that is among the first that the walk comes to.
-ghost use Rattle.io.specs.Counts.{IsPrefixLen};
+ghost use Rattle.system.specs.Counts.{IsPrefixLen};
 
 use listing::put_named;
 use meaning::{AtomNo, Colouring, Kind};
@@ -26,8 +26,9 @@ fn is_so(row: &[u8], a: usize, byte: u8) -> bool {
 
 // Copies the row, so that the next reading is that behind it.
 fn keep(row: &[u8], last: &mut [u8]) {
-    if row.len() <= last.len() {
-        bytes::copy(row, last);
+    let n = row.len();
+    if n <= last.len() {
+        last[..n].copy_from_slice(row);
     }
 }
 
@@ -93,6 +94,7 @@ fn byte_against(kind: Kind) -> u8 {
 
 // Writes that a reading speaks against the claim, and which. Every reading has a byte for each atom.
 pub fn explain_against(
+    rt: &impl Print,
     book: &[u8],
     kind: Kind,
     atom: AtomNo,
@@ -105,5 +107,5 @@ pub fn explain_against(
     let held = put_refuted(kind, atom, names, &mut line);
     let held = put_reading(names, k, row, &mut line, held);
     let held = put_text(b"\n", &mut line, held);
-    print(&line[..held]);
+    print(rt, &line[..held]);
 }

@@ -17,10 +17,18 @@ fn is_no_paper(answer: Checked) -> bool {
 }
 
 // Says in a line why a paper stays, which is no paper for the claim.
-fn complain_of_paper(path: &[u8], answer: Checked) {
+fn complain_of_paper(rt: &impl Print, path: &[u8], answer: Checked) {
     match answer {
-        Checked::Accepted(_) => complain(path, b"it is a paper for another claim; see --replace"),
-        _ => complain(path, b"it is a paper that this book refuses; see --replace"),
+        Checked::Accepted(_) => complain(
+            rt,
+            path,
+            b"it is a paper for another claim; see --replace",
+        ),
+        _ => complain(
+            rt,
+            path,
+            b"it is a paper that this book refuses; see --replace",
+        ),
     }
 }
 
@@ -62,18 +70,25 @@ fn is_for(answer: Checked, claim: Claim) -> bool {
 
 // Whether the bytes that stand at the path give way to a paper for the claim. Where they do not a
 // line says so.
-pub fn gives_way(path: &[u8], book: &[u8], claim: Claim, old: &[u8], is_replacing: bool) -> bool {
+pub fn gives_way(
+    rt: &impl Print,
+    path: &[u8],
+    book: &[u8],
+    claim: Claim,
+    old: &[u8],
+    is_replacing: bool,
+) -> bool {
     if old.len() == 0 {
         return true;
     }
     let answer = check(book, old);
     if is_no_paper(answer) {
-        complain(path, b"it is there and is no paper");
+        complain(rt, path, b"it is there and is no paper");
         return false;
     }
     if is_replacing || is_for(answer, claim) {
         return true;
     }
-    complain_of_paper(path, answer);
+    complain_of_paper(rt, path, answer);
     false
 }

@@ -8,7 +8,7 @@
 #![tactic(auto)]
 
 ghost use Rattle.std.specs.Prelude.{◌≤◌};
-ghost use Rattle.io.specs.Counts.{IsPrefixLen};
+ghost use Rattle.system.specs.Counts.{IsPrefixLen};
 
 mod against;
 mod answer;
@@ -21,69 +21,75 @@ use arguments::{WITH_ATOM, WITHOUT_ATOM, is_right, read_limit};
 use atom::{complain_of_number, take_atom};
 use calling::{Asked, Opened, open_book};
 use meaning::{AtomNo, Claim, Kind, PAPER_BYTES};
+use std::rt::{Env, Files};
 use talk::{BOOK_ROOM, NAMES_ROOM, Number, print};
 
 // Reads the limit, behind the arguments that must be there, and asks for the paper.
-fn file_claim(book: &[u8], claim: Claim, must: usize, names: &[u8])
+fn file_claim(rt: &(impl Env + Files + Print), book: &[u8], claim: Claim, must: usize, names: &[u8])
     requires { must ≤ 4 }
 {
-    let Number::Value(limit) = read_limit(must) else {
-        print(b"bad limit: LIMIT is a number up to 4294967295\n");
+    let Number::Value(limit) = read_limit(rt, must) else {
+        print(rt, b"bad limit: LIMIT is a number up to 4294967295\n");
         return;
     };
     let mut paper = [0u8; PAPER_BYTES];
-    tell_named(book, claim, limit, names, &mut paper);
+    tell_named(rt, book, claim, limit, names, &mut paper);
 }
 
 // Reads the atom, and names or clears it.
-fn file_atom(book: &[u8], kind: Kind, names: &[u8], asked: Asked) {
-    let Number::Value(atom) = take_atom(names, asked) else {
+fn file_atom(rt: &(impl Env + Files + Print), book: &[u8], kind: Kind, names: &[u8], asked: Asked) {
+    let Number::Value(atom) = take_atom(rt, names, asked) else {
         return;
     };
     if 255 < atom {
-        complain_of_number();
+        complain_of_number(rt);
         return;
     }
     let atom = AtomNo(atom as u8);
-    file_claim(book, Claim::About(kind, atom), WITH_ATOM, names);
+    file_claim(rt, book, Claim::About(kind, atom), WITH_ATOM, names);
 }
 
 // How the program that writes papers of this kind is called.
-fn open_kind(kind: Kind, book: &mut [u8], names: &mut [u8]) -> Opened
+fn open_kind(
+    rt: &(impl Env + Files + Print),
+    kind: Kind,
+    book: &mut [u8],
+    names: &mut [u8],
+) -> Opened
     ensures { IsPrefixLen result.count book.new
         × IsPrefixLen result.names names.new }
 {
     let naming = b"naming BOOKFILE ATOM PAPERFILE [LIMIT] [--replace]";
     let clearing = b"clearing BOOKFILE ATOM PAPERFILE [LIMIT] [--replace]";
     match kind {
-        Kind::Naming => open_book(is_right(WITH_ATOM), naming, book, names),
-        Kind::Clearing => open_book(is_right(WITH_ATOM), clearing, book, names),
+        Kind::Naming => open_book(rt, is_right(rt, WITH_ATOM), naming, book, names),
+        Kind::Clearing => open_book(rt, is_right(rt, WITH_ATOM), clearing, book, names),
     }
 }
 
 // Writes the paper of this kind about an atom, as the arguments of the program say, and a line on
 // it. Nothing is written on a refusal, and a paper file that was there before stays as it was.
-pub fn file_paper(kind: Kind) {
+pub fn file_paper(rt: &(impl Env + Files + Print), kind: Kind) {
     let mut book = [0u8; BOOK_ROOM];
     let mut names = [0u8; NAMES_ROOM];
-    let opened = open_kind(kind, &mut book, &mut names);
+    let opened = open_kind(rt, kind, &mut book, &mut names);
     if opened.good {
         let n = opened.count;
         let m = opened.names;
         let asked = opened.asked;
-        file_atom(&book[..n], kind, &names[..m], asked);
+        file_atom(rt, &book[..n], kind, &names[..m], asked);
     }
 }
 
 // The same of the paper that the book has no reading.
-pub fn file_no_reading() {
+pub fn file_no_reading(rt: &(impl Env + Files + Print)) {
     let usage = b"contradicting BOOKFILE PAPERFILE [LIMIT] [--replace]";
     let mut book = [0u8; BOOK_ROOM];
     let mut names = [0u8; NAMES_ROOM];
-    let opened = open_book(is_right(WITHOUT_ATOM), usage, &mut book, &mut names);
+    let opened = open_book(rt, is_right(rt, WITHOUT_ATOM), usage, &mut book, &mut names);
     if opened.good {
         let n = opened.count;
         let m = opened.names;
-        file_claim(&book[..n], Claim::NoReading, WITHOUT_ATOM, &names[..m]);
+        file_claim(rt, &book[..n], Claim::NoReading, WITHOUT_ATOM, &names[..m]);
     }
 }

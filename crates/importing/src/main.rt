@@ -12,52 +12,54 @@ use book::BOOK_BYTES;
 use calling::{TEXT_ROOM, explain_text, read_text};
 use lparse::{Imported, import};
 use saving::{is_replacing, save_book};
+use std::rt::{Env, Files};
+use system::arg_count;
 use talk::{complain_of_call, first_bytes};
 
 // The arguments that must be there, the program's own name among them.
 const MUST: usize = 3;
 
 // Whether there are as many arguments as there may be.
-fn is_right() -> bool {
-    let count = os::arg_count();
-    if is_replacing(MUST) {
+fn is_right(rt: &impl Env) -> bool {
+    let count = arg_count(rt);
+    if is_replacing(rt, MUST) {
         return count == MUST + 1;
     }
     count == MUST
 }
 
 // Saves the book in the file that the second argument names, and says what its atoms are.
-fn save_made(text: &[u8], book: &[u8]) {
-    if save_book(2, book, is_replacing(MUST)) {
-        show_atoms(text, book);
+fn save_made(rt: &(impl Env + Files + Print), text: &[u8], book: &[u8]) {
+    if save_book(rt, 2, book, is_replacing(rt, MUST)) {
+        show_atoms(rt, text, book);
     }
 }
 
 // Makes the book of the text, or says why there is none.
-fn import_text(text: &[u8]) {
+fn import_text(rt: &(impl Env + Files + Print), text: &[u8]) {
     let mut room = [0u8; BOOK_BYTES];
     let answer = import(text, &mut room);
     let Imported::Book(n) = answer else {
-        explain_text(answer, b"");
+        explain_text(rt, answer, b"");
         return;
     };
-    save_made(text, first_bytes(&room, n));
+    save_made(rt, text, first_bytes(&room, n));
 }
 
 // Reads the text, and makes its book.
-fn import_argument() {
+fn import_argument(rt: &(impl Env + Files + Print)) {
     let mut text = [0u8; TEXT_ROOM];
-    let taken = read_text(1, &mut text);
+    let taken = read_text(rt, 1, &mut text);
     if taken.good {
         let n = taken.count;
-        import_text(&text[..n]);
+        import_text(rt, &text[..n]);
     }
 }
 
-fn main() {
-    if !is_right() {
-        complain_of_call(b"importing TEXTFILE BOOKFILE [--replace]");
+fn main(rt: HostRuntime) {
+    if !is_right(&rt) {
+        complain_of_call(&rt, b"importing TEXTFILE BOOKFILE [--replace]");
         return;
     }
-    import_argument();
+    import_argument(&rt);
 }

@@ -13,49 +13,59 @@ mod arguments;
 use answer::tell_log;
 use arguments::{FIRST, is_right, read_limit, second};
 use calling::open_at;
+use std::rt::{Env, Files};
 use talk::{BOOK_ROOM, NAMES_ROOM, Number, complain_of_call, print};
 
 // Reads the limits of the two searches, and joins the books.
-fn join_books<'a>(first: &'a [u8], second: &'a [u8]) {
+fn join_books<'a>(rt: &(impl Env + Files + Print), first: &'a [u8], second: &'a [u8]) {
     let bad = b"bad limit: L1 and L2 are numbers up to 4294967295\n";
-    let Number::Value(limit) = read_limit(0) else {
-        print(bad);
+    let Number::Value(limit) = read_limit(rt, 0) else {
+        print(rt, bad);
         return;
     };
-    let Number::Value(other) = read_limit(1) else {
-        print(bad);
+    let Number::Value(other) = read_limit(rt, 1) else {
+        print(rt, bad);
         return;
     };
-    tell_log(first, second, limit, other);
+    tell_log(rt, first, second, limit, other);
 }
 
 // Opens the second book, and joins it to the first.
-fn join_to(first: &[u8]) {
+fn join_to(rt: &(impl Env + Files + Print), first: &[u8]) {
     let mut other = [0u8; BOOK_ROOM];
     let mut names = [0u8; NAMES_ROOM];
-    let opened = open_at(second(), b" in the second book", &mut other, &mut names);
+    let opened = open_at(
+        rt,
+        second(rt),
+        b" in the second book",
+        &mut other,
+        &mut names,
+    );
     if opened.good {
         let n = opened.count;
-        join_books(first, &other[..n]);
+        join_books(rt, first, &other[..n]);
     }
 }
 
 // Opens the first book, and joins the second to it. Names are not told: two crews may give one name to
 // two atoms.
-fn join_arguments() {
+fn join_arguments(rt: &(impl Env + Files + Print)) {
     let mut first = [0u8; BOOK_ROOM];
     let mut names = [0u8; NAMES_ROOM];
-    let opened = open_at(FIRST, b" in the first book", &mut first, &mut names);
+    let opened = open_at(rt, FIRST, b" in the first book", &mut first, &mut names);
     if opened.good {
         let n = opened.count;
-        join_to(&first[..n]);
+        join_to(rt, &first[..n]);
     }
 }
 
-fn main() {
-    if !is_right() {
-        complain_of_call(b"joining FIRSTBOOK SECONDBOOK BOOKFILE [L1 L2] [--replace]");
+fn main(rt: HostRuntime) {
+    if !is_right(&rt) {
+        complain_of_call(
+            &rt,
+            b"joining FIRSTBOOK SECONDBOOK BOOKFILE [L1 L2] [--replace]",
+        );
         return;
     }
-    join_arguments();
+    join_arguments(&rt);
 }

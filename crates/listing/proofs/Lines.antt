@@ -2,7 +2,7 @@
 -- one takes no more bytes than a piece keeps free.
 use Rattle.std.proofs.Common.{◌≡◌, ℕ, zero, suc, ◌+◌, ◌-◌, ◌*◌, ◌/◌, ◌^◌, ◌<◌, ◌≤◌, List, [], ◌∷◌, ◌++◌, length, get_or, take, drop, sym, refl, ap, ◌∙◌, ⊎_elim, arith, length-append, drop_of_length-le, length-take, drop-cons}
 use native.Mathlib.Nat.{pow-le-pow_right}
-use Rattle.io.specs.Digits.{last_digits, IsDigitCount}
+use Rattle.system.specs.Digits.{last_digits, IsDigitCount}
 use Rattle.meaning.proofs.Tests.{lt-or-le}
 use Rattle.meaning.specs.Choice.{if_lt}
 use Rattle.meaning.proofs.Choice.{lt_yes, lt_no, lt-either, eq_yes, eq_no, eq-either}

@@ -6,7 +6,7 @@
 --   line_text n row end         the line of reading n: its number, a colon, its atoms, and the line end
 --   longest_line                the bytes of the longest one: twenty digits, a colon, 255 atoms below 1,000, a line end
 use Rattle.std.specs.Prelude.{ℕ, zero, suc, ◌+◌, ◌*◌, ◌^◌, List, [], ◌∷◌, ◌++◌}
-use Rattle.io.specs.Digits.{last_digits}
+use Rattle.system.specs.Digits.{last_digits}
 use Rattle.meaning.specs.Choice.{if_lt, if_eq}
 
 -- the fewest digits that hold n, from k to k + more

@@ -2,11 +2,12 @@
 // in takes how many bytes the buffer holds, and gives how many it holds then. What does not fit is
 // lost, so a piece is written while there is still room for a line.
 ghost use Rattle.std.specs.Prelude.{◌≡◌, ◌-◌, [], ◌∷◌, length};
-ghost use Rattle.io.specs.Counts.{IsPrefixLen};
+ghost use Rattle.system.specs.Counts.{IsPrefixLen};
 ghost use Rattle.meaning.specs.Choice.{if_lt};
 ghost use Rattle.listing.specs.Gathered.{Piece, gather};
 ghost use Rattle.listing.specs.Text.{longest_line, number_text};
 
+use system::decimal;
 use talk::print;
 
 // The longest line of a listing has a number, a colon, 255 atoms and a line end.
@@ -48,13 +49,13 @@ pub fn put_number(n: u64, piece: &mut [u8], held: usize) -> usize
     ensures prefix_len { IsPrefixLen result piece.new }
 {
     let mut digits = [0u8; 20];
-    let count = io::decimal(n, &mut digits);
+    let count = decimal(n, &mut digits);
     put_text(&digits[..count], piece, held)
 }
 
 // Writes what the buffer holds where there may be no room for another line, and gives what it holds
 // then.
-pub fn write_full(piece: &[u8], held: usize) -> usize
+pub fn write_full(rt: &impl Print, piece: &[u8], held: usize) -> usize
     requires { IsPrefixLen held piece.now }
     ensures value { result ≡ if_lt (length piece.now - held) longest_line 0 held }
     ensures prefix_len { IsPrefixLen result piece.now }
@@ -62,6 +63,6 @@ pub fn write_full(piece: &[u8], held: usize) -> usize
     if LONGEST_LINE <= piece.len() - held {
         return held;
     }
-    print(&piece[..held]);
+    print(rt, &piece[..held]);
     0
 }

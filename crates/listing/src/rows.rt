@@ -1,6 +1,6 @@
 // The rows of a page, each a set of atoms: 1 for an atom in it.
 ghost use Rattle.std.specs.Prelude.{◌≡◌, ◌+◌, ◌≤◌, length};
-ghost use Rattle.io.specs.Counts.{IsPrefixLen};
+ghost use Rattle.system.specs.Counts.{IsPrefixLen};
 ghost use Rattle.listing.specs.Gathered.{Piece, gather};
 ghost use Rattle.listing.specs.Text.{place_text, places_text, line_text};
 
@@ -66,7 +66,7 @@ fn put_line(n: u64, row: &[u8], line_end: u8, piece: &mut [u8], held: usize) -> 
 
 // Writes the lines of the first rows of a page; `before` readings were listed before. No byte is
 // lost: before each line there is room for the longest one.
-pub fn print_rows(page: &[u8], atoms: usize, rows: u64, before: u64, line_end: u8)
+pub fn print_rows(rt: &impl Print, page: &[u8], atoms: usize, rows: u64, before: u64, line_end: u8)
     requires { atoms ≤ 255 }
 {
     let mut piece = [0u8; 65536];
@@ -81,8 +81,8 @@ pub fn print_rows(page: &[u8], atoms: usize, rows: u64, before: u64, line_end: u
         row += 1;
         let n = std::num::wrapping_add_u64(before, row);
         held = put_line(n, &page[at..next], line_end, &mut piece, held);
-        held = write_full(&piece, held);
+        held = write_full(rt, &piece, held);
         at = next;
     }
-    print(&piece[..held]);
+    print(rt, &piece[..held]);
 }

@@ -35,7 +35,7 @@ enum Step {
 }
 
 // Writes `WORD SETS tries TRIES` and the line end.
-fn print_counts(word: &[u8], sets: u64, tries: u32, line_end: u8) {
+fn print_counts(rt: &impl Print, word: &[u8], sets: u64, tries: u32, line_end: u8) {
     let mut line = [0u8; 128];
     let held = put_text(word, &mut line, 0);
     let held = put_text(b" ", &mut line, held);
@@ -43,23 +43,23 @@ fn print_counts(word: &[u8], sets: u64, tries: u32, line_end: u8) {
     let held = put_text(b" tries ", &mut line, held);
     let held = put_number(tries as u64, &mut line, held);
     let held = put_text(&[line_end], &mut line, held);
-    print(&line[..held]);
+    print(rt, &line[..held]);
 }
 
 // Writes `refused NUMBER PLACE`, or `refused NUMBER` where there is no place, and the line end.
-fn print_refused(refused: Refused, line_end: u8) {
+fn print_refused(rt: &impl Print, refused: Refused, line_end: u8) {
     let mut line = [0u8; 128];
     let held = put_refused(refused, &mut line, 0);
     let held = put_text(&[line_end], &mut line, held);
-    print(&line[..held]);
+    print(rt, &line[..held]);
 }
 
 // Writes `rules R atoms A` and the line end: the first line of a listing.
-fn print_start(shape: Shape, line_end: u8) {
+fn print_start(rt: &impl Print, shape: Shape, line_end: u8) {
     let mut line = [0u8; 128];
     let held = put_size(shape, &mut line, 0);
     let held = put_text(&[line_end], &mut line, held);
-    print(&line[..held]);
+    print(rt, &line[..held]);
 }
 
 // How many rows a full page has; a book without atoms has one reading.
@@ -91,6 +91,7 @@ fn keep_row(rows: &[u8], count: usize, atoms: usize, last: &mut [u8])
 // Writes the next page, and keeps its last row where another follows. What it writes is the rows of
 // the page that is promised, by their comment; how the listing stands then is promised.
 fn list_page(
+    rt: &impl Print,
     book: &[u8],
     atoms: usize,
     line_end: u8,
@@ -112,16 +113,16 @@ fn list_page(
     match page(book, LIMIT, tries, last, rows) {
         Page::Whole(more) => {
             let count = room_for(rows.len(), atoms);
-            print_page(rows, atoms, count as u64, before, line_end, names);
+            print_page(rt, rows, atoms, count as u64, before, line_end, names);
             keep_row(rows, count, atoms, last);
             Step::Goes(before + count as u64, more)
         }
         Page::Last(all, count) => {
-            print_page(rows, atoms, count as u64, before, line_end, names);
+            print_page(rt, rows, atoms, count as u64, before, line_end, names);
             Step::Done(End::Ended(before + count as u64, all))
         }
         Page::Cut(count) => {
-            print_page(rows, atoms, count as u64, before, line_end, names);
+            print_page(rt, rows, atoms, count as u64, before, line_end, names);
             Step::Done(End::Stopped(before + count as u64))
         }
         Page::Book(why) => Step::Done(End::Refused(refused_book(why))),
@@ -132,7 +133,7 @@ fn list_page(
 // Writes the readings of a good book, and gives how many they are and the tries. A page of 65,280
 // bytes has room for 256 rows of 255 atoms. Each full page has a try for each of its rows at least,
 // so the listing comes to an end.
-fn list_pages(book: &[u8], shape: Shape, line_end: u8, names: &[u8]) -> End
+fn list_pages(rt: &impl Print, book: &[u8], shape: Shape, line_end: u8, names: &[u8]) -> End
     requires { ReadAs book.now shape }
     ensures { Shown (book_in book.now) 1000000 result }
 {
@@ -143,7 +144,7 @@ fn list_pages(book: &[u8], shape: Shape, line_end: u8, names: &[u8]) -> End
     let mut tries: u32 = 0;
     loop {
         match list_page(
-            book, atoms, line_end, names, before, tries, &mut rows, &mut last,
+            rt, book, atoms, line_end, names, before, tries, &mut rows, &mut last,
         ) {
             Step::Goes(sets, more) => {
                 before = sets;
@@ -157,22 +158,22 @@ fn list_pages(book: &[u8], shape: Shape, line_end: u8, names: &[u8]) -> End
 }
 
 // Writes the last line of a listing.
-fn print_end(end: End, line_end: u8) {
+fn print_end(rt: &impl Print, end: End, line_end: u8) {
     match end {
-        End::Ended(sets, tries) => print_counts(b"end", sets, tries, line_end),
-        End::Stopped(sets) => print_counts(b"stopped", sets, LIMIT, line_end),
-        End::Refused(refused) => print_refused(refused, line_end),
+        End::Ended(sets, tries) => print_counts(rt, b"end", sets, tries, line_end),
+        End::Stopped(sets) => print_counts(rt, b"stopped", sets, LIMIT, line_end),
+        End::Refused(refused) => print_refused(rt, refused, line_end),
     }
 }
 
 // Writes what the program `readings` prints for the book, with `line_end` at the end of each line, and
 // with names where there are any.
-pub fn list(book: &[u8], line_end: u8, names: &[u8]) {
+pub fn list(rt: &impl Print, book: &[u8], line_end: u8, names: &[u8]) {
     match read_book(book) {
-        Read::Refused(why) => print_refused(refused_book(why), line_end),
+        Read::Refused(why) => print_refused(rt, refused_book(why), line_end),
         Read::Good(shape) => {
-            print_start(shape, line_end);
-            print_end(list_pages(book, shape, line_end, names), line_end);
+            print_start(rt, shape, line_end);
+            print_end(rt, list_pages(rt, book, shape, line_end, names), line_end);
         }
     }
 }

@@ -5,11 +5,12 @@ ghost use Rattle.book.specs.Format.{ReadAs};
 
 use book::{Shape, head, negatives, positives};
 use meaning::RuleNo;
+use system::find;
 use talk::{name_of, print, put_number, put_size, put_text};
 
 // Whether the part of a body has the atom.
 fn has(part: &[u8], a: u8) -> bool {
-    bytes::scan::find(part, 0, part.len(), a) < part.len()
+    find(part, 0, part.len(), a) < part.len()
 }
 
 // Whether the rule's body has the atom.
@@ -57,16 +58,16 @@ fn count_uses(book: &[u8], shape: Shape, a: u8) -> u8
 }
 
 // Writes how large the book is.
-fn show_size(shape: Shape) {
+fn show_size(rt: &impl Print, shape: Shape) {
     let mut line = [0u8; 64];
     let held = put_text(b"made: ", &mut line, 0);
     let held = put_size(shape, &mut line, held);
     let held = put_text(b"\n", &mut line, held);
-    print(&line[..held]);
+    print(rt, &line[..held]);
 }
 
 // Writes the line of an atom.
-fn show_atom(book: &[u8], shape: Shape, a: u8, names: &[u8])
+fn show_atom(rt: &impl Print, book: &[u8], shape: Shape, a: u8, names: &[u8])
     requires { ReadAs book.now shape }
 {
     let rules = count_rules(book, shape, a);
@@ -81,17 +82,17 @@ fn show_atom(book: &[u8], shape: Shape, a: u8, names: &[u8])
     let held = put_text(b"; used ", &mut line, held);
     let held = put_number(uses as u64, &mut line, held);
     let held = put_text(b"\n", &mut line, held);
-    print(&line[..held]);
+    print(rt, &line[..held]);
 }
 
 // Writes the size, and a line for each atom.
-pub fn show_atoms(book: &[u8], shape: Shape, names: &[u8])
+pub fn show_atoms(rt: &impl Print, book: &[u8], shape: Shape, names: &[u8])
     requires { ReadAs book.now shape }
 {
-    show_size(shape);
+    show_size(rt, shape);
     let mut a: u8 = 0;
     while a < shape.atoms {
-        show_atom(book, shape, a, names);
+        show_atom(rt, book, shape, a, names);
         a += 1;
     }
 }

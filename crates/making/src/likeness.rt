@@ -1,9 +1,8 @@
 // Whether two names differ so little that one may be a slip of the pen for the other: only in case or
 // in signs, or, these apart, in one letter. Digits count: `a1` and `a2` are two names.
 ghost use Rattle.std.specs.Prelude.{◌≤◌, length};
-ghost use Rattle.io.specs.Counts.{IsPrefixLen};
+ghost use Rattle.system.specs.Counts.{IsPrefixLen};
 
-use check::same;
 use talk::put_text;
 
 #[derive(Clone, Copy)]
@@ -92,7 +91,7 @@ fn is_changed(one: &[u8], other: &[u8]) -> bool {
         return false;
     }
     let next = i + 1;
-    is_letter(one[i]) && is_letter(other[i]) && same(&one[next..], &other[next..])
+    is_letter(one[i]) && is_letter(other[i]) && &one[next..] == &other[next..]
 }
 
 // Whether the longer one has one letter more, and else they are the same.
@@ -102,12 +101,12 @@ fn is_missing(short: &[u8], long: &[u8]) -> bool {
         return false;
     }
     let next = i + 1;
-    is_letter(long[i]) && same(&short[i..], &long[next..])
+    is_letter(long[i]) && &short[i..] == &long[next..]
 }
 
 // How much two names differ that are in lower case and without signs.
 fn compare(one: &[u8], other: &[u8]) -> Likeness {
-    if same(one, other) {
+    if one == other {
         return Likeness::Signs;
     }
     if is_changed(one, other) || is_missing(one, other) || is_missing(other, one) {

@@ -7,38 +7,40 @@
 #![tactic(auto)]
 
 use calling::{open_at, shift};
+use std::rt::{Env, Files};
+use system::arg_count;
 
 // Lists the readings of the words or of the text in the file that the second argument names.
-fn list_named() {
+fn list_named(rt: &(impl Env + Files + Print)) {
     let mut book = [0u8; talk::BOOK_ROOM];
     let mut names = [0u8; talk::NAMES_ROOM];
-    let opened = open_at(1, b"", &mut book, &mut names);
+    let opened = open_at(rt, 1, b"", &mut book, &mut names);
     if opened.good {
         let n = opened.count;
         let m = opened.names;
-        listing::list(&book[..n], b'\n', &names[..m]);
+        listing::list(rt, &book[..n], b'\n', &names[..m]);
     }
 }
 
 // Lists the readings of the book on standard input.
-fn list_input() {
+fn list_input(rt: &(impl Input + Print)) {
     let mut book = [0u8; talk::BOOK_ROOM];
-    let taken = talk::read_input(&mut book);
+    let taken = talk::read_input(rt, &mut book);
     if taken.good {
         let n = taken.count;
-        listing::list(&book[..n], b'\n', b"");
+        listing::list(rt, &book[..n], b'\n', b"");
     }
 }
 
-fn main() {
-    let count = os::arg_count();
-    if count == 3 && shift() == 1 {
-        list_named();
+fn main(rt: HostRuntime) {
+    let count = arg_count(&rt);
+    if count == 3 && shift(&rt) == 1 {
+        list_named(&rt);
         return;
     }
     if count != 1 {
-        talk::complain_of_call(b"readings < BOOKFILE");
+        talk::complain_of_call(&rt, b"readings < BOOKFILE");
         return;
     }
-    list_input();
+    list_input(&rt);
 }

@@ -5,47 +5,53 @@ use crate::argument::take_path;
 use crate::place::look_at;
 use crate::save::save_file;
 use book::{Read, read_book};
-use check::same;
+use std::rt::{Env, Files};
+use system::PATH_ROOM;
 use talk::{BOOK_ROOM, complain};
 
 // Whether the bytes that stand at the path give way to the book. Where they do not a line says so.
-fn gives_way(path: &[u8], old: &[u8], book: &[u8], is_replacing: bool) -> bool {
+fn gives_way(rt: &impl Print, path: &[u8], old: &[u8], book: &[u8], is_replacing: bool) -> bool {
     if old.len() == 0 {
         return true;
     }
     let Read::Good(_) = read_book(old) else {
-        complain(path, b"it is there and is no book");
+        complain(rt, path, b"it is there and is no book");
         return false;
     };
-    if is_replacing || same(old, book) {
+    if is_replacing || old == book {
         return true;
     }
-    complain(path, b"it is another book; see --replace");
+    complain(rt, path, b"it is another book; see --replace");
     false
 }
 
 // Saves the book at the path where what stands there gives way.
-fn save_at(path: &[u8], book: &[u8], is_replacing: bool) -> bool {
+fn save_at(rt: &(impl Files + Print), path: &[u8], book: &[u8], is_replacing: bool) -> bool {
     let mut old = [0u8; BOOK_ROOM];
-    let there = look_at(path, &mut old);
+    let there = look_at(rt, path, &mut old);
     if !there.good {
         return false;
     }
     let n = there.count;
-    if !gives_way(path, &old[..n], book, is_replacing) {
+    if !gives_way(rt, path, &old[..n], book, is_replacing) {
         return false;
     }
-    save_file(path, there.is_file, book)
+    save_file(rt, path, there.is_file, book)
 }
 
 // Saves the book in the file that an argument names, and gives whether it is saved; where it is not
 // a line says so.
-pub fn save_book(i: usize, book: &[u8], is_replacing: bool) -> bool {
-    let mut path = io::buffer();
-    let taken = take_path(i, &mut path);
+pub fn save_book(
+    rt: &(impl Env + Files + Print),
+    i: usize,
+    book: &[u8],
+    is_replacing: bool,
+) -> bool {
+    let mut path = [0u8; PATH_ROOM];
+    let taken = take_path(rt, i, &mut path);
     if !taken.good {
         return false;
     }
     let n = taken.count;
-    save_at(&path[..n], book, is_replacing)
+    save_at(rt, &path[..n], book, is_replacing)
 }

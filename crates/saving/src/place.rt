@@ -1,9 +1,12 @@
 // What stands where a file is to be saved. A link, a pipe, a device or a folder never gives way,
 // nor does a file that may not be written.
-ghost use Rattle.std.specs.Prelude.{◌<◌, length};
-ghost use Rattle.io.specs.Counts.{IsPrefixLen};
-ghost use Rattle.libc.specs.Io.{Ended};
+ghost use Rattle.std.specs.Prelude.{◌≡◌};
+ghost use Rattle.system.specs.Counts.{IsPrefixLen};
 
+use std::fs::OpenFile;
+use std::io::{Error, ErrorKind, Read, Seek, SeekFrom};
+use std::rt::Files;
+use system::{PATH_ROOM, is_link, open_update, read_full};
 use talk::complain;
 
 // Whether nothing forbids to save, whether a file stands there, and how many of its bytes stand at
@@ -30,53 +33,33 @@ impl There {
     };
 }
 
-// The path with a zero behind it, as the system takes it.
-fn ended(path: &[u8]) -> [u8; 4096]
-    requires { length path.now < 4096 }
-    ensures { Ended result }
-{
-    let mut out = io::buffer();
-    bytes::copy(path, &mut out);
-    out[4095] = 0;
-    out
-}
-
-fn is_link(path: &[u8]) -> bool
-    requires { length path.now < 4096 }
-{
-    let whole = ended(path);
-    let mut text = [0u8; 1];
-    0 <= libc::readlink(&whole, &mut text)
-}
-
-// Says in a line why the last call of the system on a file that is to be written failed.
-pub fn complain_of_writing(path: &[u8]) {
-    let error = os::errno();
-    if error == libc::ENOENT || error == libc::ENOTDIR {
-        complain(path, b"there is no such folder");
-    } else if error == libc::EACCES || error == libc::EPERM || error == libc::EROFS {
-        complain(path, b"it may not be written");
-    } else if error == libc::EISDIR {
-        complain(path, b"it is a folder");
-    } else {
-        complain(path, b"it cannot be written");
+// Says in a line why the system did not let a file be written.
+pub fn complain_of_writing(rt: &impl Print, path: &[u8], error: Error) {
+    match error.kind() {
+        ErrorKind::NotFound | ErrorKind::NotADirectory => {
+            complain(rt, path, b"there is no such folder");
+        }
+        ErrorKind::PermissionDenied | ErrorKind::ReadOnlyFilesystem => {
+            complain(rt, path, b"it may not be written");
+        }
+        ErrorKind::IsADirectory => complain(rt, path, b"it is a folder"),
+        _ => complain(rt, path, b"it cannot be written"),
     }
 }
 
 // Reads the open file from its start. A pipe has no end to go to; a file of which less was read
 // than there is may hold anything behind that.
-fn read_there(fd: i32, path: &[u8], out: &mut [u8]) -> There
+fn read_there(rt: &impl Print, file: &mut (impl Read + Seek), path: &[u8], out: &mut [u8]) -> There
     ensures { IsPrefixLen result.count out.new }
 {
-    let end = libc::lseek(fd, 0, libc::SEEK_END);
-    if end < 0 {
-        complain(path, b"it is no regular file");
+    let Ok(end) = file.seek(SeekFrom::End(0)) else {
+        complain(rt, path, b"it is no regular file");
         return There::FORBIDDEN;
-    }
-    libc::lseek(fd, 0, libc::SEEK_SET);
-    let n = io::read_full(fd, out);
-    if n < out.len() && n as i64 != end {
-        complain(path, b"it cannot be read");
+    };
+    let _ = file.seek(SeekFrom::Start(0));
+    let n = read_full(file, out).count;
+    if n < out.len() && n as u64 != end {
+        complain(rt, path, b"it cannot be read");
         return There::FORBIDDEN;
     }
     There {
@@ -86,41 +69,49 @@ fn read_there(fd: i32, path: &[u8], out: &mut [u8]) -> There
     }
 }
 
-// Reads what stands at the path, as far as there is room for it. It is opened for writing too,
-// which does not wait where it is a pipe. Where it never gives way a line says so.
-pub fn look_at(path: &[u8], out: &mut [u8]) -> There
-    ensures { IsPrefixLen result.count out.new }
+// Says in a line why the file cannot be opened, unless there is none.
+fn look_at_nothing(rt: &impl Print, path: &[u8], error: Error) -> There
+    ensures { result.count ≡ 0 }
 {
-    if libc::PATH_MAX <= path.len() {
-        complain(path, b"its name is too long");
-        return There::FORBIDDEN;
+    if error.kind() == ErrorKind::NotFound {
+        return There::NOTHING;
     }
-    if is_link(path) {
-        complain(path, b"it is a link");
-        return There::FORBIDDEN;
-    }
-    let fd = os::open_update(path);
-    if fd < 0 {
-        if os::errno() == libc::ENOENT {
-            return There::NOTHING;
-        }
-        complain_of_writing(path);
-        return There::FORBIDDEN;
-    }
-    let there = read_there(fd, path, out);
-    libc::close(fd);
-    there
+    complain_of_writing(rt, path, error);
+    There::FORBIDDEN
 }
 
-// Whether the path is that of a regular file. The system is asked to cut the file at the length
-// that it has, which it does for regular files only.
-pub fn is_regular(path: &[u8]) -> bool {
-    let fd = os::open_update(path);
-    if fd < 0 {
-        return false;
+// Reads what stands at the path, as far as there is room for it. It is opened for writing too,
+// which does not wait where it is a pipe. Where it never gives way a line says so.
+pub fn look_at(rt: &(impl Files + Print), path: &[u8], out: &mut [u8]) -> There
+    ensures { IsPrefixLen result.count out.new }
+{
+    if PATH_ROOM <= path.len() {
+        complain(rt, path, b"its name is too long");
+        return There::FORBIDDEN;
     }
-    let size = libc::lseek(fd, 0, libc::SEEK_END);
-    let cut = libc::ftruncate(fd, size);
-    libc::close(fd);
-    cut == 0
+    if is_link(rt, path) {
+        complain(rt, path, b"it is a link");
+        return There::FORBIDDEN;
+    }
+    match open_update(rt, path) {
+        Ok(mut file) => read_there(rt, &mut file, path, out),
+        Err(error) => look_at_nothing(rt, path, error),
+    }
+}
+
+// Whether the open file is a regular one. The system is asked to cut it at the length that it has,
+// which it does for regular files only.
+fn is_cut(file: &mut (impl Seek + OpenFile)) -> bool {
+    match file.seek(SeekFrom::End(0)) {
+        Ok(size) => file.set_len(size).is_ok(),
+        Err(_) => false,
+    }
+}
+
+// Whether the path is that of a regular file.
+pub fn is_regular(rt: &impl Files, path: &[u8]) -> bool {
+    match open_update(rt, path) {
+        Ok(mut file) => is_cut(&mut file),
+        Err(_) => false,
+    }
 }

@@ -3,17 +3,17 @@ use listing::put_named;
 use talk::{print, put_text};
 
 // Writes the word and the atoms that have the byte. The longest line has 255 atoms.
-fn show_those(word: &[u8], bytes: &[u8], byte: u8, names: &[u8]) {
+fn show_those(rt: &impl Print, word: &[u8], bytes: &[u8], byte: u8, names: &[u8]) {
     let mut line = [0u8; 67584];
     let held = put_text(word, &mut line, 0);
     let held = put_named(names, bytes, byte, &mut line, held);
     let held = put_text(b"\n", &mut line, held);
-    print(&line[..held]);
+    print(rt, &line[..held]);
 }
 
 // Writes a line for each of the three.
-pub fn show_atoms(bytes: &[u8], names: &[u8]) {
-    show_those(b"true:", bytes, 1, names);
-    show_those(b"false:", bytes, 0, names);
-    show_those(b"open:", bytes, 2, names);
+pub fn show_atoms(rt: &impl Print, bytes: &[u8], names: &[u8]) {
+    show_those(rt, b"true:", bytes, 1, names);
+    show_those(rt, b"false:", bytes, 0, names);
+    show_those(rt, b"open:", bytes, 2, names);
 }

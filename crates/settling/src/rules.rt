@@ -7,31 +7,31 @@ use meaning::RuleNo;
 use talk::{print, put_number, put_text, show_rule};
 
 // Writes the rule with its word: its byte is 1 where it is on, 0 where it is off.
-fn show_colour(book: &[u8], shape: Shape, r: RuleNo, byte: u8, names: &[u8])
+fn show_colour(rt: &impl Print, book: &[u8], shape: Shape, r: RuleNo, byte: u8, names: &[u8])
     requires { ReadAs book.now shape × (r.0 < shape.rules) }
 {
     if byte == 1 {
-        show_rule(book, shape, r, b" on", names);
+        show_rule(rt, book, shape, r, b" on", names);
         return;
     }
     if byte == 0 {
-        show_rule(book, shape, r, b" off", names);
+        show_rule(rt, book, shape, r, b" off", names);
         return;
     }
-    show_rule(book, shape, r, b" open", names);
+    show_rule(rt, book, shape, r, b" open", names);
 }
 
 // Writes a line for each rule, or that there is none.
-pub fn show_rules(book: &[u8], shape: Shape, bytes: &[u8; 510], names: &[u8])
+pub fn show_rules(rt: &impl Print, book: &[u8], shape: Shape, bytes: &[u8; 510], names: &[u8])
     requires { ReadAs book.now shape }
 {
     if shape.rules == 0 {
-        print(b"no rules\n");
+        print(rt, b"no rules\n");
         return;
     }
     let mut r: u8 = 0;
     while r < shape.rules {
-        show_colour(book, shape, RuleNo(r), bytes[r as usize], names);
+        show_colour(rt, book, shape, RuleNo(r), bytes[r as usize], names);
         r += 1;
     }
 }
@@ -60,7 +60,7 @@ fn count_settled(bytes: &[u8]) -> u64
 }
 
 // Writes how many rules are settled, and that this names and clears nobody.
-pub fn show_settled(bytes: &[u8]) {
+pub fn show_settled(rt: &impl Print, bytes: &[u8]) {
     let mut line = [0u8; 128];
     let held = put_text(b"settled ", &mut line, 0);
     let held = put_number(count_settled(bytes), &mut line, held);
@@ -71,5 +71,5 @@ pub fn show_settled(bytes: &[u8]) {
         &mut line,
         held,
     );
-    print(&line[..held]);
+    print(rt, &line[..held]);
 }

@@ -1,7 +1,7 @@
 // How many atoms a book has, and which of them have no rule: such an atom is in no reading, and may
 // be a slip of the pen.
 ghost use Rattle.book.specs.Format.{ReadAs};
-ghost use Rattle.io.specs.Counts.{IsPrefixLen};
+ghost use Rattle.system.specs.Counts.{IsPrefixLen};
 
 use book::{Shape, lost_in, wide};
 use meaning::Colouring;
@@ -58,7 +58,7 @@ fn put_list(
 }
 
 // Writes `atoms A, without a rule:`, the atoms without one, and the line end.
-pub fn show_atoms(book: &[u8], shape: Shape, names: &[u8])
+pub fn show_atoms(rt: &impl Print, book: &[u8], shape: Shape, names: &[u8])
     requires { ReadAs book.now shape }
 {
     let mut bare = [false; Colouring::ATOMS];
@@ -70,5 +70,5 @@ pub fn show_atoms(book: &[u8], shape: Shape, names: &[u8])
     let held = put_text(b", without a rule:", &mut line, held);
     let held = put_list(names, shape.atoms, &bare, &mut line, held);
     let held = put_text(b"\n", &mut line, held);
-    print(&line[..held]);
+    print(rt, &line[..held]);
 }

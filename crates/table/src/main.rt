@@ -9,16 +9,18 @@
 mod names;
 mod turn;
 
-fn main() {
-    if os::arg_count() != 1 + calling::shift() {
-        talk::complain_of_call(b"table < NAMESFILE");
+use system::arg_count;
+
+fn main(rt: HostRuntime) {
+    if arg_count(&rt) != 1 + calling::shift(&rt) {
+        talk::complain_of_call(&rt, b"table < NAMESFILE");
         return;
     }
     let mut input = [0u8; names::ROOM];
-    let taken = talk::read_input(&mut input);
+    let taken = talk::read_input(&rt, &mut input);
     if !taken.good {
         return;
     }
     let n = taken.count;
-    names::print_table(&input[..n]);
+    names::print_table(&rt, &rt.stderr(), &input[..n]);
 }

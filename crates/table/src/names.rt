@@ -3,7 +3,9 @@
 ghost use Rattle.std.specs.Prelude.{◌<◌, ◌≤◌, length};
 
 use crate::turn::{LAYOUT, with_name};
-use bytes::scan::find;
+use std::io::IsTerminal;
+use std::rt::{Env, Files};
+use system::find;
 use tabling::{MOST_BOOKS, Table};
 use talk::{print, put_number, put_text};
 
@@ -43,8 +45,8 @@ fn count_names(names: &[u8]) -> usize {
 }
 
 // Says on standard error how far the work is, where that is a terminal.
-fn say_how_far(number: usize, count: usize) {
-    if libc::isatty(libc::STDERR_FILENO) != 1 {
+fn say_how_far(errors: &(impl IsTerminal + Print), number: usize, count: usize) {
+    if !errors.is_terminal() {
         return;
     }
     let mut line = [0u8; 128];
@@ -53,34 +55,43 @@ fn say_how_far(number: usize, count: usize) {
     let held = put_text(b" of ", &mut line, held);
     let held = put_number(count as u64, &mut line, held);
     let held = put_text(b"\n", &mut line, held);
-    io::write_all(libc::STDERR_FILENO, &line[..held]);
+    print(errors, &line[..held]);
 }
 
 // Writes the lines of all names.
-fn print_books(names: &[u8], count: usize) {
+fn print_books(
+    rt: &(impl Env + Files + Print),
+    errors: &(impl IsTerminal + Print),
+    names: &[u8],
+    count: usize,
+) {
     let mut table = Table::START;
     let mut number = 0;
     let mut at = 0;
     while at < names.len() {
         let end = end_of_name(names, at);
         number += 1;
-        say_how_far(number, count);
-        table = with_name(table, &names[at..end]);
+        say_how_far(errors, number, count);
+        table = with_name(rt, table, &names[at..end]);
         at = next_name(names, at);
     }
-    table.end(LAYOUT);
+    table.end(rt, LAYOUT);
 }
 
 // Writes the table, or that there are too many names, before any of them is opened.
-pub fn print_table(names: &[u8]) {
+pub fn print_table(
+    rt: &(impl Env + Files + Print),
+    errors: &(impl IsTerminal + Print),
+    names: &[u8],
+) {
     let count = count_names(names);
     if MOST_BOOKS < count {
-        print(b"refused 36\n");
+        print(rt, b"refused 36\n");
         return;
     }
     if names.len() == ROOM {
-        talk::complain(b"standard input", b"it has over 262,144 bytes");
+        talk::complain(rt, b"standard input", b"it has over 262,144 bytes");
         return;
     }
-    print_books(names, count);
+    print_books(rt, errors, names, count);
 }

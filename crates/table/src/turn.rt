@@ -1,5 +1,6 @@
 // The turn of a name: its file is a book, or with `--words` or `--text` what a book is made of.
 use calling::{Made, Source, TEXT_ROOM, make_quietly, source_at};
+use std::rt::{Env, Files};
 use tabling::{Layout, Table};
 use talk::{BOOK_ROOM, first_bytes, read_quietly};
 
@@ -11,39 +12,39 @@ pub const LAYOUT: Layout = Layout {
 };
 
 // Takes the turn of the book behind the name.
-fn with_book(table: Table, name: &[u8]) -> Table {
+fn with_book(rt: &(impl Files + Print), table: Table, name: &[u8]) -> Table {
     let mut book = [0u8; BOOK_ROOM];
-    let taken = read_quietly(name, &mut book);
+    let taken = read_quietly(rt, name, &mut book);
     let n = taken.count;
-    table.with_book(taken.good, &book[..n], name, LAYOUT)
+    table.with_book(rt, taken.good, &book[..n], name, LAYOUT)
 }
 
 // Takes the turn of the book of the text.
-fn with_made(table: Table, are_words: bool, text: &[u8], name: &[u8]) -> Table {
+fn with_made(rt: &impl Print, table: Table, are_words: bool, text: &[u8], name: &[u8]) -> Table {
     let mut book = [0u8; BOOK_ROOM];
     match make_quietly(are_words, text, &mut book) {
-        Made::Book(n) => table.with_book(true, first_bytes(&book, n), name, LAYOUT),
-        Made::Refused(number) => table.with_refused(number, name, LAYOUT),
+        Made::Book(n) => table.with_book(rt, true, first_bytes(&book, n), name, LAYOUT),
+        Made::Refused(number) => table.with_refused(rt, number, name, LAYOUT),
     }
 }
 
 // The same of the text behind the name. One that is longer than what is taken counts as one that
 // cannot be read.
-fn with_text(table: Table, are_words: bool, name: &[u8]) -> Table {
+fn with_text(rt: &(impl Files + Print), table: Table, are_words: bool, name: &[u8]) -> Table {
     let mut text = [0u8; TEXT_ROOM];
-    let taken = read_quietly(name, &mut text);
+    let taken = read_quietly(rt, name, &mut text);
     let n = taken.count;
     if !taken.good || n == TEXT_ROOM {
-        return table.with_book(false, b"", name, LAYOUT);
+        return table.with_book(rt, false, b"", name, LAYOUT);
     }
-    with_made(table, are_words, &text[..n], name)
+    with_made(rt, table, are_words, &text[..n], name)
 }
 
 // Takes the turn of what is behind the name.
-pub fn with_name(table: Table, name: &[u8]) -> Table {
-    match source_at(1) {
-        Source::Book => with_book(table, name),
-        Source::Words => with_text(table, true, name),
-        Source::Text => with_text(table, false, name),
+pub fn with_name(rt: &(impl Env + Files + Print), table: Table, name: &[u8]) -> Table {
+    match source_at(rt, 1) {
+        Source::Book => with_book(rt, table, name),
+        Source::Words => with_text(rt, table, true, name),
+        Source::Text => with_text(rt, table, false, name),
     }
 }

@@ -1,5 +1,5 @@
 // The lines of a table, which are gathered in a buffer and written at once.
-ghost use Rattle.io.specs.Counts.{IsPrefixLen};
+ghost use Rattle.system.specs.Counts.{IsPrefixLen};
 
 use counting::{Line, Totals};
 use meaning::Colouring;
@@ -95,6 +95,7 @@ fn put_name_behind(name: &[u8], layout: Layout, line: &mut [u8], held: usize) ->
 // Writes a book's line: its number, its name where there are names, and its values. The longest has
 // a name of 4,096 bytes and 256 numbers.
 pub fn print_book(
+    rt: &impl Print,
     number: u64,
     name: &[u8],
     values: Line,
@@ -106,7 +107,7 @@ pub fn print_book(
     let held = put_name_behind(name, layout, &mut line, held);
     let held = put_values(values, counts, layout.separator, &mut line, held);
     let held = put_text(&[layout.line_end], &mut line, held);
-    print(&line[..held]);
+    print(rt, &line[..held]);
 }
 
 // The number behind others, where it is marked.
@@ -135,16 +136,16 @@ fn put_marked(marked: &[bool; 64], separator: u8, line: &mut [u8], held: usize) 
 }
 
 // Writes which books have no answer sets.
-pub fn print_without(without: &[bool; 64], layout: Layout) {
+pub fn print_without(rt: &impl Print, without: &[bool; 64], layout: Layout) {
     let mut line = [0u8; 512];
     let held = put_text(b"without", &mut line, 0);
     let held = put_marked(without, layout.separator, &mut line, held);
     let held = put_text(&[layout.line_end], &mut line, held);
-    print(&line[..held]);
+    print(rt, &line[..held]);
 }
 
 // Writes the totals: the last line of a table.
-pub fn print_totals(totals: Totals, layout: Layout) {
+pub fn print_totals(rt: &impl Print, totals: Totals, layout: Layout) {
     let separator = layout.separator;
     let mut line = [0u8; 128];
     let held = put_text(b"certain", &mut line, 0);
@@ -156,5 +157,5 @@ pub fn print_totals(totals: Totals, layout: Layout) {
     let held = put_word(b"of", separator, &mut line, held);
     let held = put_value(totals.atoms, separator, &mut line, held);
     let held = put_text(&[layout.line_end], &mut line, held);
-    print(&line[..held]);
+    print(rt, &line[..held]);
 }

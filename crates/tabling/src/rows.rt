@@ -34,6 +34,7 @@ impl Table {
     // Writes the line of the next book. A book behind the last that a table has changes nothing.
     fn with_turn(
         self,
+        rt: &impl Print,
         turn: Turn,
         counts: &[u32; Colouring::ATOMS],
         name: &[u8],
@@ -43,7 +44,7 @@ impl Table {
             return self;
         }
         let line = turn.line;
-        print_book(self.books as u64 + 1, name, line, counts, layout);
+        print_book(rt, self.books as u64 + 1, name, line, counts, layout);
         let mut without = self.without;
         without[self.books as usize] = is_without(line);
         let totals = turn.totals;
@@ -56,27 +57,34 @@ impl Table {
 
     // Takes the turn of the next book and writes its line; `is_open` says whether its name could be
     // opened and read.
-    pub fn with_book(self, is_open: bool, book: &[u8], name: &[u8], layout: Layout) -> Table {
+    pub fn with_book(
+        self,
+        rt: &impl Print,
+        is_open: bool,
+        book: &[u8],
+        name: &[u8],
+        layout: Layout,
+    ) -> Table {
         let mut counts = [0u32; Colouring::ATOMS];
         let turn = take_turn(is_open, book, LIMIT, self.totals, &mut counts);
-        self.with_turn(turn, &counts, name, layout)
+        self.with_turn(rt, turn, &counts, name, layout)
     }
 
     // Writes the line of a text of which no book was made, for which this number stands.
-    pub fn with_refused(self, number: u8, name: &[u8], layout: Layout) -> Table {
+    pub fn with_refused(self, rt: &impl Print, number: u8, name: &[u8], layout: Layout) -> Table {
         let counts = [0u32; Colouring::ATOMS];
         let totals = self.totals;
         let turn = Turn {
             line: Line::Refused(number),
             totals,
         };
-        self.with_turn(turn, &counts, name, layout)
+        self.with_turn(rt, turn, &counts, name, layout)
     }
 
     // Writes the last two lines.
-    pub fn end(self, layout: Layout) {
+    pub fn end(self, rt: &impl Print, layout: Layout) {
         let without = self.without;
-        print_without(&without, layout);
-        print_totals(self.totals, layout);
+        print_without(rt, &without, layout);
+        print_totals(rt, self.totals, layout);
     }
 }

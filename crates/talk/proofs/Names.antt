@@ -6,7 +6,7 @@ use native.Mathlib.Omega.{arith}
 use lib.ListN.{length, get_or, take, drop, length-drop}
 use lib.Seq.{length-take-le, get_or-take, get_or-drop, take-add, take-take, drop_at}
 use borrow.Author.Tests.{eq-eqb, ne_eqb}
-use Rattle.bytes.specs.Bytes.{index_after, index_of, slice}
+use Rattle.system.specs.Places.{index_of, slice}
 use Rattle.meaning.proofs.Choice.{lt_yes, lt_no}
 use Rattle.talk.specs.Names.{row_of, name_in}
 
@@ -42,7 +42,7 @@ pub record Short (name : List ℕ) : Type 0 where
 
 before-zero : (name row : List ℕ) → length name < length row → ((k : ℕ) → k < length row → get_or row k 0 ≡ get_or name k 0)
     → ((k : ℕ) → k < length name → get_or name k 0 ≡ 0 → ⊥) → take (index_of 0 row) row ≡ name
-unfolding index_after index_of
+unfolding index_of
 before-zero [] [] h f n = absurd (omega arith)
 before-zero [] (x ∷ row) h f n = let e : x ≡ 0 = f 0 (omega arith) in rw (eq-eqb x 0 e) refl
 before-zero (y ∷ name) [] h f n = absurd (omega arith)

@@ -6,7 +6,7 @@ use native.Mathlib.Omega.{arith}
 use native.Mathlib.Nat.{zero-add}
 use lib.ListN.{length, take, drop, drop_of_length-le, length-drop}
 use lib.Seq.{take_all, take-length}
-use Rattle.bytes.specs.Bytes.{index_of, slice}
+use Rattle.system.specs.Places.{index_of, slice}
 use Rattle.talk.specs.Words.{first_word, other_words}
 
 module _ (l : List ℕ) (e : ℕ) (h : e ≡ 0 + index_of 32 (slice 0 (length l) l)) where

@@ -3,7 +3,7 @@
 --   row_of names a        the bytes of the atom's row
 --   name_in names a       the atom's name: the bytes of its row before the first zero; none where the row is not whole
 use Rattle.std.specs.Prelude.{List, [], ℕ, ◌+◌, ◌*◌, length, take}
-use Rattle.bytes.specs.Bytes.{index_of, slice}
+use Rattle.system.specs.Places.{index_of, slice}
 use Rattle.meaning.specs.Choice.{if_lt}
 
 abbrev pub row_of : List ℕ → ℕ → List ℕ

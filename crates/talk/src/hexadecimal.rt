@@ -1,6 +1,6 @@
 // Bytes written as hexadecimal digits, two to a byte, in either case; `-` for none.
 ghost use Rattle.std.specs.Prelude.{◌≡◌, ◌*◌, ◌≤◌, length};
-ghost use Rattle.io.specs.Counts.{IsPrefixLen};
+ghost use Rattle.system.specs.Counts.{IsPrefixLen};
 ghost use Rattle.talk.specs.Hexadecimal.{digit_of, all_digits, filled, decoded_of};
 
 // Whether a word says bytes, and how many.

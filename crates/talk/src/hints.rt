@@ -1,6 +1,6 @@
 // Hints for whoever hands over another file than was asked for: what bytes that were refused look
 // like. A hint stands behind the sentence of a refusal, and decides nothing.
-ghost use Rattle.io.specs.Counts.{IsPrefixLen};
+ghost use Rattle.system.specs.Counts.{IsPrefixLen};
 
 use crate::line::put_text;
 use book::BOOK_MARK;

@@ -2,9 +2,10 @@
 // append to the same file then mix no line. Each function here takes how many bytes the buffer
 // holds, and gives how many it holds then. A buffer is made with room for the longest line; a word
 // that has no room is left out whole.
-ghost use Rattle.io.specs.Counts.{IsPrefixLen};
+ghost use Rattle.system.specs.Counts.{IsPrefixLen};
 
 use crate::output::{least, put_digits, put_plain};
+use system::decimal;
 
 // The text as it stands.
 pub fn put_text(text: &[u8], line: &mut [u8], held: usize) -> usize
@@ -14,7 +15,9 @@ pub fn put_text(text: &[u8], line: &mut [u8], held: usize) -> usize
     if line.len() - held < text.len() {
         return held;
     }
-    held + bytes::copy(text, &mut line[held..])
+    let end = held + text.len();
+    line[held..end].copy_from_slice(text);
+    end
 }
 
 // The number in decimal.
@@ -23,7 +26,7 @@ pub fn put_number(n: u64, line: &mut [u8], held: usize) -> usize
     ensures { IsPrefixLen result line.new }
 {
     let mut digits = [0u8; 20];
-    let count = io::decimal(n, &mut digits);
+    let count = decimal(n, &mut digits);
     put_text(&digits[..count], line, held)
 }
 

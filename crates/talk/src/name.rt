@@ -2,10 +2,11 @@
 // name too. Names come as rows of 256 bytes, a row for each atom, each name with a zero behind it; no
 // bytes where there are none.
 ghost use Rattle.std.specs.Prelude.{◌≡◌};
-ghost use Rattle.io.specs.Counts.{IsPrefixLen};
+ghost use Rattle.system.specs.Counts.{IsPrefixLen};
 ghost use Rattle.talk.specs.Names.{name_in};
 
 use crate::line::{put_number, put_text};
+use system::find;
 
 // Room for a name and the zero behind it.
 pub const NAME_ROOM: usize = 256;
@@ -21,7 +22,7 @@ pub fn name_of<'a>(names: &'a [u8], a: u8) -> &'a [u8]
     if names.len() < from + NAME_ROOM {
         return &names[..0];
     }
-    let end = bytes::scan::find(names, from, from + NAME_ROOM, 0);
+    let end = find(names, from, from + NAME_ROOM, 0);
     &names[from..end]
 }
 

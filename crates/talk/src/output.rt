@@ -1,15 +1,7 @@
-// Writing to standard output, and how bytes look there. Where a write fails there is nobody left to
-// tell, so no function here says so.
+// How bytes look on standard output.
 ghost use Rattle.std.specs.Prelude.{◌≡◌, ◌*◌, ◌≤◌, length};
-ghost use Rattle.io.specs.Counts.{IsPrefixLen};
+ghost use Rattle.system.specs.Counts.{IsPrefixLen};
 ghost use Rattle.talk.specs.Hexadecimal.{digit_for, spelled};
-
-use libc::STDOUT_FILENO;
-
-// Writes the text as it stands, at once where the system takes it at once.
-pub fn print(text: &[u8]) {
-    io::write_all(STDOUT_FILENO, text);
-}
 
 // A digit of a byte in hexadecimal, in lower case.
 fn digit(value: u8) -> u8

@@ -2,13 +2,13 @@
 // not 1`; where there are names, each atom by its name and number.
 ghost use Rattle.std.specs.Prelude.{◌<◌};
 ghost use Rattle.book.specs.Format.{ReadAs};
-ghost use Rattle.io.specs.Counts.{IsPrefixLen};
+ghost use Rattle.system.specs.Counts.{IsPrefixLen};
 
 use crate::line::{put_number, put_text};
 use crate::name::put_called;
-use crate::output::print;
 use book::{Shape, head, negatives, positives};
 use meaning::{AtomNo, RuleNo};
+use system::print;
 
 // `if` before the first atom of a body and `and` before every other.
 fn put_joint(is_first: bool, line: &mut [u8], held: usize) -> usize
@@ -91,12 +91,12 @@ pub fn put_rule(
 
 // Writes the rule, with the word behind its number, and the line end. The longest line has 33
 // atoms, under 14 bytes and a name each.
-pub fn show_rule(book: &[u8], shape: Shape, r: RuleNo, word: &[u8], names: &[u8])
+pub fn show_rule(rt: &impl Print, book: &[u8], shape: Shape, r: RuleNo, word: &[u8], names: &[u8])
     requires { ReadAs book.now shape × (r.0 < shape.rules) }
 {
     let mut line = [0u8; 9216];
     let held = put_label(r, word, &mut line);
     let held = put_rule(book, shape, r, names, &mut line, held);
     let held = put_text(b"\n", &mut line, held);
-    print(&line[..held]);
+    print(rt, &line[..held]);
 }

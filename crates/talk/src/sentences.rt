@@ -1,13 +1,13 @@
 // Refusals for people: the number, the place, and what is wrong in a sentence, in one line. The
 // sentences stand in one table, by number.
-ghost use Rattle.io.specs.Counts.{IsPrefixLen};
+ghost use Rattle.system.specs.Counts.{IsPrefixLen};
 
 use crate::hints::{put_hint_of_book, put_hint_of_paper};
 use crate::line::{put_number, put_text};
-use crate::output::print;
 use crate::refusals::{Refused, refused_book};
 use book::Refusal;
 use meaning::Kind;
+use system::print;
 
 // Text, a number and more text.
 fn put_about(text: &[u8], n: u64, more: &[u8], line: &mut [u8], held: usize) -> usize
@@ -175,42 +175,42 @@ fn put_explained(
 
 // Writes the line of a refusal of a call for a paper of this kind. `about` is the atom, the rule or
 // the number of tries that the sentence speaks of.
-pub fn explain(refused: Refused, kind: Kind, about: u64) {
+pub fn explain(rt: &impl Print, refused: Refused, kind: Kind, about: u64) {
     let mut line = [0u8; 256];
     let held = put_explained(refused, b"", kind, about, &mut line, 0);
     let held = put_text(b"\n", &mut line, held);
-    print(&line[..held]);
+    print(rt, &line[..held]);
 }
 
 // Writes why the bytes are no book, with a hint where they look like something else. `whose` says
 // which book it is, behind the place, where there are two.
-pub fn explain_book_of(why: Refusal, whose: &[u8], book: &[u8]) {
+pub fn explain_book_of(rt: &impl Print, why: Refusal, whose: &[u8], book: &[u8]) {
     let mut line = [0u8; 256];
     let held = put_explained(refused_book(why), whose, Kind::Naming, 0, &mut line, 0);
     let held = put_hint_of_book(book, &mut line, held);
     let held = put_text(b"\n", &mut line, held);
-    print(&line[..held]);
+    print(rt, &line[..held]);
 }
 
 // The same of the one book that there is.
-pub fn explain_book(why: Refusal, book: &[u8]) {
-    explain_book_of(why, b"", book);
+pub fn explain_book(rt: &impl Print, why: Refusal, book: &[u8]) {
+    explain_book_of(rt, why, b"", book);
 }
 
 // Writes why a text that a grounder wrote is refused, which speaks of no claim. `whose` says of which
 // book it is the text, where there are two.
-pub fn explain_text_of(refused: Refused, whose: &[u8]) {
+pub fn explain_text_of(rt: &impl Print, refused: Refused, whose: &[u8]) {
     let mut line = [0u8; 256];
     let held = put_explained(refused, whose, Kind::Naming, 0, &mut line, 0);
     let held = put_text(b"\n", &mut line, held);
-    print(&line[..held]);
+    print(rt, &line[..held]);
 }
 
 // Writes why the paper is refused, with a hint where its bytes look like something else.
-pub fn explain_paper(refused: Refused, paper: &[u8]) {
+pub fn explain_paper(rt: &impl Print, refused: Refused, paper: &[u8]) {
     let mut line = [0u8; 256];
     let held = put_explained(refused, b"", Kind::Naming, 0, &mut line, 0);
     let held = put_hint_of_paper(paper, &mut line, held);
     let held = put_text(b"\n", &mut line, held);
-    print(&line[..held]);
+    print(rt, &line[..held]);
 }

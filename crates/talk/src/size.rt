@@ -1,5 +1,5 @@
 // How large a book is, as the lines of the programs tell it.
-ghost use Rattle.io.specs.Counts.{IsPrefixLen};
+ghost use Rattle.system.specs.Counts.{IsPrefixLen};
 
 use crate::line::{put_number, put_text};
 use book::Shape;

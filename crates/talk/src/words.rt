@@ -2,11 +2,13 @@
 ghost use Rattle.std.specs.Prelude.{◌≡◌};
 ghost use Rattle.talk.specs.Words.{first_word, other_words};
 
+use system::find;
+
 // The bytes before the first space; all of them where there is none.
 pub fn first_word<'a>(line: &'a [u8]) -> &'a [u8]
     ensures { result.now ≡ first_word line.now }
 {
-    let end = bytes::scan::find(line, 0, line.len(), b' ');
+    let end = find(line, 0, line.len(), b' ');
     &line[..end]
 }
 
@@ -14,7 +16,7 @@ pub fn first_word<'a>(line: &'a [u8]) -> &'a [u8]
 pub fn other_words<'a>(line: &'a [u8]) -> &'a [u8]
     ensures { result.now ≡ other_words line.now }
 {
-    let end = bytes::scan::find(line, 0, line.len(), b' ');
+    let end = find(line, 0, line.len(), b' ');
     if end == line.len() {
         return &line[end..];
     }

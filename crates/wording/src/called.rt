@@ -2,7 +2,7 @@
 use talk::{name_of, print, put_number, put_text};
 
 // Writes what the atom is called, where it is told.
-fn show_one(a: u8, name: &[u8]) {
+fn show_one(rt: &impl Print, a: u8, name: &[u8]) {
     if name.len() == 0 {
         return;
     }
@@ -12,14 +12,14 @@ fn show_one(a: u8, name: &[u8]) {
     let held = put_text(b" ", &mut line, held);
     let held = put_text(name, &mut line, held);
     let held = put_text(b"\n", &mut line, held);
-    print(&line[..held]);
+    print(rt, &line[..held]);
 }
 
 // Writes what each atom is called.
-pub fn show_called(atoms: u8, names: &[u8]) {
+pub fn show_called(rt: &impl Print, atoms: u8, names: &[u8]) {
     let mut a: u8 = 0;
     while a < atoms {
-        show_one(a, name_of(names, a));
+        show_one(rt, a, name_of(names, a));
         a += 1;
     }
 }

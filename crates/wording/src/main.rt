@@ -18,58 +18,60 @@ use book::{Read, Shape, read_book};
 use called::show_called;
 use calling::{Source, open_book, shift, source_at};
 use rules::{show_names, show_rules};
+use std::rt::Env;
+use system::arg_count;
 use talk::{BOOK_ROOM, NAMES_ROOM, explain_book, print, put_size, put_text};
 
 // Writes the size in a line that says nothing in a text, so that one sees that it is whole.
-fn show_end(shape: Shape) {
+fn show_end(rt: &impl Print, shape: Shape) {
     let mut line = [0u8; 64];
     let held = put_text(b"# ", &mut line, 0);
     let held = put_size(shape, &mut line, held);
     let held = put_text(b"\n", &mut line, held);
-    print(&line[..held]);
+    print(rt, &line[..held]);
 }
 
 // Writes the text of a good book with these names.
-fn show_all(book: &[u8], shape: Shape, names: &[u8])
+fn show_all(rt: &impl Print, book: &[u8], shape: Shape, names: &[u8])
     requires { ReadAs book.now shape }
 {
-    show_names(shape.atoms, names);
-    show_rules(book, shape, names);
-    show_end(shape);
+    show_names(rt, shape.atoms, names);
+    show_rules(rt, book, shape, names);
+    show_end(rt, shape);
 }
 
 // Writes the text of a good book; of a grounder's text what its atoms are called, and then without
 // these names.
-fn show_good(book: &[u8], shape: Shape, names: &[u8])
+fn show_good(rt: &(impl Env + Print), book: &[u8], shape: Shape, names: &[u8])
     requires { ReadAs book.now shape }
 {
-    match source_at(1) {
-        Source::Book => show_all(book, shape, names),
-        Source::Words => show_all(book, shape, names),
+    match source_at(rt, 1) {
+        Source::Book => show_all(rt, book, shape, names),
+        Source::Words => show_all(rt, book, shape, names),
         Source::Text => {
-            show_called(shape.atoms, names);
-            show_all(book, shape, b"");
+            show_called(rt, shape.atoms, names);
+            show_all(rt, book, shape, b"");
         }
     }
 }
 
 // Writes the text of a good book, or why the bytes are none.
-fn show_book(book: &[u8], names: &[u8]) {
+fn show_book(rt: &(impl Env + Print), book: &[u8], names: &[u8]) {
     match read_book(book) {
-        Read::Refused(why) => explain_book(why, book),
-        Read::Good(shape) => show_good(book, shape, names),
+        Read::Refused(why) => explain_book(rt, why, book),
+        Read::Good(shape) => show_good(rt, book, shape, names),
     }
 }
 
-fn main() {
+fn main(rt: HostRuntime) {
     let mut book = [0u8; BOOK_ROOM];
     let mut names = [0u8; NAMES_ROOM];
-    let is_right = os::arg_count() == 2 + shift();
+    let is_right = arg_count(&rt) == 2 + shift(&rt);
     let usage = b"wording BOOKFILE, or wording --words WORDSFILE";
-    let opened = open_book(is_right, usage, &mut book, &mut names);
+    let opened = open_book(&rt, is_right, usage, &mut book, &mut names);
     if opened.good {
         let n = opened.count;
         let m = opened.names;
-        show_book(&book[..n], &names[..m]);
+        show_book(&rt, &book[..n], &names[..m]);
     }
 }

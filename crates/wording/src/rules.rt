@@ -1,7 +1,7 @@
 // The lines of a text in its plain form: the names, and the rules.
 ghost use Rattle.std.specs.Prelude.{◌<◌, ◌≤◌};
 ghost use Rattle.book.specs.Format.{ReadAs};
-ghost use Rattle.io.specs.Counts.{IsPrefixLen};
+ghost use Rattle.system.specs.Counts.{IsPrefixLen};
 
 use book::{Shape, head, negatives, positives};
 use meaning::RuleNo;
@@ -65,7 +65,7 @@ fn put_part(
 }
 
 // Writes the line of a rule. The longest has 33 names, with under 10 bytes before each.
-fn show_rule(book: &[u8], shape: Shape, r: RuleNo, names: &[u8])
+fn show_rule(rt: &impl Print, book: &[u8], shape: Shape, r: RuleNo, names: &[u8])
     requires { ReadAs book.now shape × (r.0 < shape.rules) }
 {
     let mut line = [0u8; 9216];
@@ -75,16 +75,16 @@ fn show_rule(book: &[u8], shape: Shape, r: RuleNo, names: &[u8])
     let others = negatives(book, shape, r);
     let held = put_part(names, others, body.len() == 0, b"not ", &mut line, held);
     let held = put_text(b"\n", &mut line, held);
-    print(&line[..held]);
+    print(rt, &line[..held]);
 }
 
 // Writes the line of each rule.
-pub fn show_rules(book: &[u8], shape: Shape, names: &[u8])
+pub fn show_rules(rt: &impl Print, book: &[u8], shape: Shape, names: &[u8])
     requires { ReadAs book.now shape }
 {
     let mut r: u8 = 0;
     while r < shape.rules {
-        show_rule(book, shape, RuleNo(r), names);
+        show_rule(rt, book, shape, RuleNo(r), names);
         r += 1;
     }
 }
@@ -105,10 +105,10 @@ fn put_names(names: &[u8], atoms: u8, line: &mut [u8], held: usize) -> usize
 }
 
 // Writes the line that lists the names.
-pub fn show_names(atoms: u8, names: &[u8]) {
+pub fn show_names(rt: &impl Print, atoms: u8, names: &[u8]) {
     let mut line = [0u8; 66560];
     let held = put_text(b"atoms:", &mut line, 0);
     let held = put_names(names, atoms, &mut line, held);
     let held = put_text(b"\n", &mut line, held);
-    print(&line[..held]);
+    print(rt, &line[..held]);
 }

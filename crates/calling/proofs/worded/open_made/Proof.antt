@@ -1,7 +1,7 @@
 -- `open_made` is safe, and what it counts lies within the buffers: the book's bytes by the test, the names are all of theirs.
 use native.Mathlib.Omega.{arith}
 use borrow.Author.Rules.{rules}
-use Rattle.io.proofs.Counting.{prefix_len_of_le}
+use Rattle.system.proofs.Counting.{prefix_len_of_le}
 use Rattle.calling.proofs.worded.open_made.Statement.{statement}
 use Rattle.calling.proofs.worded.open_made.Tie as tie
 

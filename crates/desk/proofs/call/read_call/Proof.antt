@@ -1,7 +1,7 @@
 -- `read_call` is safe; the book lies within its buffer, and the room that is asked for within the room that there is.
 use native.Mathlib.Omega.{arith}
 use borrow.Author.Rules.{rules}
-use Rattle.io.proofs.Counting.{prefix_len_of_le}
+use Rattle.system.proofs.Counting.{prefix_len_of_le}
 use Rattle.desk.proofs.call.read_call.Statement.{statement}
 use Rattle.desk.proofs.call.read_call.Tie as tie
 

@@ -1,7 +1,7 @@
 -- `read_numbers` is safe; the room that is asked for lies within the room that there is.
 use native.Mathlib.Omega.{arith}
 use borrow.Author.Rules.{rules}
-use Rattle.io.proofs.Counting.{prefix_len_of_le}
+use Rattle.system.proofs.Counting.{prefix_len_of_le}
 use Rattle.desk.proofs.call.read_numbers.Statement.{statement}
 use Rattle.desk.proofs.call.read_numbers.Tie as tie
 

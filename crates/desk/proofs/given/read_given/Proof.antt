@@ -1,7 +1,7 @@
 -- `read_given` is safe; the bytes lie within their buffer, and the room that is asked for within the room that there is.
 use native.Mathlib.Omega.{arith}
 use borrow.Author.Rules.{rules}
-use Rattle.io.proofs.Counting.{prefix_len_of_le}
+use Rattle.system.proofs.Counting.{prefix_len_of_le}
 use Rattle.desk.proofs.given.read_given.Statement.{statement}
 use Rattle.desk.proofs.given.read_given.Tie as tie
 

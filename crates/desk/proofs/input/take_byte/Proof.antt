@@ -2,7 +2,7 @@
 use native.Mathlib.Omega.{arith}
 use lib.ListN.{set, length-set}
 use borrow.Author.Rules.{rules}
-use Rattle.io.proofs.Counting.{prefix_len_of_le}
+use Rattle.system.proofs.Counting.{prefix_len_of_le}
 use Rattle.desk.proofs.input.take_byte.Statement.{statement}
 use Rattle.desk.proofs.input.take_byte.Tie as tie
 

@@ -1,6 +1,6 @@
 -- `put_named` is safe and ends, and what it counts lies within the line: each turn leaves fewer atoms.
 use Rattle.std.proofs.Common.{◌≡◌, ◌-◌, ◌≤◌, length, rules}
-use Rattle.io.specs.Counts.{IsPrefixLen}
+use Rattle.system.specs.Counts.{IsPrefixLen}
 use Rattle.listing.proofs.named.put_named.Statement.{statement}
 use Rattle.listing.proofs.named.put_named.Tie as tie
 

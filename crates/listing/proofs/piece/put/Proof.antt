@@ -1,6 +1,6 @@
 -- `put` stores the byte where there is room for it.
 use Rattle.std.proofs.Common.{set, arith, length-set, rules}
-use Rattle.io.proofs.Counting.{prefix_len_of_le}
+use Rattle.system.proofs.Counting.{prefix_len_of_le}
 use Rattle.listing.proofs.Gathering.{put_full, put-room}
 use Rattle.listing.proofs.piece.put.Statement.{statement}
 use Rattle.listing.proofs.piece.put.Tie as tie

@@ -1,6 +1,6 @@
 -- `put_text` puts one byte a turn: what is left of the text then makes of the piece what the whole text makes of it at first.
 use Rattle.std.proofs.Common.{◌≡◌, ◌-◌, ◌≤◌, length, drop, sym, refl, ◌∙◌, arith, rules}
-use Rattle.io.specs.Counts.{IsPrefixLen}
+use Rattle.system.specs.Counts.{IsPrefixLen}
 use Rattle.listing.specs.Gathered.{gather}
 use Rattle.listing.proofs.Gathering.{gather-turn, gather-end}
 use Rattle.listing.proofs.piece.put_text.Statement.{statement}

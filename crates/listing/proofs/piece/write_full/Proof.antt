@@ -1,6 +1,6 @@
 -- `write_full` holds nothing behind a write, and what it held where there was no need of one.
 use Rattle.std.proofs.Common.{sym, arith, rules}
-use Rattle.io.proofs.Counting.{prefix_len_of_le}
+use Rattle.system.proofs.Counting.{prefix_len_of_le}
 use Rattle.meaning.proofs.Choice.{lt_yes, lt_no}
 use Rattle.listing.proofs.piece.write_full.Statement.{statement}
 use Rattle.listing.proofs.piece.write_full.Tie as tie

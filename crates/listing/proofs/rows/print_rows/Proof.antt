@@ -1,6 +1,6 @@
 -- `print_rows` is safe and ends, and loses no byte: before each line there is room for the longest one.
 use Rattle.std.proofs.Common.{◌≡◌, ◌+◌, ◌-◌, ◌≤◌, length, drop, arith, rules}
-use Rattle.io.specs.Counts.{IsPrefixLen}
+use Rattle.system.specs.Counts.{IsPrefixLen}
 use Rattle.listing.specs.Text.{longest_line}
 use Rattle.listing.proofs.Lines.{line-room, room-left}
 use Rattle.listing.proofs.rows.print_rows.Statement.{statement}

@@ -1,6 +1,6 @@
 -- `put_places` puts one place a turn: what is left of the row then makes of the piece what the whole row makes of it at first.
 use Rattle.std.proofs.Common.{◌≡◌, ◌-◌, ◌≤◌, length, drop, sym, refl, ◌∙◌, arith, rules}
-use Rattle.io.specs.Counts.{IsPrefixLen}
+use Rattle.system.specs.Counts.{IsPrefixLen}
 use Rattle.listing.specs.Gathered.{gather}
 use Rattle.listing.specs.Text.{places_text}
 use Rattle.listing.proofs.Lines.{places-turn, places-end}

@@ -3,7 +3,7 @@ use mathlib.Core.Path.{◌≡◌}
 use Prim.Native.Nat.{◌-◌, ◌≤◌}
 use lib.ListN.{length}
 use borrow.Author.Rules.{rules}
-use Rattle.io.specs.Counts.{IsPrefixLen}
+use Rattle.system.specs.Counts.{IsPrefixLen}
 use Rattle.wording.proofs.rules.put_names.Statement.{statement}
 use Rattle.wording.proofs.rules.put_names.Tie as tie
 
