@@ -17,7 +17,6 @@ use Rattle.walk.specs.Run.{State}
 use Rattle.walk.specs.Find.{fixed_walk, find_of}
 use Rattle.walk.specs.declared.tally.Halt.{Halt}
 use Rattle.walk.specs.declared.tally.Halt.TheVariants.{Going, Full, Limit}
-use Rattle.walk.proofs.Kept.{find-keeps}
 use Rattle.writer.specs.Scan.{Course, writing, limited, refuted}
 use Rattle.writer.specs.Write.{Handed, paper, lacking}
 use Rattle.writer.specs.Write.{failing, hand_over, after_paper_walk, after_first_walk, witnessed, write_in, write_of}

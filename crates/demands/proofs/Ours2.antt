@@ -1,7 +1,6 @@
 -- Our engine meets demand 2: finding by what holds along any walk (proofs/Found), since a book has one list of all readings only; and from
 -- writer's laws of a good book.
 use mathlib.Core.Path.{ap}
-use Prim.Native.Nat.{◌-◌}
 use Rattle.meaning.specs.Claim.{claim}
 use Rattle.meaning.specs.Written.{nothing}
 use Rattle.meaning.specs.Told.{fewer, stopped, Answered}

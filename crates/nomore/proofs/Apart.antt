@@ -27,16 +27,19 @@ ordered-apart b (comes-first {x = x} f o) =
 -- ---- how long
 
 without : {y : Atoms} (k : List Atoms) → Memᴰ y k → List Atoms
+without {y = y} [] m = elim m [ ]
 without (x ∷ k) (Memᴰ.head p) = k
 without (x ∷ k) (Memᴰ.tail m) = x ∷ without k m
 
 without-length : {y : Atoms} (k : List Atoms) (m : Memᴰ y k) → suc (length (without k m)) ≡ length k
 unfolding without
+without-length {y = y} [] m = elim m [ ]
 without-length (x ∷ k) (Memᴰ.head p) = refl
 without-length (x ∷ k) (Memᴰ.tail m) = ap suc (without-length k m)
 
 without_other : {y : Atoms} (k : List Atoms) (m : Memᴰ y k) (z : Atoms) → Memᴰ z k → (z ≡ y) ⊎ Memᴰ z (without k m)
 unfolding without
+without_other {y = y} [] m z _ = elim m [ ]
 without_other (x ∷ k) (Memᴰ.head p) z (Memᴰ.head q) = inl (q ∙ sym p)
 without_other (x ∷ k) (Memᴰ.head p) z (Memᴰ.tail n) = inr n
 without_other (x ∷ k) (Memᴰ.tail m) z (Memᴰ.head q) = inr (Memᴰ.head q)

@@ -6,7 +6,7 @@
 --   Grounded b s     the rules of s hold each other up from the ground when all others are off: s is within their support
 --   rested c         the pair with all rules without a colour put in off
 use mathlib.Core.Path.{◌≡◌, refl, sym, ◌∙◌, ap}
-use mathlib.Core.Logic.{◌⊎◌, inr, ⊎_elim, ⊎_map}
+use mathlib.Core.Logic.{inr, ⊎_elim, ⊎_map}
 use mathlib.Core.Bool.{true, false, not, ◌&&◌, ◌||◌}
 use mathlib.Core.List.{[], ◌∷◌}
 use Prim.Native.Nat.{◌≤◌}

@@ -125,7 +125,7 @@ module _ {b : Book} where
   own-sound (at_fork f v w) g x m = ⊎_elim
       (λ e. side-stands f on_side x (own-sound v (side-grounded f g on_side) x e))
       (λ e. side-stands f off_side x (own-sound w (side-grounded f g off_side) x e))
-      (Memᴰ.append_cases _ (rw readings-append at m))
+      (Memᴰ.append_cases _ (rw (readings-append b) at m))
 
   own-complete : {c : Tables} {es : List Event} → Owns b c es → (x : Atoms) → Stands b c x
       → (y : Atoms) × Memᴰ y (readings_in b es) × Agree x y
@@ -133,7 +133,7 @@ module _ {b : Book} where
   own-complete (at_clash k t) x s = absurd (stands-clash k t x s)
   own-complete (at_failing f t) x s = absurd (leaf-fails f t x s)
   own-complete (at-reading {d = d} f t) x s = (reading_of b (rest_off b d), Memᴰ.head refl, leaf-only f x s)
-  own-complete (at_fork {d = d} {r = r} f v w) x s = rw readings-append (⊎_elim
+  own-complete (at_fork {d = d} {r = r} f v w) x s = rw (readings-append b) (⊎_elim
       (λ g. let (y, m, e) = own-complete v x (stands-side f on_side x s g) in (y, Memᴰ.append_left _ m, e))
       (λ g.
       let (y, m, e) = own-complete w x (stands-side f off_side x s (ap not g)) in
@@ -147,7 +147,7 @@ module _ {b : Book} where
   own-apart (at-reading f t) g = differs (λ y m. absurd (Memᴰ.not-nil m)) no_more
   own-apart (at_fork f v w) g =
       let i = side-grounded f g on_side in let j = side-grounded f g off_side in
-      rw readings-append (apart-append (own-apart v i) (own-apart w j)
+      rw (readings-append b) (apart-append (own-apart v i) (own-apart w j)
       (λ x m y n. sides-differ f x y (own-sound v i x m) (own-sound w j y n)))
 
   -- a leaf has at most two tries

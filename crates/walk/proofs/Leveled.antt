@@ -9,7 +9,6 @@ use native.Mathlib.Omega.{arith}
 use lib.Dec.{eqb}
 use lib.ListN.{length, get_or, take, drop, set, replicate, get_or-append, get_or-eq_default, length-replicate, get_or-replicate}
 use lib.Seq.{paste, length-take-le, get_or-take, get_or-drop, get_or-append-add}
-use denote.Enum.Declared.{tag_of}
 use Rattle.meaning.specs.Written.{Tables}
 use Rattle.meaning.specs.Books.{Atoms, Book, count}
 use Rattle.meaning.specs.Told.{Told, refused_at, refused, Answered}
@@ -32,13 +31,12 @@ use Rattle.walk.specs.Events.{reading, events}
 use Rattle.walk.specs.Readings.{reading_of, readings}
 use Rattle.walk.specs.Tries.{Kth}
 use Rattle.walk.specs.Run.{row_of, State, run}
-use Rattle.walk.specs.Find.{set as given, told, start_of, told_by, find_along, find_in}
+use Rattle.walk.specs.Find.{set as given, start_of, told_by, find_along, find_in}
 use Rattle.walk.specs.Page.{set_in}
 use Rattle.walk.specs.Levels.{down, levels_by, leveled_by, levels_in, levels_read, levels_of}
 use Rattle.walk.specs.declared.tally.Halt.{Halt}
 use Rattle.walk.specs.declared.tally.Halt.TheVariants.{Going, Full, Limit}
 use Rattle.walk.specs.declared.tally.Tally.{Tally}
-use Rattle.walk.specs.contracts.tally.Halt.{the_type}
 use Rattle.walk.proofs.Rows.{row-length, set-in-row}
 use Rattle.walk.proofs.Readings.{readings-all}
 use Rattle.walk.proofs.Demand.{find-row}

@@ -38,7 +38,6 @@ use Rattle.closing.specs.declared.clash.Picked.TheVariants.{Rule}
 use Rattle.walk.specs.declared.tally.Halt.{Halt}
 use Rattle.walk.specs.declared.tally.Halt.TheVariants.{Going, Full, Limit}
 use Rattle.walk.specs.declared.tally.Tally.{Tally}
-use Rattle.walk.specs.contracts.tally.Halt.{the_type}
 use Rattle.walk.proofs.Events.{Closes, events-clash, events-reading, rest_clash, rest-reading}
 use Rattle.walk.proofs.Events.{Forks, fork-in-book, fork-falls, fork-level, events-fork, rest-fork-on, rest-fork-off}
 use Rattle.closing.proofs.Searches.{lowest-in}

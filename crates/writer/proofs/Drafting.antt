@@ -1,13 +1,9 @@
 -- The draft along the branches (specs/Draft, specs/Scan): a walk that is over leaves it, the limit stops it, and else one branch is taken
 -- down; behind a split the two walks go on from the colouring at the split, one after the other.
 use mathlib.Core.Path.{◌≡◌, refl, sym, ◌∙◌, ap}
-use mathlib.Core.Logic.{⊎_elim}
 use mathlib.Core.List.{List, [], ◌∷◌}
 use Prim.Native.Nat.{ℕ, ◌+◌, ◌≤◌, ◌<◌}
 use native.Mathlib.Omega.{arith}
-use lib.ListN.{length}
-use types.Run.{OneOf}
-use denote.Enum.Declared.{tag_of}
 use Rattle.meaning.specs.declared.RuleNo.{RuleNo}
 use Rattle.meaning.specs.Books.{Book, count}
 use Rattle.meaning.specs.Colours.{Pair, Side, on_side, off_side, put}
@@ -24,17 +20,12 @@ use Rattle.writer.specs.declared.step.Tip.TheVariants.{Ended, Parted, Unsettled}
 use Rattle.writer.specs.declared.branch.Written.{Written}
 use Rattle.writer.specs.declared.split.Course.{Course}
 use Rattle.writer.specs.declared.split.Course.TheVariants.{Writing, Limited, Refuted}
-use Rattle.writer.specs.contracts.split.Course.{the_type}
 use Rattle.writer.specs.declared.split.Drafted.{Drafted}
 use Rattle.writer.proofs.Branches.{left, Reached, reached-split, branch-reached, parted-left}
 use Rattle.writer.proofs.Branches.{branches-unfold, branches-ended, branches-unsettled, branches-parted}
 use Rattle.writer.proofs.Scan.{taken, scan-nil, scan-append, scan-over, scan-taken, scan-stops, scan-tries}
 
 -- ---- a walk that is over
-
--- the code's match says that the course is another
-pub not-writing : (h : Course) → OneOf (1 ∷ (2 ∷ [])) (tag_of the_type h) → h ≡ Writing → ⊥
-not-writing h k e = ⊎_elim (λ z. omega arith) (λ z. omega arith) (rw e at k)
 
 only-writing : (h : Course) → course_of h ≡ writing → h ≡ Writing
 only-writing Writing e = refl

@@ -45,6 +45,7 @@ module _ (b : Book) (k : Claim) (fits : count b ≤ 255) where
 
   steps-legal : {c : Pair} {t : Branch} {l : List ℕ} → Steps b k c t → Follows t.tip l → Derives b k c (t.bytes ++ l)
   unfolding behind
+  steps-legal {l = l} (Rattle.writer.proofs.Branches.at-stuck {c = c} _) h = elim h [ ]
   steps-legal (at-end {c} e) follows-end = step-45 (next-ends b k c e)
   steps-legal (at_split {c} r e) (follows-split p q) = let (h, m, f) = next-splits b k c r e in step-53 r h m p q
   steps-legal (step-on {c} r e p) f = let (h, m, n, g) = next-puts-on b k c r e in step-41 r h m (steps-legal p f)

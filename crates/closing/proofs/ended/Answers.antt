@@ -1,6 +1,5 @@
 -- The rules stamped are those with a colour now that had none, and the marks are the rules that are not off.
 use mathlib.Core.Path.{ap, ◌∙◌}
-use borrow.Author.Rules.{rules}
 use Rattle.meaning.specs.Books.{Rules}
 use Rattle.meaning.specs.Bits.{listed}
 use Rattle.meaning.specs.Written.{stamp_from}

@@ -2,7 +2,6 @@
 use mathlib.Core.Path.{◌≡◌, sym, ◌∙◌, ap, ap₂}
 use mathlib.Core.List.{List}
 use Prim.Native.Nat.{ℕ}
-use borrow.Author.Rules.{rules}
 use Rattle.meaning.specs.Bits.{listed}
 use Rattle.meaning.specs.Written.{lent}
 use Rattle.meaning.specs.Lowest.{lowest_from, in_both}

@@ -1,6 +1,5 @@
 -- What is asked of the whole part is what is asked of the bytes that are left, turn by turn.
 use mathlib.Core.Path.{refl, sym, ◌∙◌}
-use Prim.Native.Nat.{◌-◌}
 use native.Mathlib.Omega.{arith}
 use borrow.Author.Rules.{rules}
 use Rattle.meaning.proofs.Tests.{not_first}

@@ -1,12 +1,8 @@
 -- The nested search: outside, what is asked of the body is what is asked of the atoms that are left; inside, the rules so far that have
 -- the atom as head are off. The search goes on by label at a rule that is not off, and is left by label at the first atom without one.
 use mathlib.Core.Path.{refl, sym, ◌∙◌}
-use mathlib.Core.Logic.{⊎_elim}
-use mathlib.Core.Bool.{true}
-use Prim.Native.Nat.{◌-◌}
 use native.Mathlib.Omega.{arith}
 use borrow.Author.Rules.{rules}
-use borrow.Author.Tests.{not-false}
 use Rattle.meaning.specs.Bits.{listed}
 use Rattle.meaning.specs.Written.{of}
 use Rattle.meaning.proofs.Tests.{or_left}
@@ -53,13 +49,13 @@ atoms-preserved c =
     )
 
 pub loop-q-preserved : goal.loop-q-preserved
-loop-q-preserved c =
-    (
-      search rules,
-      elim c.if-not-has.branch [
-        then-not-has+else-head-a w ↦ all-at-other _ _ c.loop-q.q _ _ w.head.ensures w.if-head-a.false c.loop-q.invariant.1
-      | else-not-has w ↦ all-at-skip _ _ c.loop-q.q _ (sym c.has.ensures ∙ w.if-not-has.false) c.loop-q.invariant.1 ],
-    )
+loop-q-preserved c = (
+  search rules,
+  elim c.if-not-has.branch [
+    | then-not-has+else-head-a w ↦ all-at-other _ _ c.loop-q.q _ _ w.head.ensures w.if-head-a.false c.loop-q.invariant.1
+    | else-not-has w ↦ all-at-skip _ _ c.loop-q.q _ (sym c.has.ensures ∙ w.if-not-has.false) c.loop-q.invariant.1
+  ],
+)
 
 pub returns-after-atoms : goal.returns-after-atoms
 returns-after-atoms c =

@@ -3,7 +3,6 @@ use mathlib.Core.Bool.{true, false}
 use mathlib.Core.List.{map}
 use Prim.Native.Nat.{◌-◌, ◌≤◌}
 use lib.ListN.{length, drop}
-use borrow.Author.Rules.{rules}
 use Rattle.meaning.specs.Books.{atom_no}
 use Rattle.meaning.specs.Colours.{all_in}
 use Rattle.meaning.specs.Sets.{some}

@@ -1,6 +1,5 @@
 -- The copy: the first i bytes are those handed over, the others stay.
 use mathlib.Core.Path.{refl, ◌∙◌}
-use Prim.Native.Nat.{◌-◌}
 use native.Mathlib.Omega.{arith}
 use borrow.Author.Rules.{rules}
 use lib.ListN.{length-set}

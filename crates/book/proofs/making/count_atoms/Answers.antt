@@ -1,6 +1,5 @@
 -- The atoms below the one that is tried are counted.
 use mathlib.Core.Path.{◌≡◌, ◌∙◌}
-use Prim.Native.Nat.{◌-◌}
 use native.Mathlib.Omega.{arith}
 use borrow.Author.Rules.{rules}
 use Rattle.book.specs.Making.{said_of}
@@ -22,8 +21,9 @@ loop-a-preserved c =
     let t = c.args.table.now in (
       search rules,
       elim c.if-table-a.branch [
-        then-table-a w ↦ count-in t c.loop-a.a c.loop-a.invariant.1 w.if-table-a.true w.n-is
-      | else-table-a w ↦ count-out t c.loop-a.a c.loop-a.invariant.1 w.if-table-a.false w.n-is ],
+        | then-table-a w ↦ count-in t c.loop-a.a c.loop-a.invariant.1 w.if-table-a.true w.n-is
+        | else-table-a w ↦ count-out t c.loop-a.a c.loop-a.invariant.1 w.if-table-a.false w.n-is
+      ],
     )
 
 pub returns : goal.returns

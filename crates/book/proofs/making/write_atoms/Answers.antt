@@ -1,7 +1,5 @@
 -- The atoms below the one that is tried are written.
 use mathlib.Core.Path.{◌≡◌}
-use mathlib.Core.Logic.{⊎_elim}
-use Prim.Native.Nat.{◌-◌}
 use native.Mathlib.Omega.{arith}
 use borrow.Author.Rules.{rules}
 use Rattle.book.proofs.Puts.{atoms-begun, atoms-put, atoms-skipped, atoms-room}
@@ -24,8 +22,9 @@ loop-a-preserved c =
     let e = c.wide.ensures.0 in (
       search rules,
       elim c.if-table-wide.branch [
-        then-table-wide w ↦ rw (w.draft-is, w.n-is) (atoms-put t a.at _ c.loop-a.invariant.1 e w.if-table-wide.true w.write_byte-n.ensures)
-      | else-table-wide w ↦ rw (w.draft-is, w.n-is) (atoms-skipped t a.at _ c.loop-a.invariant.1 e w.if-table-wide.false) ],
+        | then-table-wide w ↦ rw (w.draft-is, w.n-is) (atoms-put t a.at _ c.loop-a.invariant.1 e w.if-table-wide.true w.write_byte-n.ensures)
+        | else-table-wide w ↦ rw (w.draft-is, w.n-is) (atoms-skipped t a.at _ c.loop-a.invariant.1 e w.if-table-wide.false)
+      ],
     )
 
 pub returns : goal.returns

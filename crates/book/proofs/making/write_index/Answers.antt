@@ -1,7 +1,7 @@
 -- The index: the entries of the rules before the one that is looked at are written, whichever rules the draft holds. The caller's own
 -- rules say that there is room.
 use mathlib.Core.List.{List}
-use Prim.Native.Nat.{◌+◌, ◌-◌, ◌≤◌, ◌<◌}
+use Prim.Native.Nat.{◌+◌, ◌≤◌, ◌<◌}
 use native.Mathlib.Omega.{arith}
 use borrow.Author.Rules.{rules}
 use lib.ListN.{length}
@@ -62,12 +62,11 @@ overflow_add-start c =
     search rules
 
 pub loop-rule-preserved : goal.loop-rule-preserved
-loop-rule-preserved c =
-    (
-      omega arith,
-      λ l g. indexed-more (held c.before.before.before l g) (c.loop-rule.invariant.1 l g) (more c.before.before.before l g) c.write_number-at.ensures
-          c.size_at-start.ensures.0 (search rules),
-    )
+loop-rule-preserved c = (
+  omega arith,
+  λ l g. indexed-more (held c.before.before.before l g) (c.loop-rule.invariant.1 l g) (more c.before.before.before l g) c.write_number-at.ensures
+      c.size_at-start.ensures.0 (search rules),
+)
 
 pub returns : goal.returns
 returns c = λ l g.

@@ -1,6 +1,5 @@
 use mathlib.Core.List.{List}
 use Prim.Native.Nat.{◌-◌, ◌≤◌}
-use borrow.Author.Rules.{rules}
 use Rattle.meaning.specs.Books.{Rule}
 use Rattle.book.specs.Making.{Made}
 use Rattle.book.proofs.MadeIndex.{Indexed}

@@ -1,6 +1,5 @@
 -- The check of a part: what is asked of the whole part is what is asked of the bytes that are left, turn by turn.
 use mathlib.Core.Path.{sym, ◌∙◌}
-use Prim.Native.Nat.{◌-◌}
 use native.Mathlib.Nat.{add-zero, add_assoc}
 use native.Mathlib.Omega.{arith}
 use borrow.Author.Rules.{rules}
@@ -24,13 +23,12 @@ returns-then-x-least c =
     ∙ lt_yes _ _ _ _ (omega arith) ∙ lt_yes _ _ _ _ (omega arith))
 
 pub loop-i-preserved : goal.loop-i-preserved
-loop-i-preserved c =
-    (
-      search rules,
-      rw (← add_assoc)
-          (c.loop-i.invariant.1 ∙ part-turn c.args.s.now c.loop-i.i _ _ _ (omega arith)
-          ∙ lt_yes _ _ _ _ (omega arith) ∙ lt_no _ _ _ _ (omega arith)),
-    )
+loop-i-preserved c = (
+  search rules,
+  rw (← add_assoc)
+      (c.loop-i.invariant.1 ∙ part-turn c.args.s.now c.loop-i.i _ _ _ (omega arith)
+      ∙ lt_yes _ _ _ _ (omega arith) ∙ lt_no _ _ _ _ (omega arith)),
+)
 
 pub returns : goal.returns
 returns c =

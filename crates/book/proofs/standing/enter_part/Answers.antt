@@ -1,6 +1,5 @@
 -- What is there and the atoms that are left come to the whole part.
 use mathlib.Core.Path.{refl}
-use Prim.Native.Nat.{◌-◌}
 use native.Mathlib.Omega.{arith}
 use borrow.Author.Rules.{rules}
 use Rattle.book.proofs.RowStores.{part-again, part-done}

@@ -16,9 +16,8 @@ pub enter_part-requires-2 : goal.enter_part-requires-2
 enter_part-requires-2 c = (omega arith, c.enter_part.ensures.1)
 
 pub returns : goal.returns
-returns c =
-    (
-      rule-entered _ _ _ _ _ _ _ _ _ (c.wide.ensures.0 ∙ ap (λ (a : AtomNo). a.0) c.head.ensures)
-          c.positives.ensures c.negatives.ensures c.enter.ensures.0 c.enter_part.ensures.0 c.enter_part-2.ensures.0,
-      c.enter_part-2.ensures.1,
-    )
+returns c = (
+  rule-entered _ _ _ _ _ _ _ _ _ (c.wide.ensures.0 ∙ ap (λ (a : AtomNo). a.0) c.head.ensures)
+      c.positives.ensures c.negatives.ensures c.enter.ensures.0 c.enter_part.ensures.0 c.enter_part-2.ensures.0,
+  c.enter_part-2.ensures.1,
+)

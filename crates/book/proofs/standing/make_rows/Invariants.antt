@@ -1,7 +1,6 @@
 use mathlib.Core.Path.{◌≡◌}
 use Prim.Native.Nat.{◌-◌, ◌≤◌}
 use lib.ListN.{length}
-use borrow.Author.Rules.{rules}
 use Rattle.book.specs.Format.{book_in}
 use Rattle.book.specs.RuleRows.{sets}
 use Rattle.book.proofs.RowStores.{rows_to}

@@ -1,12 +1,10 @@
 -- The table of heads: after r rules it holds the heads of those of them that are in the set.
 use mathlib.Core.Path.{◌≡◌, sym, ◌∙◌}
-use mathlib.Core.Logic.{⊎_elim}
-use Prim.Native.Nat.{◌-◌, ◌<◌}
+use Prim.Native.Nat.{◌<◌}
 use native.Mathlib.Omega.{arith}
 use borrow.Author.Rules.{rules}
 use Rattle.meaning.specs.declared.AtomNo.{AtomNo}
 use Rattle.meaning.specs.Books.{rule_no, rule}
-use Rattle.meaning.specs.Written.{of}
 use Rattle.book.specs.Format.{book_in}
 use Rattle.book.proofs.AtomSets.{heads-none, heads-skip, heads-store, heads-end}
 use Rattle.book.proofs.Places.{head_small, shape-count}
@@ -43,15 +41,15 @@ bounds-out-a c =
     let h = small c.before.before.before.before.before _ c.head.ensures in search rules
 
 pub loop-r-preserved : goal.loop-r-preserved
-loop-r-preserved c =
-    (
-      search rules,
-      elim c.if-has.branch [
-        then-has w ↦ w.out-is
-          ∙ heads-store _ _ _ _ w.head.ensures (small c.before.before _ w.head.ensures)
-          (sym c.has.ensures ∙ w.if-has.true) _ _ c.loop-r.invariant.1 w.wide-a.ensures.0
-      | else-has w ↦ w.out-is ∙ c.loop-r.invariant.1 ∙ heads-skip _ _ _ (sym c.has.ensures ∙ w.if-has.false) ],
-    )
+loop-r-preserved c = (
+  search rules,
+  elim c.if-has.branch [
+    | then-has w ↦ w.out-is
+        ∙ heads-store _ _ _ _ w.head.ensures (small c.before.before _ w.head.ensures)
+        (sym c.has.ensures ∙ w.if-has.true) _ _ c.loop-r.invariant.1 w.wide-a.ensures.0
+    | else-has w ↦ w.out-is ∙ c.loop-r.invariant.1 ∙ heads-skip _ _ _ (sym c.has.ensures ∙ w.if-has.false)
+  ],
+)
 
 pub returns : goal.returns
 returns c =

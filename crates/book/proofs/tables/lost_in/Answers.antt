@@ -1,13 +1,10 @@
 -- The table of lost atoms: after r rules it holds the atoms all of whose rules among them are in the set.
 use mathlib.Core.Path.{◌≡◌, sym, ◌∙◌}
-use mathlib.Core.Logic.{⊎_elim}
-use Prim.Native.Nat.{◌-◌, ◌<◌}
+use Prim.Native.Nat.{◌<◌}
 use native.Mathlib.Omega.{arith}
 use borrow.Author.Rules.{rules}
-use borrow.Author.Tests.{not-true, not-false}
 use Rattle.meaning.specs.declared.AtomNo.{AtomNo}
 use Rattle.meaning.specs.Books.{rule_no, rule}
-use Rattle.meaning.specs.Written.{of}
 use Rattle.book.specs.Format.{book_in}
 use Rattle.book.proofs.AtomSets.{all_none, all-skip, all-store, all_end}
 use Rattle.book.proofs.Places.{head_small, shape-count}
@@ -44,15 +41,15 @@ bounds-out-a c =
     let h = small c.before.before.before.before.before _ c.head.ensures in search rules
 
 pub loop-r-preserved : goal.loop-r-preserved
-loop-r-preserved c =
-    (
-      search rules,
-      elim c.if-not-has.branch [
-        then-not-has w ↦ w.out-is
-          ∙ all-store _ _ _ _ w.head.ensures (small c.before.before _ w.head.ensures)
-          (sym c.has.ensures ∙ w.if-not-has.true) _ _ c.loop-r.invariant.1 w.wide-a.ensures.0
-      | else-not-has w ↦ w.out-is ∙ c.loop-r.invariant.1 ∙ all-skip _ _ _ (sym c.has.ensures ∙ w.if-not-has.false) ],
-    )
+loop-r-preserved c = (
+  search rules,
+  elim c.if-not-has.branch [
+    | then-not-has w ↦ w.out-is
+        ∙ all-store _ _ _ _ w.head.ensures (small c.before.before _ w.head.ensures)
+        (sym c.has.ensures ∙ w.if-not-has.true) _ _ c.loop-r.invariant.1 w.wide-a.ensures.0
+    | else-not-has w ↦ w.out-is ∙ c.loop-r.invariant.1 ∙ all-skip _ _ _ (sym c.has.ensures ∙ w.if-not-has.false)
+  ],
+)
 
 pub returns : goal.returns
 returns c =

@@ -1,6 +1,5 @@
 -- The lowest member of what both sets have.
 use mathlib.Core.Path.{ap, ◌∙◌}
-use borrow.Author.Rules.{rules}
 use Rattle.meaning.specs.Books.{Rules}
 use Rattle.meaning.specs.Lowest.{lowest_from}
 use Rattle.closing.proofs.Searches.{both-listed}

@@ -1,6 +1,5 @@
 -- The same, where a rule is asked of two sets.
 use mathlib.Core.Path.{ap₂, ◌∙◌}
-use Prim.Native.Nat.{◌-◌}
 use native.Mathlib.Omega.{arith}
 use lib.ListN.{length-set}
 use Rattle.meaning.specs.Bits.{listed}

@@ -1,12 +1,11 @@
 -- The members below the one at which the search stands have the level, and all else is as it was.
 use mathlib.Core.Path.{◌∙◌}
-use Prim.Native.Nat.{◌-◌, ◌<◌}
+use Prim.Native.Nat.{◌<◌}
 use native.Mathlib.Omega.{arith}
 use lib.ListN.{length-set}
 use borrow.Author.Rules.{rules}
-use Rattle.meaning.specs.Written.{of}
 use Rattle.meaning.proofs.Next.{next-further}
-use Rattle.closing.proofs.Stamping.{before, stamp-start, stamp-turn, stamp-end}
+use Rattle.closing.proofs.Stamping.{stamp-start, stamp-turn, stamp-end}
 use Rattle.closing.proofs.levels.stamp.Goals as goal
 use Rattle.closing.proofs.levels.stamp.Lts as lts
 use Rattle.closing.proofs.levels.stamp.Tie as tie

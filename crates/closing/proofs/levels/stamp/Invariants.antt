@@ -1,7 +1,6 @@
 use mathlib.Core.Path.{◌≡◌}
 use Prim.Native.Nat.{ℕ, ◌-◌}
 use lib.ListN.{length}
-use borrow.Author.Rules.{rules}
 use Rattle.meaning.specs.Bits.{members, listed, NextIn}
 use Rattle.meaning.specs.Written.{of, stamp_from}
 use Rattle.closing.proofs.Stamping.{before}

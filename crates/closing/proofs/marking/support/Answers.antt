@@ -1,5 +1,4 @@
 -- The marks are grown from nothing, and the rules without a mark become fewer; a sweep that marks none has found the support set.
-use mathlib.Core.Bool.{false}
 use Prim.Native.Nat.{ℕ}
 use lib.ListN.{replicate}
 use borrow.Author.Rules.{rules}

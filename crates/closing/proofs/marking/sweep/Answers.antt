@@ -1,5 +1,4 @@
 -- One turn after another makes a pass, and the table of heads goes with the marks.
-use Prim.Native.Nat.{◌-◌}
 use native.Mathlib.Omega.{arith}
 use borrow.Author.Rules.{rules}
 use Rattle.meaning.proofs.Listed.{listed-long}

@@ -1,5 +1,4 @@
 -- The heads of the members below the one at which the search stands are noted, if all their rules are off.
-use Prim.Native.Nat.{◌-◌}
 use native.Mathlib.Omega.{arith}
 use borrow.Author.Rules.{rules}
 use Rattle.meaning.specs.Books.{rule_no}
@@ -9,7 +8,6 @@ use Rattle.meaning.specs.Colours.{all_in}
 use Rattle.meaning.proofs.Next.{next-further}
 use Rattle.book.specs.Format.{book_in}
 use Rattle.closing.proofs.Good.{Good, good-count, good-in}
-use Rattle.closing.proofs.Stamping.{before}
 use Rattle.closing.proofs.Noting.{no-atoms, heads-start, heads-turn, heads-end}
 use Rattle.closing.proofs.propagation.lost_heads.Goals as goal
 use Rattle.closing.proofs.propagation.lost_heads.Lts as lts

@@ -1,5 +1,4 @@
 -- The candidates below the one at which the search stands have had their look.
-use Prim.Native.Nat.{◌-◌}
 use native.Mathlib.Omega.{arith}
 use lib.ListN.{replicate}
 use borrow.Author.Rules.{rules}

@@ -1,5 +1,4 @@
 -- The rows of the members below the one at which the search stands are joined.
-use Prim.Native.Nat.{◌-◌}
 use native.Mathlib.Omega.{arith}
 use Rattle.meaning.specs.Bits.{members}
 use Rattle.meaning.proofs.Next.{next-further}

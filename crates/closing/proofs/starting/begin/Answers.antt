@@ -1,5 +1,4 @@
 -- The atoms below the one at which the search stands are noted.
-use Prim.Native.Nat.{◌-◌}
 use native.Mathlib.Omega.{arith}
 use borrow.Author.Rules.{rules}
 use Rattle.book.specs.RuleRows.{headed_by, lost_by}

@@ -14,10 +14,9 @@ good : (s : Start) → Good s.args.book.now s.args.shape
 good s = search rules
 
 pub propagate_from-requires : goal.propagate_from-requires
-propagate_from-requires c =
-    (
-      c.requires.0,
-      c.requires.1,
-      begun-pending c.args.book.now c.args.shape c.requires.0 (good c.before.before.before.before.before.before.before.before).atoms c.args.rows.now c.requires.1 c.args.on.now c.args.off.now
-          c.begin.new.nt c.begin.new.nl c.below.result.w c.begin.ensures.0 c.begin.ensures.1 c.below.ensures,
-    )
+propagate_from-requires c = (
+  c.requires.0,
+  c.requires.1,
+  begun-pending c.args.book.now c.args.shape c.requires.0 (good c.before.before.before.before.before.before.before.before).atoms c.args.rows.now c.requires.1 c.args.on.now c.args.off.now
+      c.begin.new.nt c.begin.new.nl c.below.result.w c.begin.ensures.0 c.begin.ensures.1 c.below.ensures,
+)

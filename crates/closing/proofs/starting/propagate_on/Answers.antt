@@ -23,8 +23,7 @@ good s = search rules
 
 pub propagate_from-requires : goal.propagate_from-requires
 propagate_from-requires c =
-    let g = good c.before.before.before.before.before.before.before.before.before in
-    (
+    let g = good c.before.before.before.before.before.before.before.before.before in (
       c.requires.0,
       c.requires.1,
       risen-pending _ c.empty.result.w c.empty-2.result.w c.empty.ensures c.empty-2.ensures c.args.on.now c.rise.new.on c.args.off.now

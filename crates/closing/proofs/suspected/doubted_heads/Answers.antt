@@ -1,6 +1,5 @@
 -- The heads of the members below the one at which the search stands are noted, unless they are sure.
 use mathlib.Core.Bool.{not}
-use Prim.Native.Nat.{◌-◌}
 use native.Mathlib.Omega.{arith}
 use borrow.Author.Rules.{rules}
 use Rattle.meaning.specs.Books.{rule_no}
@@ -10,7 +9,6 @@ use Rattle.meaning.specs.Suspects.{sure, doubted}
 use Rattle.meaning.proofs.Next.{next-further}
 use Rattle.book.specs.Format.{book_in}
 use Rattle.closing.proofs.Good.{Good, good-count, good-in}
-use Rattle.closing.proofs.Stamping.{before}
 use Rattle.closing.proofs.Noting.{no-atoms, heads-start, heads-turn, heads-end}
 use Rattle.closing.proofs.suspected.doubted_heads.Goals as goal
 use Rattle.closing.proofs.suspected.doubted_heads.Lts as lts

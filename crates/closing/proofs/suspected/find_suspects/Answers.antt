@@ -4,7 +4,6 @@ use mathlib.Core.Path.{refl, ◌∙◌}
 use mathlib.Core.List.{List}
 use Prim.Native.Nat.{ℕ}
 use lib.ListN.{replicate}
-use borrow.Author.Rules.{rules}
 use Rattle.meaning.specs.Bits.{listed}
 use Rattle.meaning.specs.Written.{of}
 use Rattle.meaning.proofs.Four.{members-nothing}
@@ -87,12 +86,11 @@ pub suspect_more-requires : goal.suspect_more-requires
 suspect_more-requires c = c.requires
 
 pub returns-then-is_within : goal.returns-then-is_within
-returns-then-is_within c =
-    (
-      suspecting-end _ _ _ (found c.before.before).0
-          (none_in (todo c.before.before) c.whole-in-loop-shape.result.w c.empty.result.w c.whole-in-loop-shape.ensures c.empty.ensures c.is_within.ensures c.if-is_within.true),
-      (found c.before.before).1,
-    )
+returns-then-is_within c = (
+  suspecting-end _ _ _ (found c.before.before).0
+      (none_in (todo c.before.before) c.whole-in-loop-shape.result.w c.empty.result.w c.whole-in-loop-shape.ensures c.empty.ensures c.is_within.ensures c.if-is_within.true),
+  (found c.before.before).1,
+)
 
 pub loop-shape-smaller : goal.loop-shape-smaller
 loop-shape-smaller c =

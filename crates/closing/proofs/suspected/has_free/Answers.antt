@@ -1,5 +1,4 @@
 -- No member of the set below the one at which the search stands is free.
-use Prim.Native.Nat.{◌-◌}
 use native.Mathlib.Omega.{arith}
 use borrow.Author.Rules.{rules}
 use Rattle.meaning.specs.Books.{rule_no}
@@ -46,12 +45,11 @@ pub loop-r-smaller : goal.loop-r-smaller
 loop-r-smaller c = let g = good c.before.before.before.before.before.before.before.before.before in omega (arith, next-further _ _ _ c.next_in-r-in-loop-r.ensures (omega (arith, g.rules)))
 
 pub loop-r-preserved : goal.loop-r-preserved
-loop-r-preserved c =
-    (
-      (_, c.next_in-r-in-loop-r.ensures),
-      free-turn (book_in c.args.book.now) c.args.set.now c.loop-r.r _ c.next_in-r-in-loop-r.ensures (free-no _ _ c.positives.ensures c.if-positives-eq0.false)
-          c.loop-r.invariant.1,
-    )
+loop-r-preserved c = (
+  (_, c.next_in-r-in-loop-r.ensures),
+  free-turn (book_in c.args.book.now) c.args.set.now c.loop-r.r _ c.next_in-r-in-loop-r.ensures (free-no _ _ c.positives.ensures c.if-positives-eq0.false)
+      c.loop-r.invariant.1,
+)
 
 pub returns : goal.returns
 returns c =

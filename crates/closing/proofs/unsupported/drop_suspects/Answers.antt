@@ -6,8 +6,7 @@ pub find_unsupported-requires : goal.find_unsupported-requires
 find_unsupported-requires c = c.requires
 
 pub returns : goal.returns
-returns c =
-    (
-      dropped-by _ c.args.off.now c.put_off-more.new.off c.find_unsupported.new.rest c.find_unsupported.ensures c.put_off-more.ensures.0 c.put_off-more.ensures.1,
-      c.whole-all.ensures,
-    )
+returns c = (
+  dropped-by _ c.args.off.now c.put_off-more.new.off c.find_unsupported.new.rest c.find_unsupported.ensures c.put_off-more.ensures.0 c.put_off-more.ensures.1,
+  c.whole-all.ensures,
+)

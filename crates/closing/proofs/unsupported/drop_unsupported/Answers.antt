@@ -1,5 +1,4 @@
 -- The rules of the book that are neither marked nor off go off.
-use borrow.Author.Rules.{rules}
 use Rattle.book.proofs.Places.{shape-count}
 use Rattle.closing.proofs.Dropping.{unheld-marked, gone-off}
 use Rattle.closing.proofs.unsupported.drop_unsupported.Goals as goal

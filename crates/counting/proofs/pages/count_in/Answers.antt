@@ -1,5 +1,5 @@
 -- The count goes on page by page, and the lent array stands until it is at its end.
-use Rattle.std.proofs.Common.{◌≡◌, ◌-◌, length, take, refl, ap, arith, length-take-le, rules}
+use Rattle.std.proofs.Common.{◌≡◌, length, take, refl, ap, arith, length-take-le, rules}
 use Rattle.counting.proofs.Counting.{count-starts, row_kept, kept-long, all-answers, limit-answers, comes-as}
 use Rattle.counting.proofs.pages.count_in.Goals as goal
 

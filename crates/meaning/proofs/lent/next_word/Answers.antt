@@ -1,5 +1,4 @@
 -- The words before word k have no member.
-use Prim.Native.Nat.{◌-◌}
 use native.Mathlib.Omega.{arith}
 use Rattle.meaning.proofs.Next.{passed_none, passed-word, next_word, next-none}
 use Rattle.meaning.proofs.lent.next_word.Goals as goal

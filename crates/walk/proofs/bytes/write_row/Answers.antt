@@ -1,5 +1,4 @@
 -- A row written: its first a bytes stand in the buffer, and all others are those from before.
-use Prim.Native.Nat.{◌-◌}
 use lib.Seq.{paste-zero}
 use borrow.Author.Rules.{rules}
 use Rattle.walk.proofs.RowBytes.{row-turn, row_written}

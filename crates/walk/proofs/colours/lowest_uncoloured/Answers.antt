@@ -1,6 +1,5 @@
 -- The lowest member of what is left of the rules without the two sets.
 use mathlib.Core.Path.{◌∙◌}
-use borrow.Author.Rules.{rules}
 use Rattle.walk.proofs.Searches.{free-lowest}
 use Rattle.walk.proofs.colours.lowest_uncoloured.Goals as goal
 

@@ -46,14 +46,13 @@ module _ (c : After-inside-2-1) where
   outside = c.difference-outside.ensures ∙ ap (λ (w : List ℕ). less (members w) (members c.args.part.w)) c.whole.ensures
 
 pub first_alike-verdict-requires : goal.first_alike-verdict-requires
-first_alike-verdict-requires c =
-    (
-      c.requires.0,
-      start-shallow c.requires.1 _ _ _ c.requires.3 _ _ (outside c.before) c.rules_with-off.ensures (fits c.before)
-          c.empty-c.ensures refl,
-      c.requires.1,
-      tt,
-    )
+first_alike-verdict-requires c = (
+  c.requires.0,
+  start-shallow c.requires.1 _ _ _ c.requires.3 _ _ (outside c.before) c.rules_with-off.ensures (fits c.before)
+      c.empty-c.ensures refl,
+  c.requires.1,
+  tt,
+)
 
 pub returns-in_default : goal.returns-in_default
 returns-in_default c =

@@ -1,9 +1,8 @@
 -- The levels written: the first i of them stand in the buffer, and all other bytes are those from before.
 use mathlib.Core.Path.{refl, ◌∙◌}
-use Prim.Native.Nat.{◌-◌, ◌≤◌}
+use Prim.Native.Nat.{◌≤◌}
 use native.Mathlib.Omega.{arith}
 use lib.ListN.{length, length-set}
-use borrow.Author.Rules.{rules}
 use Rattle.walk.proofs.Leveled.{levels-turn, levels-written}
 use Rattle.walk.proofs.descent.write_levels.Goals as goal
 use Rattle.walk.proofs.descent.write_levels.Lts as lts

@@ -2,7 +2,6 @@ use mathlib.Core.Path.{◌≡◌}
 use Prim.Native.Nat.{◌-◌, ◌≤◌}
 use lib.ListN.{length, take}
 use lib.Seq.{paste}
-use borrow.Author.Rules.{rules}
 use Rattle.walk.proofs.descent.write_levels.Given as goal
 
 abbrev pub invariant-loop-i : goal.invariant-loop-i

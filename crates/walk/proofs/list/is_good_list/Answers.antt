@@ -1,7 +1,7 @@
 -- The first i numbers are below the number of atoms, and whether the list ascends is what the rest says from `least` on.
 use mathlib.Core.Path.{◌∙◌}
 use mathlib.Core.List.{List}
-use Prim.Native.Nat.{ℕ, ◌-◌}
+use Prim.Native.Nat.{ℕ}
 use native.Mathlib.Omega.{arith}
 use borrow.Author.Rules.{rules}
 use Rattle.meaning.specs.Sets.{every}
@@ -36,12 +36,11 @@ returns-then-n-least c =
     list-stops (numbers c.before.before.before) _ c.loop-i.i _ c.loop-i.invariant.2 (omega arith) (omega arith)
 
 pub loop-i-preserved : goal.loop-i-preserved
-loop-i-preserved c =
-    (
-      omega arith,
-      list-next (numbers c.before.before.before) c.loop-i.i _ (omega arith) (omega arith) c.loop-i.invariant.1,
-      c.loop-i.invariant.2 ∙ rising-next (numbers c.before.before.before) _ c.loop-i.i (omega arith) (omega arith),
-    )
+loop-i-preserved c = (
+  omega arith,
+  list-next (numbers c.before.before.before) c.loop-i.i _ (omega arith) (omega arith) c.loop-i.invariant.1,
+  c.loop-i.invariant.2 ∙ rising-next (numbers c.before.before.before) _ c.loop-i.i (omega arith) (omega arith),
+)
 
 pub returns : goal.returns
 returns c =

@@ -1,5 +1,5 @@
 -- The set holds the first i numbers of the list.
-use Prim.Native.Nat.{◌-◌, ◌<◌}
+use Prim.Native.Nat.{◌<◌}
 use native.Mathlib.Omega.{arith}
 use lib.ListN.{get_or}
 use borrow.Author.Rules.{rules}

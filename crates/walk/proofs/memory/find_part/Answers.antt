@@ -1,6 +1,5 @@
 -- Nothing need be known of the rows that were passed: only what is found is told.
 use mathlib.Core.Path.{sym, ◌∙◌, ap}
-use Prim.Native.Nat.{◌-◌}
 use native.Mathlib.Omega.{arith}
 use Rattle.meaning.specs.Bits.{members}
 use Rattle.walk.proofs.memory.find_part.Goals as goal
@@ -15,7 +14,6 @@ pub returns-then-is_same : goal.returns-then-is_same
 returns-then-is_same c = λ h. (
   c.if-seen-k.false,
   sym (ap members c.words_at.ensures) ∙ c.is_same.ensures c.if-is_same.true,
-
 )
 
 pub returns : goal.returns

@@ -1,6 +1,5 @@
 -- Where there was a contradictory try its origin is closed, and the rule is that of the closing.
 use mathlib.Core.Path.{refl}
-use borrow.Author.Rules.{rules}
 use Rattle.walk.proofs.ToldClash.{told_none, told-still, told-rule, origin-read}
 use Rattle.walk.proofs.origin.tell_clash.Goals as goal
 use Rattle.walk.proofs.origin.tell_clash.Lts as lts

@@ -1,5 +1,4 @@
 -- The atoms below the one at which the search stands have a rule that is not off.
-use Prim.Native.Nat.{◌-◌}
 use native.Mathlib.Omega.{arith}
 use Rattle.meaning.proofs.Next.{next-further}
 use Rattle.walk.proofs.Gathering.{swept-start, lost-found, lost-turn, lost-none}

@@ -1,5 +1,4 @@
 -- The rules of the atoms below the one at which the search stands are gathered, and no others.
-use Prim.Native.Nat.{◌-◌}
 use native.Mathlib.Omega.{arith}
 use Rattle.meaning.proofs.Next.{next-further}
 use Rattle.meaning.proofs.Four.{members-nothing}

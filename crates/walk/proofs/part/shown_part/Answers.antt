@@ -1,6 +1,5 @@
 -- The atoms below the one at which the search stands are in the part exactly if they are heads of on rules.
 use mathlib.Core.Path.{◌∙◌, ap}
-use Prim.Native.Nat.{◌-◌}
 use native.Mathlib.Omega.{arith}
 use Rattle.meaning.specs.Bits.{listed}
 use Rattle.meaning.proofs.Next.{next-further}
@@ -18,12 +17,13 @@ loop-i-smaller c = omega (arith, next-further _ _ _ c.next_in-i-in-loop-i.ensure
 pub loop-i-preserved : goal.loop-i-preserved
 loop-i-preserved c =
     elim c.if-meets.branch [
-      then-meets w ↦
-        parted-put _ _ _ _ c.loop-i.invariant (omega arith) _ c.head_row.ensures c.meets.ensures c.next_in-i-in-loop-i.ensures
-        w.if-meets.true _ (ap listed w.part-is ∙ w.put.ensures)
-    | else-meets w ↦
-        rw w.part-is (parted-skip _ _ _ _ c.loop-i.invariant (omega arith) _ c.head_row.ensures c.meets.ensures
-        c.next_in-i-in-loop-i.ensures w.if-meets.false) ]
+      | then-meets w ↦
+          parted-put _ _ _ _ c.loop-i.invariant (omega arith) _ c.head_row.ensures c.meets.ensures c.next_in-i-in-loop-i.ensures
+          w.if-meets.true _ (ap listed w.part-is ∙ w.put.ensures)
+      | else-meets w ↦
+          rw w.part-is (parted-skip _ _ _ _ c.loop-i.invariant (omega arith) _ c.head_row.ensures c.meets.ensures
+          c.next_in-i-in-loop-i.ensures w.if-meets.false)
+    ]
 
 pub returns : goal.returns
 returns c = parted-all _ _ _ _ c.loop-i.invariant (omega arith)

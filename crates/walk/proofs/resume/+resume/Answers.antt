@@ -9,7 +9,6 @@ use Rattle.walk.proofs.walk.walk.Reads as walk-reads
 use mathlib.Core.Path.{◌≡◌}
 use Prim.Native.Nat.{ℕ, ◌≤◌}
 use borrow.Author.Rules.{rules}
-use borrow.Fn.PlainCycle.{is}
 use Rattle.meaning.specs.Books.{count}
 use Rattle.meaning.specs.Colours.{on_side, off_side}
 use Rattle.meaning.specs.Written.{written, pair}

@@ -1,6 +1,4 @@
 -- A part of a body gone through: its first i atoms are as is asked, so that the first that isn't says no, and the end yes.
-use mathlib.Core.Bool.{true}
-use Prim.Native.Nat.{◌-◌}
 use native.Mathlib.Omega.{arith}
 use borrow.Author.Tests.{not-false}
 use borrow.Author.Rules.{rules}

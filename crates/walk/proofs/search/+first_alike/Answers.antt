@@ -8,7 +8,6 @@ use Rattle.walk.proofs.search.same_rules.Reads as same-rules-reads
 use mathlib.Core.Path.{◌≡◌, refl}
 use Prim.Native.Nat.{ℕ, ◌≤◌}
 use borrow.Author.Rules.{rules}
-use borrow.Fn.PlainCycle.{is}
 use Rattle.meaning.specs.Books.{count}
 use Rattle.meaning.specs.Colours.{on_side, off_side}
 use Rattle.meaning.specs.Written.{written, pair}

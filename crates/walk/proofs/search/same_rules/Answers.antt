@@ -1,6 +1,5 @@
 -- The rules of the book in the one set are in the other, and back.
 use native.Mathlib.Omega.{arith}
-use borrow.Author.Rules.{rules}
 use Rattle.walk.proofs.SameRules.{rules-differ, rules-same}
 use Rattle.walk.proofs.search.same_rules.Goals as goal
 

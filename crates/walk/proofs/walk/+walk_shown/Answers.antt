@@ -13,7 +13,6 @@ use mathlib.Core.Path.{◌≡◌, refl, sym, ◌∙◌, ap}
 use Prim.Native.Nat.{ℕ, ◌≤◌, ◌<◌}
 use native.Mathlib.Omega.{arith}
 use borrow.Author.Rules.{rules}
-use borrow.Fn.PlainCycle.{is}
 use Rattle.meaning.specs.Books.{count}
 use Rattle.meaning.specs.Colours.{on_side, off_side, uncoloured}
 use Rattle.meaning.specs.Written.{written, pair}
@@ -198,8 +197,7 @@ walk_shown-requires μ c =
     )
 
 pub returns : goal.returns
-returns μ c =
-    (
-      walk-fork _ _ _ _ _ (going μ c.before.before.before.before.before.before.before.before.before.before.before.before.before.before.before.before.before.before.before.before.before.before.before.before) (within μ c.before.before.before.before.before.before.before.before.before.before.before.before.before.before.before.before.before.before.before.before.before.before.before.before) (forks μ c.before.before.before.before.before.before.before.before.before.before.before.before.before.before.before.before.before.before) (ap (origin-told μ c.before.before.before.before.before.before.before.before.before.before.before.before.before.before.before.before.before.before.before.before.before.before.before.before.before.before.before.before.before.before.before) c.tried-forked.ensures) c.walk_shown-first.ensures.0 c.walk_shown.ensures.0,
-      c.walk_shown.ensures.1,
-    )
+returns μ c = (
+  walk-fork _ _ _ _ _ (going μ c.before.before.before.before.before.before.before.before.before.before.before.before.before.before.before.before.before.before.before.before.before.before.before.before) (within μ c.before.before.before.before.before.before.before.before.before.before.before.before.before.before.before.before.before.before.before.before.before.before.before.before) (forks μ c.before.before.before.before.before.before.before.before.before.before.before.before.before.before.before.before.before.before) (ap (origin-told μ c.before.before.before.before.before.before.before.before.before.before.before.before.before.before.before.before.before.before.before.before.before.before.before.before.before.before.before.before.before.before.before) c.tried-forked.ensures) c.walk_shown-first.ensures.0 c.walk_shown.ensures.0,
+  c.walk_shown.ensures.1,
+)
