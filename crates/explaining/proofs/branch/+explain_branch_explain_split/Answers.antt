@@ -11,6 +11,7 @@ use Rattle.book.proofs.Places.{shape-count}
 use Rattle.checker.specs.Parts.{walked}
 use Rattle.checker.proofs.BranchWalked.{ends-done, run-from, run-leads, run_room, run_ends, run-refused, run-splits}
 use Rattle.checker.proofs.BranchWalked.{Parted, split-refused, split_done}
+use Rattle.explaining.proofs.branch.+explain_branch_explain_split.Given.{Over}
 use Rattle.explaining.proofs.branch.+explain_branch_explain_split.Goals as goal
 use Rattle.explaining.proofs.branch.+explain_branch_explain_split.Goals.{explain_split-After-explain_branch}
 
@@ -23,7 +24,7 @@ pub explain_branch-explain_split-requires : goal.explain_branch-explain_split-re
 explain_branch-explain_split-requires g t c =
     let (f, e) = run-splits c.explain_run-ran.ensures c.in-Split.is in
     let h = run-from c.explain_run-ran.ensures in
-    (omega arith, (c.requires, f, e))
+    λ κs lives. (omega arith, (lives, (c.requires, f, e)))
 
 pub explain_branch-returns-in-End : goal.explain_branch-returns-in-End
 explain_branch-returns-in-End g t c = run_ends c.explain_run-ran.ensures c.in-End.is
@@ -40,7 +41,7 @@ explain_branch-returns-in-Fails g t c = run-refused c.explain_run-ran.ensures 25
 -- ---- explain_split
 
 -- behind the first branch
-parted : (g : goal.Over) (t : ℕ) (c : explain_split-After-explain_branch g t) →
+parted : (g : Over) (t : ℕ) (c : explain_split-After-explain_branch g t) →
     Parted (book_in c.args.book.now) c.args.trailer.claim c.args.paper.now c.args.trailer.from c.args.at c.args.r (written c.args.c)
     (written c.with_on-first.result) c.explain_branch.result
 parted g t c = record {
@@ -54,11 +55,12 @@ parted g t c = record {
 }
 
 pub explain_split-explain_branch-requires : goal.explain_split-explain_branch-requires
-explain_split-explain_branch-requires g t c = (omega (arith, c.requires.1.1), c.requires.0)
+explain_split-explain_branch-requires g t c = λ κs lives. (omega (arith, c.requires.1.1), (lives, c.requires.0))
 
 pub explain_split-explain_branch-requires-in-Done : goal.explain_split-explain_branch-requires-in-Done
 explain_split-explain_branch-requires-in-Done g t c =
-    let (h, k) = ends-done c.explain_branch.ensures.1 c.in-Done.is in (omega arith, c.requires.0)
+    let (h, k) = ends-done c.explain_branch.ensures.1 c.in-Done.is in
+    λ κs lives. (omega arith, (lives, c.requires.0))
 
 pub explain_split-returns-in-Done : goal.explain_split-returns-in-Done
 explain_split-returns-in-Done g t c =

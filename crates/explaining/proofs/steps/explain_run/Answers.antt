@@ -13,10 +13,6 @@ use Rattle.checker.specs.Parts.Leads.{here}
 use Rattle.checker.proofs.StepsRun.{found-by, list-small, step_is, led_on, led-off, led-list}
 use Rattle.explaining.proofs.steps.explain_run.Goals as goal
 
--- a good book has at most 255 rules
-few : {b : List ℕ} {s : Shape} → ReadAs b s → count (book_in b) ≤ 255
-few r = omega (arith, shape-count _ _ r)
-
 pub loop-r-init : goal.loop-r-init
 loop-r-init g c = record { leads = here; on-long = listed-long _; off-long = listed-long _ }
 
@@ -31,7 +27,8 @@ loop-r-smaller-in-On g c = omega (arith, (found-by c.explain_step.ensures c.in-O
 
 pub loop-r-preserved-in-On : goal.loop-r-preserved-in-On
 loop-r-preserved-in-On g c =
-    rw c.with_on-colours.ensures (led_on c.loop-r.invariant (few c.requires.read) _ c.explain_step.ensures _ c.in-On.is)
+    let few : count (book_in c.args.book.now) ≤ 255 = omega (arith, shape-count _ _ c.requires.read) in
+    rw c.with_on-colours.ensures (led_on c.loop-r.invariant few _ c.explain_step.ensures _ c.in-On.is)
 
 pub overflow_add-i-in-Off : goal.overflow_add-i-in-Off
 overflow_add-i-in-Off g c =
@@ -44,7 +41,8 @@ loop-r-smaller-in-Off g c = omega (arith, (found-by c.explain_step.ensures c.in-
 
 pub loop-r-preserved-in-Off : goal.loop-r-preserved-in-Off
 loop-r-preserved-in-Off g c =
-    rw c.with_off-colours.ensures (led-off c.loop-r.invariant (few c.requires.read) _ c.explain_step.ensures _ c.in-Off.is)
+    let few : count (book_in c.args.book.now) ≤ 255 = omega (arith, shape-count _ _ c.requires.read) in
+    rw c.with_off-colours.ensures (led-off c.loop-r.invariant few _ c.explain_step.ensures _ c.in-Off.is)
 
 -- ---- 55: its list ends before the witness
 pub overflow_add-first : goal.overflow_add-first
@@ -58,14 +56,16 @@ slice_bounds-with_rules-end g c = let h = (found-by c.explain_step.ensures c.in-
 
 pub with_rules-more-requires : goal.with_rules-more-requires
 with_rules-more-requires g c =
-    list-small c.explain_step.ensures c.in-Unfounded.is (few c.requires.read)
+    let few : count (book_in c.args.book.now) ≤ 255 = omega (arith, shape-count _ _ c.requires.read) in
+    list-small c.explain_step.ensures c.in-Unfounded.is few
 
 pub loop-r-smaller : goal.loop-r-smaller
 loop-r-smaller g c = omega (arith, (found-by c.explain_step.ensures c.in-Unfounded.is).0)
 
 pub loop-r-preserved : goal.loop-r-preserved
 loop-r-preserved g c =
-    led-list c.loop-r.invariant (few c.requires.read) _ c.explain_step.ensures _ _ c.in-Unfounded.is (listed-long _)
+    let few : count (book_in c.args.book.now) ≤ 255 = omega (arith, shape-count _ _ c.requires.read) in
+    led-list c.loop-r.invariant few _ c.explain_step.ensures _ _ c.in-Unfounded.is (listed-long _)
     c.with_rules-more.ensures
 
 -- ---- the stop
