@@ -1,0 +1,8 @@
+-- The rules of the list have places in the set.
+use native.Mathlib.Omega.{arith}
+use Rattle.checker.proofs.Lists.{below_more}
+use Rattle.explaining.proofs.tell.tell_list.Goals as goal
+
+pub with_rules-gone-requires : goal.with_rules-gone-requires
+with_rules-gone-requires g c =
+    below_more (omega arith) c.requires.1
