@@ -27,9 +27,6 @@ Start = lts.Start tie.the-claims tie.handed_pre tie.handed_post
 abbrev After-propagate : Type 0
 After-propagate = lts.After-propagate tie.the-claims tie.handed_pre tie.handed_post
 
-abbrev After-drop_unsupported : Type 0
-After-drop_unsupported = lts.After-drop_unsupported tie.the-claims tie.handed_pre tie.handed_post
-
 abbrev After-propagate_dropped : Type 0
 After-propagate_dropped = lts.After-propagate_dropped tie.the-claims tie.handed_pre tie.handed_post
 
@@ -40,9 +37,6 @@ start-good s = (search rules, sized-written s.args.c (search rules))
 
 -- behind the propagation: the start, its sets, and what is reached
 module _ (p : After-propagate) where
-  abbrev entry : Start
-  entry = p.before.before.before.before.before.before.before.before
-
   abbrev sets : Tables
   sets = coloured (listed p.args.c.on.w) (listed p.args.c.off.w)
 
@@ -65,12 +59,6 @@ module _ (p : After-propagate) where
 
 -- behind what follows from the rules that nothing held up: these rules, the sets with them off, and what is reached
 module _ (q : After-propagate_dropped) where
-  abbrev dropped : After-drop_unsupported
-  dropped = q.before.before.before.before
-
-  abbrev before-it : After-propagate
-  before-it = q.before.before.before.before.before.before
-
   abbrev less-them : Tables
   less-them =
       coloured (listed (on-reached q.before.before.before.before.before.before)) (listed q.drop_unsupported.new.off)

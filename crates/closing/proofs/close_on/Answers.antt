@@ -38,9 +38,6 @@ start-good s = (search rules, sized-written s.args.d (search rules))
 
 -- behind the propagation: the start, its sets with the rule put on, and the chosen colouring
 module _ (p : After-propagate_on) where
-  abbrev entry : Start
-  entry = p.before.before.before.before.before.before.before.before
-
   abbrev sets : Tables
   sets = colour_on p.args.r (coloured (listed p.args.d.on.w) (listed p.args.d.off.w))
 
@@ -52,9 +49,6 @@ module _ (p : After-propagate_on) where
 
 -- behind the rest of the way: the sets then
 module _ (k : After-close_propagated) where
-  abbrev followed : After-propagate_on
-  followed = k.before.before.before.before
-
   abbrev on : List ℕ
   on = k.close_propagated.new.on
 

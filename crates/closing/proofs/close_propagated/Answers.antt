@@ -25,9 +25,6 @@ use Rattle.closing.proofs.close_propagated.Tie as tie
 abbrev Start : Type 0
 Start = lts.Start tie.the-claims tie.handed_pre tie.handed_post goal.the-invariant-loop-shape goal.the-decreases-loop-shape
 
-abbrev At-loop-shape : Type 0
-At-loop-shape = lts.At-loop tie.the-claims tie.handed_pre tie.handed_post goal.the-invariant-loop-shape goal.the-decreases-loop-shape
-
 abbrev After-drop_suspects : Type 0
 After-drop_suspects = lts.After-drop_suspects tie.the-claims tie.handed_pre tie.handed_post goal.the-invariant-loop-shape goal.the-decreases-loop-shape
 
@@ -36,12 +33,6 @@ good s = search rules
 
 -- behind the rules that nothing holds up: where the turn began, and the start of the function
 module _ (d : After-drop_suspects) where
-  abbrev turn : At-loop-shape
-  turn = d.before.before.before.before.before.before.before
-
-  abbrev entry : Start
-  entry = d.before.before.before.before.before.before.before.before.before.before
-
   abbrev first : Pair
   first = lent (listed d.args.on.now) (listed d.args.off.now)
 

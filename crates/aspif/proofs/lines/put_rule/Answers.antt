@@ -14,15 +14,6 @@ use Rattle.aspif.proofs.lines.put_rule.Goals as goal
 use Rattle.aspif.proofs.lines.put_rule.Lts as lts
 use Rattle.aspif.proofs.lines.put_rule.Tie as tie
 
-abbrev Start : Type 0
-Start = lts.Start tie.the-claims tie.handed_pre tie.handed_post
-
-abbrev After-positives-pos : Type 0
-After-positives-pos = lts.After-positives tie.the-claims tie.handed_pre tie.handed_post
-
-abbrev After-negatives-neg : Type 0
-After-negatives-neg = lts.After-negatives tie.the-claims tie.handed_pre tie.handed_post
-
 abbrev After-wide : Type 0
 After-wide = lts.After-wide tie.the-claims tie.handed_pre tie.handed_post
 
@@ -34,15 +25,6 @@ After-put_item-counted = lts.After-put_item2 tie.the-claims tie.handed_pre tie.h
 
 -- ---- behind the number of the head (`after-wide`): where the function began, and what the pieces of the line are
 module _ (p : After-wide) where
-  abbrev start : Start
-  start = p.before.before.before.before.before.before.before.before
-
-  abbrev after-positives : After-positives-pos
-  after-positives = p.before.before.before.before.before
-
-  abbrev after-negatives : After-negatives-neg
-  after-negatives = p.before.before.before.before
-
   abbrev put : Rule
   put = rule (book_in p.args.book.now) p.args.r
 

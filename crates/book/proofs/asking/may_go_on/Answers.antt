@@ -17,9 +17,6 @@ use Rattle.book.proofs.asking.may_go_on.Goals as goal
 use Rattle.book.proofs.asking.may_go_on.Lts as lts
 use Rattle.book.proofs.asking.may_go_on.Tie as tie
 
-abbrev Start : Type 0
-Start = lts.Start tie.the-claims tie.handed_pre tie.handed_post
-
 abbrev After-every_headed : Type 0
 After-every_headed = lts.After-every_headed tie.the-claims tie.handed_pre tie.handed_post
 
@@ -28,9 +25,6 @@ After-every_lost = lts.After-every_lost tie.the-claims tie.handed_pre tie.handed
 
 -- what the first search says, and from behind the second what that one says
 module _ (c : After-every_headed) where
-  abbrev start : Start
-  start = c.before.before.before
-
   headed : c.every_headed.result ≡ every (heads (book_in c.args.book.now) (of (listed c.args.on.now))) (rule (book_in c.args.book.now) c.args.r).pos
   headed =
       let n : c.args.shape.atoms < 256 = search rules in
@@ -38,12 +32,6 @@ module _ (c : After-every_headed) where
       ∙ every-headed _ _ c.requires.2 _ _ (pos-small _ c.args.shape c.requires.0 n c.args.r c.requires.1)
 
 module _ (c : After-every_lost) where
-  abbrev after-every-headed : After-every_headed
-  after-every-headed = c.before.before.before
-
-  abbrev entry : Start
-  entry = c.before.before.before.before.before.before
-
   lost : c.every_lost.result ≡ every (all_in (book_in c.args.book.now) (of (listed c.args.off.now))) (rule (book_in c.args.book.now) c.args.r).neg
   lost =
       let n : c.args.shape.atoms < 256 = search rules in

@@ -12,31 +12,12 @@ use Rattle.book.proofs.Bodies.{some_end, some_turn, some-part, not-all-in}
 use Rattle.book.proofs.Places.{shape-count}
 use Rattle.book.proofs.conditions.is_starved.Goals as goal
 use Rattle.book.proofs.conditions.is_starved.Goals.{then-not-has+else-head-a, else-not-has}
-use Rattle.book.proofs.conditions.is_starved.Lts as lts
-use Rattle.book.proofs.conditions.is_starved.Tie as tie
-
-abbrev Start : Type 0
-Start = lts.Start tie.the-claims tie.handed_pre tie.handed_post goal.the-invariant-loop-q goal.the-decreases-loop-q goal.the-invariant-atoms goal.the-decreases-atoms
-
-abbrev At-atoms : Type 0
-At-atoms = lts.At-atoms tie.the-claims tie.handed_pre tie.handed_post goal.the-invariant-loop-q goal.the-decreases-loop-q goal.the-invariant-atoms goal.the-decreases-atoms
-
-abbrev At-loop-q : Type 0
-At-loop-q = lts.At-loop tie.the-claims tie.handed_pre tie.handed_post goal.the-invariant-loop-q goal.the-decreases-loop-q goal.the-invariant-atoms goal.the-decreases-atoms
 
 pub atoms-init : goal.atoms-init
 atoms-init c = (search rules, refl, refl)
 
 pub loop-q-init : goal.loop-q-init
 loop-q-init c = (search rules, all-at-none _ _ 0 _)
-
--- a turn of the inner search: that of the outer one, and the start
-module _ (l : At-loop-q) where
-  abbrev outer : At-atoms
-  outer = l.before.before.before
-
-  abbrev start : Start
-  start = l.before.before.before.before.before.before
 
 pub atoms-preserved : goal.atoms-preserved
 atoms-preserved c =

@@ -11,9 +11,6 @@ use Rattle.book.proofs.making.add_rule.Goals as goal
 use Rattle.book.proofs.making.add_rule.Lts as lts
 use Rattle.book.proofs.making.add_rule.Tie as tie
 
-abbrev Start : Type 0
-Start = lts.Start tie.the-claims tie.handed_pre tie.handed_post
-
 abbrev After-has_room : Type 0
 After-has_room = lts.After-has_room tie.the-claims tie.handed_pre tie.handed_post
 
@@ -25,9 +22,6 @@ returns-then-not-m c = adds-over _ _ _ (not-true _ c.if-not-m.true)
 
 -- the room is asked for: the start, and what the answer says of the rule
 module _ (c : After-has_room) where
-  abbrev start : Start
-  start = c.before.before.before.before.before
-
   asked : let a = c.args in
       c.has_room.result ≡ takes a.m a.head.0 (length (listed a.pos.now)) (length (listed a.neg.now))
   asked = rw (← c.count_atoms.ensures, ← c.count_atoms-2.ensures) c.has_room.ensures

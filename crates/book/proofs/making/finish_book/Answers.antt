@@ -10,9 +10,6 @@ use Rattle.book.proofs.making.finish_book.Goals as goal
 use Rattle.book.proofs.making.finish_book.Lts as lts
 use Rattle.book.proofs.making.finish_book.Tie as tie
 
-abbrev Start : Type 0
-Start = lts.Start tie.the-claims tie.handed_pre tie.handed_post
-
 abbrev After-write_index-indexed : Type 0
 After-write_index-indexed = lts.After-write_index tie.the-claims tie.handed_pre tie.handed_post
 
@@ -27,9 +24,6 @@ After-write_number-third = lts.After-write_number tie.the-claims tie.handed_pre 
 
 -- behind the index: how many rules and bytes there are, and where the index ends
 module _ (c : After-write_index-indexed) where
-  abbrev start : Start
-  start = c.before.before
-
   few : c.args.m.rules ≤ 255
   few = let (l, g) = c.requires.1 in let w = made-whole g c.requires.0 in omega (arith, w.rules, w.small.rules)
 
@@ -58,9 +52,6 @@ pub write_byte-second-requires : goal.write_byte-second-requires
 write_byte-second-requires c = omega (arith, first c.before.before)
 
 module _ (c : After-write_byte-second) where
-  abbrev one : After-write_byte-first
-  one = c.before.before.before
-
   second : c.write_byte-second.result ≤ 9437
   second = omega (arith, first c.before.before.before, c.write_byte-second.ensures.ends)
 
@@ -68,9 +59,6 @@ pub write_number-third-requires : goal.write_number-third-requires
 write_number-third-requires c = (omega (arith, second c.before), omega (arith, small (indexed c.before.before.before.before)))
 
 module _ (c : After-write_number-third) where
-  abbrev two : After-write_byte-second
-  two = c.before.before
-
   third : c.write_number-third.result ≤ 9439
   third = omega (arith, second c.before.before, c.write_number-third.ensures.ends)
 

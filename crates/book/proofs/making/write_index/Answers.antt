@@ -13,12 +13,6 @@ use Rattle.book.proofs.making.write_index.Goals as goal
 use Rattle.book.proofs.making.write_index.Lts as lts
 use Rattle.book.proofs.making.write_index.Tie as tie
 
-abbrev Start : Type 0
-Start = lts.Start tie.the-claims tie.handed_pre tie.handed_post goal.the-invariant-loop-rule goal.the-decreases-loop-rule
-
-abbrev At-loop-rule : Type 0
-At-loop-rule = lts.At-loop tie.the-claims tie.handed_pre tie.handed_post goal.the-invariant-loop-rule goal.the-decreases-loop-rule
-
 abbrev In-loop-rule : Type 0
 In-loop-rule = lts.Then1 tie.the-claims tie.handed_pre tie.handed_post goal.the-invariant-loop-rule goal.the-decreases-loop-rule
 
@@ -27,12 +21,6 @@ loop-rule-init c = (omega arith, λ l g. indexed-none l _ _)
 
 -- a turn of the loop: what is known of rules that the draft holds
 module _ (t : In-loop-rule) where
-  abbrev turn : At-loop-rule
-  turn = t.before.before
-
-  abbrev start : Start
-  start = t.before.before.before
-
   module _ (l : List Rule) (g : Made l t.args.m t.args.draft.now) where
     held : Whole l t.args.m t.args.draft.now
     held = made-whole g t.requires.0

@@ -5,37 +5,6 @@ use Rattle.book.specs.Writing.{record_bytes}
 use Rattle.book.specs.Making.{listed}
 use Rattle.book.proofs.Puts.{puts_then, puts-as}
 use Rattle.book.proofs.making.write_record.Goals as goal
-use Rattle.book.proofs.making.write_record.Lts as lts
-use Rattle.book.proofs.making.write_record.Tie as tie
-
-abbrev Start : Type 0
-Start = lts.Start tie.the-claims tie.handed_pre tie.handed_post
-
-abbrev After-write_byte-headed : Type 0
-After-write_byte-headed = lts.After-write_byte tie.the-claims tie.handed_pre tie.handed_post
-
-abbrev After-write_byte-first : Type 0
-After-write_byte-first = lts.After-write_byte2 tie.the-claims tie.handed_pre tie.handed_post
-
-abbrev After-write_byte-second : Type 0
-After-write_byte-second = lts.After-write_byte3 tie.the-claims tie.handed_pre tie.handed_post
-
-abbrev After-write_atoms-middle : Type 0
-After-write_atoms-middle = lts.After-write_atoms tie.the-claims tie.handed_pre tie.handed_post
-
--- behind the first part: the three bytes before it, and the start
-module _ (c : After-write_atoms-middle) where
-  abbrev second : After-write_byte-second
-  second = c.before.before
-
-  abbrev first : After-write_byte-first
-  first = c.before.before.before.before.before
-
-  abbrev headed : After-write_byte-headed
-  headed = c.before.before.before.before.before.before.before.before
-
-  abbrev start : Start
-  start = c.before.before.before.before.before.before.before.before.before.before
 
 pub write_atoms-requires : goal.write_atoms-requires
 write_atoms-requires c =

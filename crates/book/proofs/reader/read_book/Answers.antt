@@ -12,12 +12,6 @@ use Rattle.book.proofs.reader.read_book.Tie as tie
 abbrev Start : Type 0
 Start = lts.Start tie.the-claims tie.handed_pre tie.handed_post
 
-abbrev Else-book-len-2 : Type 0
-Else-book-len-2 = lts.Else4 tie.the-claims tie.handed_pre tie.handed_post
-
-abbrev After-u16_at-index : Type 0
-After-u16_at-index = lts.After-u16_at tie.the-claims tie.handed_pre tie.handed_post
-
 abbrev After-check_records : Type 0
 After-check_records = lts.After-check_records tie.the-claims tie.handed_pre tie.handed_post
 
@@ -50,12 +44,6 @@ returns-then-index-count c =
 
 -- ---- the records are found, behind a length, a mark and a trailer that are right
 module _ (c : After-check_records) where
-  abbrev trailer : After-u16_at-index
-  trailer = c.before.before
-
-  abbrev marked : Else-book-len-2
-  marked = c.before.before.before.before.before.before
-
   abbrev start : Start
   start = c.before.before.before.before.before.before.before.before.before.before.before.before.before.before.before.before.before
 

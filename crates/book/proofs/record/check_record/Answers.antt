@@ -9,12 +9,6 @@ use Rattle.book.proofs.record.check_record.Goals as goal
 use Rattle.book.proofs.record.check_record.Lts as lts
 use Rattle.book.proofs.record.check_record.Tie as tie
 
-abbrev Start : Type 0
-Start = lts.Start tie.the-claims tie.handed_pre tie.handed_post
-
-abbrev After-wide-n : Type 0
-After-wide-n = lts.After-wide2 tie.the-claims tie.handed_pre tie.handed_post
-
 abbrev Else-part-end : Type 0
 Else-part-end = lts.Else4 tie.the-claims tie.handed_pre tie.handed_post
 
@@ -39,12 +33,6 @@ returns-then-part-end c =
 
 -- ---- the record has room, so its bytes decide
 module _ (c : Else-part-end) where
-  abbrev counts : After-wide-n
-  counts = c.before.before.before
-
-  abbrev start : Start
-  start = c.before.before.before.before.before.before.before.before.before
-
   bytes : let s = c.args in
       record_of s.atoms s.at s.part.now
       ≡ bytes_of s.atoms s.at s.part.now c.wide-p.result c.wide-n.result

@@ -15,12 +15,6 @@ use Rattle.book.proofs.record.check_records.Goals as goal
 use Rattle.book.proofs.record.check_records.Lts as lts
 use Rattle.book.proofs.record.check_records.Tie as tie
 
-abbrev Start : Type 0
-Start = lts.Start tie.the-claims tie.handed_pre tie.handed_post goal.the-invariant-loop-rule goal.the-decreases-loop-rule
-
-abbrev At-loop-rule : Type 0
-At-loop-rule = lts.At-loop tie.the-claims tie.handed_pre tie.handed_post goal.the-invariant-loop-rule goal.the-decreases-loop-rule
-
 abbrev After-check_record : Type 0
 After-check_record = lts.After-check_record tie.the-claims tie.handed_pre tie.handed_post goal.the-invariant-loop-rule goal.the-decreases-loop-rule
 
@@ -38,12 +32,6 @@ returns-then-u16_at-start c =
 
 -- the record that starts where the index says is found: the turn of the loop, the start, and what is asked of it and of the rest
 module _ (c : After-check_record) where
-  abbrev turn : At-loop-rule
-  turn = c.before.before.before.before.before
-
-  abbrev start : Start
-  start = c.before.before.before.before.before.before.before
-
   abbrev bytes : List ℕ
   bytes = part_from c.args.book.now c.args.index c.loop-rule.start
 
@@ -57,9 +45,6 @@ module _ (c : After-check_record) where
 
 -- the record is right: it ends before the index
 module _ (c : In_default) where
-  abbrev found : After-check_record
-  found = c.before
-
   right : record_of c.args.atoms c.loop-rule.start (bytes c.before) ≡ fine
   right = sym c.check_record.ensures ∙ ap checked c.in_default.is
 

@@ -13,12 +13,6 @@ use Rattle.book.proofs.tables.lost_in.Goals.{then-not-has, else-not-has}
 use Rattle.book.proofs.tables.lost_in.Lts as lts
 use Rattle.book.proofs.tables.lost_in.Tie as tie
 
-abbrev Start : Type 0
-Start = lts.Start tie.the-claims tie.handed_pre tie.handed_post goal.the-invariant-loop-r goal.the-decreases-loop-r
-
-abbrev At-loop-r : Type 0
-At-loop-r = lts.At-loop tie.the-claims tie.handed_pre tie.handed_post goal.the-invariant-loop-r goal.the-decreases-loop-r
-
 abbrev After-has : Type 0
 After-has = lts.After-has tie.the-claims tie.handed_pre tie.handed_post goal.the-invariant-loop-r goal.the-decreases-loop-r
 
@@ -27,12 +21,6 @@ loop-r-init c = (search rules, all_none _ _)
 
 -- rule r is looked up in the set: the turn of the loop, the start, and that the rule's head has a place in the table
 module _ (c : After-has) where
-  abbrev turn : At-loop-r
-  turn = c.before.before.before
-
-  abbrev start : Start
-  start = c.before.before.before.before.before.before
-
   small : (a : AtomNo) → a ≡ (rule (book_in c.args.book.now) (rule_no c.loop-r.r)).head → a.0 < 255
   small a e = head_small _ c.args.shape c.requires (rule_no c.loop-r.r) (omega arith) (search rules) a e
 

@@ -13,15 +13,6 @@ use Rattle.closing.proofs.cleared.clear.Goals as goal
 use Rattle.closing.proofs.cleared.clear.Lts as lts
 use Rattle.closing.proofs.cleared.clear.Tie as tie
 
-abbrev Start : Type 0
-Start = lts.Start tie.the-claims tie.handed_pre tie.handed_post goal.the-invariant-loop-shape goal.the-decreases-loop-shape
-
-abbrev At-loop-shape : Type 0
-At-loop-shape = lts.At-loop tie.the-claims tie.handed_pre tie.handed_post goal.the-invariant-loop-shape goal.the-decreases-loop-shape
-
-abbrev After-try_suspects : Type 0
-After-try_suspects = lts.After-try_suspects tie.the-claims tie.handed_pre tie.handed_post goal.the-invariant-loop-shape goal.the-decreases-loop-shape
-
 abbrev After-is_within : Type 0
 After-is_within = lts.After-is_within tie.the-claims tie.handed_pre tie.handed_post goal.the-invariant-loop-shape goal.the-decreases-loop-shape
 
@@ -30,15 +21,6 @@ loop-shape-init c = clearing-start _ _ _ _ (ap (λ (w : List ℕ). of (listed w)
 
 -- behind the question whether a candidate is left: the pass, and what it came to
 module _ (w : After-is_within) where
-  abbrev pass : After-try_suspects
-  pass = w.before.before.before.before
-
-  abbrev turn : At-loop-shape
-  turn = w.before.before.before.before.before.before.before
-
-  abbrev start : Start
-  start = w.before.before.before.before.before.before.before.before.before.before.before
-
   abbrev cand-now : List ℕ
   cand-now = w.try_suspects.new.cand
 

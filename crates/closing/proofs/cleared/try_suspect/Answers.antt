@@ -30,9 +30,6 @@ good s = search rules
 
 -- behind the question to the rows: the start, and what they say
 module _ (c : After-every_headed) where
-  abbrev start : Start
-  start = c.before.before.before
-
   asked : c.every_headed.result ≡ every (heads (book_in c.args.book.now) (of (listed c.args.held.now))) (rule (book_in c.args.book.now) c.args.r).pos
   asked =
       c.every_headed.ensures ∙ every-part _ _ _ c.positives.ensures

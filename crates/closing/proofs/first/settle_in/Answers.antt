@@ -11,52 +11,12 @@ use Rattle.closing.proofs.first.settle_in.Tie as tie
 abbrev Start : Type 0
 Start = lts.Start tie.the-claims tie.handed_pre tie.handed_post
 
-abbrev Else-out-rules : Type 0
-Else-out-rules = lts.Else1 tie.the-claims tie.handed_pre tie.handed_post
-
-abbrev After-close-closed : Type 0
-After-close-closed = lts.After-close tie.the-claims tie.handed_pre tie.handed_post
-
-abbrev After-heads_of : Type 0
-After-heads_of = lts.After-heads_of tie.the-claims tie.handed_pre tie.handed_post
-
-abbrev After-lost_in : Type 0
-After-lost_in = lts.After-lost_in tie.the-claims tie.handed_pre tie.handed_post
-
 abbrev After-write_rules : Type 0
 After-write_rules = lts.After-write_rules tie.the-claims tie.handed_pre tie.handed_post
 
 -- the book's atoms are counted by a byte
 few-atoms : (s : Start) → s.args.shape.atoms < 256
 few-atoms s = search rules
-
--- behind the table of heads, the closing; before it, the room for the rows; and the start
-module _ (h : After-heads_of) where
-  abbrev first-closed : After-close-closed
-  first-closed = h.before.before.before.before.before.before.before.before
-
-  abbrev with-room : Else-out-rules
-  with-room = h.before.before.before.before.before.before.before.before.before.before.before.before.before
-
-  abbrev begun : Start
-  begun = h.before.before.before.before.before.before.before.before.before.before.before.before.before.before.before.before.before.before
-
--- before that the tables, the first closing and the room for the rows
-module _ (c : After-write_rules) where
-  abbrev lost : After-lost_in
-  lost = c.before.before.before.before
-
-  abbrev headed : After-heads_of
-  headed = c.before.before.before.before.before.before.before
-
-  abbrev closed : After-close-closed
-  closed = c.before.before.before.before.before.before.before.before.before.before.before.before.before.before.before
-
-  abbrev roomy : Else-out-rules
-  roomy = c.before.before.before.before.before.before.before.before.before.before.before.before.before.before.before.before.before.before.before.before
-
-  abbrev start : Start
-  start = c.before.before.before.before.before.before.before.before.before.before.before.before.before.before.before.before.before.before.before.before.before.before.before.before.before
 
 -- ---- the needs
 pub returns-then-out-rules : goal.returns-then-out-rules

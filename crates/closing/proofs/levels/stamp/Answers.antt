@@ -10,9 +10,6 @@ use Rattle.closing.proofs.levels.stamp.Goals as goal
 use Rattle.closing.proofs.levels.stamp.Lts as lts
 use Rattle.closing.proofs.levels.stamp.Tie as tie
 
-abbrev Start : Type 0
-Start = lts.Start tie.the-claims tie.handed_pre tie.handed_post goal.the-invariant-loop-r goal.the-decreases-loop-r
-
 abbrev In-loop-r : Type 0
 In-loop-r = lts.In-loop tie.the-claims tie.handed_pre tie.handed_post goal.the-invariant-loop-r goal.the-decreases-loop-r
 
@@ -22,9 +19,6 @@ loop-r-init c =
 
 -- a turn of the loop: the rule is one of the first, and has a level
 module _ (c : In-loop-r) where
-  abbrev start : Start
-  start = c.before.before.before
-
   low : c.loop-r.r < 255
   low = omega (arith, c.ranges.rules.fits)
 

@@ -16,12 +16,6 @@ use Rattle.closing.proofs.propagation.lost_heads.Tie as tie
 abbrev Start : Type 0
 Start = lts.Start tie.the-claims tie.handed_pre tie.handed_post goal.the-invariant-loop-r goal.the-decreases-loop-r
 
-abbrev At-loop-r : Type 0
-At-loop-r = lts.At-loop tie.the-claims tie.handed_pre tie.handed_post goal.the-invariant-loop-r goal.the-decreases-loop-r
-
-abbrev After-next_in-r-in-loop-r : Type 0
-After-next_in-r-in-loop-r = lts.After-next_in2 tie.the-claims tie.handed_pre tie.handed_post goal.the-invariant-loop-r goal.the-decreases-loop-r
-
 good : (s : Start) → Good s.args.book.now s.args.shape
 good s = search rules
 
@@ -29,14 +23,6 @@ pub loop-r-init : goal.loop-r-init
 loop-r-init c =
     let s = c.args in
     ((0, c.next_in-r.ensures), heads-start _ (all_in (book_in s.book.now) (of (listed s.off.now))) s.fresh.now _ c.next_in-r.ensures no-atoms)
-
--- from behind a turn: where it began, and the start
-module _ (c : After-next_in-r-in-loop-r) where
-  abbrev turn : At-loop-r
-  turn = c.before.before.before.before
-
-  abbrev start : Start
-  start = c.before.before.before.before.before.before.before.before.before
 
 pub loop-r-smaller : goal.loop-r-smaller
 loop-r-smaller c = let g = good c.before.before.before.before.before.before.before.before.before.before in omega (arith, next-further _ _ _ c.next_in-r-in-loop-r.ensures (omega (arith, g.rules)))

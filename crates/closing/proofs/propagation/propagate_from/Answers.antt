@@ -20,9 +20,6 @@ use Rattle.closing.proofs.propagation.propagate_from.Tie as tie
 abbrev Start : Type 0
 Start = lts.Start tie.the-claims tie.handed_pre tie.handed_post goal.the-invariant-loop-off goal.the-decreases-loop-off
 
-abbrev At-loop-off : Type 0
-At-loop-off = lts.At-loop tie.the-claims tie.handed_pre tie.handed_post goal.the-invariant-loop-off goal.the-decreases-loop-off
-
 abbrev After-fall : Type 0
 After-fall = lts.After-fall tie.the-claims tie.handed_pre tie.handed_post goal.the-invariant-loop-off goal.the-decreases-loop-off
 
@@ -34,12 +31,6 @@ good s = search rules
 
 -- behind step 1: the turn, the start, and what is reached and pending
 module _ (f : After-fall) where
-  abbrev turn : At-loop-off
-  turn = f.before.before.before.before.before
-
-  abbrev entry : Start
-  entry = f.before.before.before.before.before.before.before.before.before.before
-
   abbrev first : Pair
   first = lent (listed f.args.on.now) (listed f.args.off.now)
 
@@ -61,9 +52,6 @@ module _ (f : After-fall) where
 
 -- behind step 2
 module _ (r : After-raise) where
-  abbrev before-it : After-fall
-  before-it = r.before.before.before.before.before.before.before.before.before
-
   abbrev cand-rose : List ℕ
   cand-rose = r.raise.new.cand
 

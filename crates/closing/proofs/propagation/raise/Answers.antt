@@ -17,22 +17,8 @@ use Rattle.closing.proofs.propagation.raise.Tie as tie
 abbrev Start : Type 0
 Start = lts.Start tie.the-claims tie.handed_pre tie.handed_post goal.the-invariant-loop-r goal.the-decreases-loop-r
 
-abbrev After-difference-left : Type 0
-After-difference-left = lts.After-difference tie.the-claims tie.handed_pre tie.handed_post goal.the-invariant-loop-r goal.the-decreases-loop-r
-
-abbrev After-next_in-r : Type 0
-After-next_in-r = lts.After-next_in tie.the-claims tie.handed_pre tie.handed_post goal.the-invariant-loop-r goal.the-decreases-loop-r
-
 good : (s : Start) → Good s.args.book.now s.args.shape
 good s = search rules
-
--- where the loop begins: behind the candidates that are not on, and the start
-module _ (c : After-next_in-r) where
-  abbrev left : After-difference-left
-  left = c.before.before.before.before.before
-
-  abbrev start : Start
-  start = c.before.before.before.before.before.before.before.before.before
 
 pub loop-r-init : goal.loop-r-init
 loop-r-init c =

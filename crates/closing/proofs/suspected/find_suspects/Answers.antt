@@ -18,43 +18,11 @@ use Rattle.closing.proofs.suspected.find_suspects.Goals as goal
 use Rattle.closing.proofs.suspected.find_suspects.Lts as lts
 use Rattle.closing.proofs.suspected.find_suspects.Tie as tie
 
-abbrev Start : Type 0
-Start = lts.Start tie.the-claims tie.handed_pre tie.handed_post goal.the-invariant-loop-shape goal.the-decreases-loop-shape
-
-abbrev After-difference-went : Type 0
-After-difference-went = lts.After-difference tie.the-claims tie.handed_pre tie.handed_post goal.the-invariant-loop-shape goal.the-decreases-loop-shape
-
-abbrev After-doubted_heads : Type 0
-After-doubted_heads = lts.After-doubted_heads tie.the-claims tie.handed_pre tie.handed_post goal.the-invariant-loop-shape goal.the-decreases-loop-shape
-
-abbrev At-loop-shape : Type 0
-At-loop-shape = lts.At-loop tie.the-claims tie.handed_pre tie.handed_post goal.the-invariant-loop-shape goal.the-decreases-loop-shape
-
-abbrev After-suspect_more : Type 0
-After-suspect_more = lts.After-suspect_more tie.the-claims tie.handed_pre tie.handed_post goal.the-invariant-loop-shape goal.the-decreases-loop-shape
-
 abbrev After-is_within : Type 0
 After-is_within = lts.After-is_within tie.the-claims tie.handed_pre tie.handed_post goal.the-invariant-loop-shape goal.the-decreases-loop-shape
 
--- behind the heads of the rules that went off: these rules, and the start
-module _ (c : After-doubted_heads) where
-  abbrev went : After-difference-went
-  went = c.before.before.before.before
-
-  abbrev start : Start
-  start = c.before.before.before.before.before.before.before.before.before
-
 -- behind the question whether an atom is left: the turn's search, where the turn began, the start, and what was found
 module _ (w : After-is_within) where
-  abbrev more : After-suspect_more
-  more = w.before.before.before.before
-
-  abbrev turn : At-loop-shape
-  turn = w.before.before.before.before.before.before.before
-
-  abbrev entry : Start
-  entry = w.before.before.before.before.before.before.before.before.before.before.before.before.before.before.before.before.before
-
   abbrev todo : List ℕ
   todo = w.suspect_more.new.todo
 

@@ -13,26 +13,12 @@ use Rattle.closing.proofs.suspected.has_free.Tie as tie
 abbrev Start : Type 0
 Start = lts.Start tie.the-claims tie.handed_pre tie.handed_post goal.the-invariant-loop-r goal.the-decreases-loop-r
 
-abbrev At-loop-r : Type 0
-At-loop-r = lts.At-loop tie.the-claims tie.handed_pre tie.handed_post goal.the-invariant-loop-r goal.the-decreases-loop-r
-
-abbrev After-positives : Type 0
-After-positives = lts.After-positives tie.the-claims tie.handed_pre tie.handed_post goal.the-invariant-loop-r goal.the-decreases-loop-r
-
 good : (s : Start) → Good s.args.book.now s.args.shape
 good s = search rules
 
 pub loop-r-init : goal.loop-r-init
 loop-r-init c =
     ((0, c.next_in-r.ensures), free-start (book_in c.args.book.now) c.args.set.now _ c.next_in-r.ensures)
-
--- behind the positive atoms of a member: where the turn began, and the start
-module _ (p : After-positives) where
-  abbrev turn : At-loop-r
-  turn = p.before.before
-
-  abbrev start : Start
-  start = p.before.before.before.before.before.before
 
 pub returns-then-positives-eq0 : goal.returns-then-positives-eq0
 returns-then-positives-eq0 c =

@@ -9,41 +9,9 @@ use Rattle.closing.proofs.unsupported.find_unsupported.Tie as tie
 abbrev Start : Type 0
 Start = lts.Start tie.the-claims tie.handed_pre tie.handed_post
 
-abbrev After-find_suspects : Type 0
-After-find_suspects = lts.After-find_suspects tie.the-claims tie.handed_pre tie.handed_post
-
-abbrev After-difference : Type 0
-After-difference = lts.After-difference tie.the-claims tie.handed_pre tie.handed_post
-
-abbrev After-difference-others : Type 0
-After-difference-others = lts.After-difference2 tie.the-claims tie.handed_pre tie.handed_post
-
-abbrev After-clear : Type 0
-After-clear = lts.After-clear tie.the-claims tie.handed_pre tie.handed_post
-
-abbrev After-difference-left : Type 0
-After-difference-left = lts.After-difference3 tie.the-claims tie.handed_pre tie.handed_post
-
 -- at the start the book is good
 good : (s : Start) → Good s.args.book.now s.args.shape
 good s = search rules
-
--- behind the suspects that are not held: the growth of those that are, what it started from, the suspects, and the start
-module _ (d : After-difference-left) where
-  abbrev grown : After-clear
-  grown = d.before.before.before.before.before
-
-  abbrev others : After-difference-others
-  others = d.before.before.before.before.before.before.before.before.before
-
-  abbrev live : After-difference
-  live = d.before.before.before.before.before.before.before.before.before.before.before.before
-
-  abbrev searched : After-find_suspects
-  searched = d.before.before.before.before.before.before.before.before.before.before.before.before.before.before.before
-
-  abbrev start : Start
-  start = d.before.before.before.before.before.before.before.before.before.before.before.before.before.before.before.before.before.before.before.before.before.before.before
 
 pub returns-then-is_within : goal.returns-then-is_within
 returns-then-is_within c =

@@ -16,12 +16,6 @@ use Rattle.walk.proofs.counts.is_first.Tie as tie
 abbrev Start : Type 0
 Start = lts.Start tie.the-claims tie.handed_pre tie.handed_post
 
-abbrev After-difference-outside : Type 0
-After-difference-outside = lts.After-difference tie.the-claims tie.handed_pre tie.handed_post
-
-abbrev After-rules_with-off : Type 0
-After-rules_with-off = lts.After-rules_with tie.the-claims tie.handed_pre tie.handed_post
-
 abbrev After-inside-2-1 : Type 0
 After-inside-2-1 = lts.After-inside2 tie.the-claims tie.handed_pre tie.handed_post
 
@@ -30,15 +24,6 @@ small c = search rules
 
 -- behind the making of the start
 module _ (c : After-inside-2-1) where
-  abbrev start : Start
-  start = c.before.before.before.before.before.before.before.before.before
-
-  abbrev after-rules-with : After-rules_with-off
-  after-rules-with = c.before.before.before
-
-  abbrev rest : After-difference-outside
-  rest = c.before.before.before.before.before.before
-
   fits : count (book_in c.args.book.now) ≤ 255
   fits = few _ c.args.shape c.requires.0 (small c.before.before.before.before.before.before.before.before.before)
 

@@ -1,31 +1,6 @@
 -- The levels of a reading of a good book: no number, no room, no reading within the limit, or the levels of the colouring that its row leads to.
 use Rattle.walk.proofs.Leveled.{levels-no-number, levels-no-room, levels-other, levels-full}
 use Rattle.walk.proofs.descent.levels_in.Goals as goal
-use Rattle.walk.proofs.descent.levels_in.Lts as lts
-use Rattle.walk.proofs.descent.levels_in.Tie as tie
-
-abbrev Start : Type 0
-Start = lts.Start tie.the-claims tie.handed_pre tie.handed_post
-
-abbrev Else-k-eq0 : Type 0
-Else-k-eq0 = lts.Else1 tie.the-claims tie.handed_pre tie.handed_post
-
-abbrev Else-out-shape : Type 0
-Else-out-shape = lts.Else2 tie.the-claims tie.handed_pre tie.handed_post
-
-abbrev After-kth_by-t : Type 0
-After-kth_by-t = lts.After-kth_by tie.the-claims tie.handed_pre tie.handed_post
-
--- behind the walk: there is a number, and room
-module _ (c : After-kth_by-t) where
-  abbrev roomy : Else-out-shape
-  roomy = c.before.before.before.before.before
-
-  abbrev numbered : Else-k-eq0
-  numbered = c.before.before.before.before.before.before.before
-
-  abbrev start : Start
-  start = c.before.before.before.before.before.before.before.before.before.before
 
 pub returns-then-k-eq0 : goal.returns-then-k-eq0
 returns-then-k-eq0 c =

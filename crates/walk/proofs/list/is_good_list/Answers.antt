@@ -10,9 +10,6 @@ use Rattle.walk.proofs.list.is_good_list.Goals as goal
 use Rattle.walk.proofs.list.is_good_list.Lts as lts
 use Rattle.walk.proofs.list.is_good_list.Tie as tie
 
-abbrev At-loop-i : Type 0
-At-loop-i = lts.At-loop tie.handed_pre tie.handed_post goal.the-invariant-loop-i goal.the-decreases-loop-i
-
 abbrev After-shared_slice_known-1 : Type 0
 After-shared_slice_known-1 = lts.After-shared_slice_known tie.handed_pre tie.handed_post goal.the-invariant-loop-i goal.the-decreases-loop-i
 
@@ -22,9 +19,6 @@ loop-i-init c = let e = rising-all c.args.list.now in search rules
 
 -- a number is read: the turn of the loop, and the list
 module _ (c : After-shared_slice_known-1) where
-  abbrev turn : At-loop-i
-  turn = c.before.before
-
   abbrev numbers : List ℕ
   numbers = c.args.list.now
 

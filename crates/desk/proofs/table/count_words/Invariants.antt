@@ -1,0 +1,10 @@
+-- `count_words` is safe and ends: each word starts behind the one before.
+use Rattle.std.proofs.Common.{◌≡◌, ◌-◌, ◌≤◌, length}
+use Rattle.desk.proofs.table.count_words.Given as goal
+
+abbrev pub invariant-loop-at : goal.invariant-loop-at
+invariant-loop-at l =
+    (l.count ≤ l.at) × (length l.book ≡ length l.initial.book)
+
+abbrev pub decreases-loop-at : goal.decreases-loop-at
+decreases-loop-at l = length l.line - l.at
