@@ -1,6 +1,5 @@
 -- `count_uses` is safe and ends, and counts no more rules than it has seen.
 use Prim.Native.Nat.{◌-◌, ◌≤◌}
-use borrow.Author.Rules.{rules}
 use Rattle.making.proofs.atoms.count_uses.Given as goal
 
 abbrev pub invariant-loop-r : goal.invariant-loop-r
