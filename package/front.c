@@ -1,7 +1,7 @@
 /* stickerpeck NAME [ARGS]: all programs in one file, with the exit statuses of `run`.
  *
- * The programs are the proved ones: the same objects that `run` starts, with their `main` under another name (programs.h, which `build`
- * makes). This front is not proved. It hands out the arguments, and reads the status off the answer, since a program cannot set its own: 0
+ * The programs are the proved ones: the objects that the kit links to what `run` starts, with their `main` under another name (programs.h,
+ * which `build` makes), and over musl in the place of glibc. This front is not proved. It hands out the arguments, and reads the status off the answer, since a program cannot set its own: 0
  * answered, 1 refused or stopped, 2 for all else, which is a bad call, a bad file, and an answer that was not written whole. It keeps a few
  * bytes of the line that is written, and no more: `desk` may run for months. */
 #include <errno.h>
@@ -22,7 +22,8 @@ struct program {
 
 #include "programs.h"
 
-/* ---- the arguments, in the place of the kit's own functions, which C libraries other than glibc do not tell them to */
+/* ---- the arguments, in the place of the kit's own functions, which C libraries other than glibc do not tell them to. A program asks for
+ * them one by one, by the number, until there is none. */
 
 static size_t count;
 static char **words;
@@ -75,6 +76,31 @@ ssize_t __wrap_write(int to, const void *bytes, size_t n) {
             follow(bytes, (size_t)done);
     }
     return done;
+}
+
+/* glibc's other name for it, by which a program says that the processor lacks what it needs. */
+ssize_t __write(int to, const void *bytes, size_t n) {
+    return __wrap_write(to, bytes, n);
+}
+
+/* ---- what the processor can do, which a program asks of glibc as it starts: it is compiled for x86-64-v2. Number 0 stands for cpuid's leaf 1,
+ * 2 for its leaf 80000001. What is asked of either is of use wherever the processor has it. */
+
+struct feature_leaf {
+    unsigned found[4];
+    unsigned of_use[4];
+};
+
+const struct feature_leaf *__x86_get_cpuid_feature_leaf(unsigned number) {
+    static struct feature_leaf told[3];
+    static const unsigned leaves[] = {1, 7, 0x80000001};
+    static const struct feature_leaf none;
+    if (number >= sizeof leaves / sizeof *leaves)
+        return &none;
+    unsigned *found = told[number].found;
+    __asm__("cpuid" : "=a"(found[0]), "=b"(found[1]), "=c"(found[2]), "=d"(found[3]) : "a"(leaves[number]), "c"(0));
+    memcpy(told[number].of_use, found, sizeof told[number].of_use);
+    return &told[number];
 }
 
 static int starts(const char *word) {

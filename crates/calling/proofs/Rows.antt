@@ -6,8 +6,8 @@ use mathlib.Core.List.{List, [], ◌++◌, append_assoc}
 use Prim.Native.Nat.{ℕ, ◌+◌, ◌*◌, ◌-◌, ◌<◌, ◌≤◌}
 use native.Mathlib.Numerals.{add-one}
 use native.Mathlib.Omega.{arith}
-use lib.ListN.{length, get_or, take, drop, length-append, get_or-append, get_or-eq_default}
-use lib.Seq.{length-take-le, drop-drop, get_or-append-add, get_or-take, get_or-drop}
+use lib.ListN.{length, get_or, take, drop, length-append, length-drop, take-append-drop, get_or-append, get_or-eq_default}
+use lib.Seq.{length-take-le, take-length, drop-append-le, drop-drop, get_or-append-add, get_or-take, get_or-drop}
 use Rattle.meaning.specs.Buffers.{write_at}
 use Rattle.meaning.proofs.Buffers.{write-length}
 use Rattle.meaning.proofs.Choice.{lt_yes, lt_no, lt-either}
@@ -57,12 +57,26 @@ module _ (name : List ℕ) (a : ℕ) (rows : List ℕ) where
   unfolding rowed
   rowed-written h k = lt_yes _ _ _ _ h ∙ lt_no _ _ _ _ k
 
+  -- written over the front of the k bytes that begin at the row
+  pub rowed-copied : (k : ℕ) {copied : List ℕ} → copied ≡ take (length name) name ++ drop (length name) (take k (drop (a * 256) rows))
+      → length name < 256 → length name ≤ k → a * 256 + k ≤ length rows
+      → take (a * 256) rows ++ (copied ++ drop k (drop (a * 256) rows)) ≡ rowed name a rows
+  unfolding write_at
+  rowed-copied k e h few room =
+      let n = length name in let row = drop (a * 256) rows in
+      let long = length-take-le k row (omega (arith, length-drop (a * 256) rows, room)) in
+      let rest : drop n (take k row) ++ drop k row ≡ drop (a * 256 + n) rows =
+      sym (drop-append-le n (take k row) (drop k row) (omega (arith, long, few))) ∙ ap (drop n) (take-append-drop k row) ∙ drop-drop n (a * 256) rows in
+      ap (λ (x : List ℕ). take (a * 256) rows ++ (x ++ drop k row)) (e ∙ ap (λ (x : List ℕ). x ++ drop n (take k row)) (take-length name))
+      ∙ ap (λ (x : List ℕ). take (a * 256) rows ++ x) (append_assoc name (drop n (take k row)) (drop k row) ∙ ap (λ (x : List ℕ). name ++ x) rest)
+      ∙ sym (rowed-written h (omega arith))
+
   -- as the code writes it: in the place of so many bytes that begin at the row
-  pub rowed-copied : (k : ℕ) {copied : List ℕ} → copied ≡ name → k ≡ length name → length name < 256
+  pub rowed-replaced : (k : ℕ) {copied : List ℕ} → copied ≡ name → k ≡ length name → length name < 256
       → a * 256 + length name ≤ length rows
       → take (a * 256) rows ++ (copied ++ drop k (drop (a * 256) rows)) ≡ rowed name a rows
   unfolding write_at
-  rowed-copied k e f h room =
+  rowed-replaced k e f h room =
       ap (λ (x : List ℕ). take (a * 256) rows ++ (x ++ drop k (drop (a * 256) rows))) e
       ∙ ap (λ (n : ℕ). take (a * 256) rows ++ (name ++ drop n (drop (a * 256) rows))) f
       ∙ ap (λ (x : List ℕ). take (a * 256) rows ++ (name ++ x)) (drop-drop (length name) (a * 256) rows)

@@ -5,7 +5,7 @@ use crate::line::{put_name, put_text};
 use book::BOOK_BYTES;
 use meaning::PAPER_BYTES;
 use std::env::FillError;
-use std::io::{Error, ErrorKind};
+use std::io::Error;
 use std::rt::{Env, Files};
 use system::{PATH_ROOM, Taken, open_read, print, read_full};
 
@@ -33,11 +33,16 @@ pub fn complain(rt: &impl Print, path: &[u8], why: &[u8]) {
     print(rt, &line[..held]);
 }
 
+// What the system answers where there is no such file, and where it may not be read (ENOENT, EACCES).
+const NO_SUCH_FILE: i32 = 2;
+
+const NO_ACCESS: i32 = 13;
+
 // Says in a line why the file cannot be opened.
 fn complain_of_opening(rt: &impl Print, path: &[u8], error: Error) {
-    match error.kind() {
-        ErrorKind::NotFound => complain(rt, path, b"there is no such file"),
-        ErrorKind::PermissionDenied => complain(rt, path, b"it may not be read"),
+    match error.raw_os_error() {
+        Some(NO_SUCH_FILE) => complain(rt, path, b"there is no such file"),
+        Some(NO_ACCESS) => complain(rt, path, b"it may not be read"),
         _ => complain(rt, path, b"it cannot be opened"),
     }
 }

@@ -21,8 +21,8 @@ returns-then-end-text c =
 
 pub returns-then-outputs-rules : goal.returns-then-outputs-rules
 returns-then-outputs-rules c =
-    text-beyond _ _ c.skip_text.ensures.result_value c.in-To.is c.read_rules-rules.ensures c.read_outputs-outputs.ensures _ c.skip_text-2.ensures.result_value c.in-To-skip_text.is c.if-end-text.false (omega arith)
+    text-beyond _ _ c.skip_text.ensures.result_value c.in-To.is c.read_rules-rules.ensures c.read_outputs-outputs.ensures _ c.skip_text-2.ensures.result_value c.in-To-skip_text.is (omega arith) (omega arith)
 
 pub returns : goal.returns
 returns c =
-    text-seen _ _ c.skip_text.ensures.result_value c.in-To.is c.read_rules-rules.ensures c.read_outputs-outputs.ensures _ c.skip_text-2.ensures.result_value c.in-To-skip_text.is c.if-end-text.false (omega arith)
+    text-seen _ _ c.skip_text.ensures.result_value c.in-To.is c.read_rules-rules.ensures c.read_outputs-outputs.ensures _ c.skip_text-2.ensures.result_value c.in-To-skip_text.is (omega arith) (omega arith)

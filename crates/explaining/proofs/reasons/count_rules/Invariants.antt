@@ -1,6 +1,5 @@
 -- `count_rules` is safe and ends, and counts no more than the rules so far.
 use Prim.Native.Nat.{◌-◌, ◌≤◌}
-use borrow.Author.Rules.{rules}
 use Rattle.explaining.proofs.reasons.count_rules.Given as goal
 
 abbrev pub invariant-loop-r : goal.invariant-loop-r

@@ -1,6 +1,5 @@
 -- `lowest_of` is safe and ends: each turn leaves fewer rules.
 use Prim.Native.Nat.{◌-◌, ◌≤◌}
-use borrow.Author.Rules.{rules}
 use Rattle.explaining.proofs.reasons.lowest_of.Given as goal
 
 abbrev pub invariant-loop-r : goal.invariant-loop-r

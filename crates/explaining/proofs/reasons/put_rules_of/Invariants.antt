@@ -2,7 +2,6 @@
 use mathlib.Core.Path.{◌≡◌}
 use Prim.Native.Nat.{◌-◌, ◌≤◌}
 use lib.ListN.{length}
-use borrow.Author.Rules.{rules}
 use Rattle.system.specs.Counts.{IsPrefixLen}
 use Rattle.explaining.proofs.reasons.put_rules_of.Given as goal
 

@@ -1,6 +1,5 @@
 -- `tell_each` is safe and ends: each turn leaves fewer rules of the list.
 use native.Mathlib.Omega.{arith}
-use Prim.Native.Nat.{◌-◌}
 use Rattle.explaining.proofs.tell.tell_each.Goals as goal
 
 pub tell_starved-requires : goal.tell_starved-requires

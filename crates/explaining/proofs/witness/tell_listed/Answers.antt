@@ -1,6 +1,5 @@
 -- `tell_listed` is safe and ends: each turn leaves fewer rules of the list.
 use native.Mathlib.Omega.{arith}
-use Prim.Native.Nat.{◌-◌}
 use Rattle.explaining.proofs.witness.tell_listed.Goals as goal
 
 pub tell_on-requires : goal.tell_on-requires

@@ -1,6 +1,5 @@
 -- `tell_others` is safe and ends: each turn leaves fewer rules.
 use Prim.Native.Nat.{◌-◌, ◌≤◌}
-use borrow.Author.Rules.{rules}
 use Rattle.explaining.proofs.witness.tell_others.Given as goal
 
 abbrev pub invariant-loop-r : goal.invariant-loop-r
