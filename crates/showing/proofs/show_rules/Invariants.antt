@@ -1,6 +1,5 @@
 -- `show_rules` is safe and ends: each turn leaves fewer rules.
 use Prim.Native.Nat.{◌-◌, ◌≤◌}
-use borrow.Author.Rules.{rules}
 use Rattle.showing.proofs.show_rules.Given as goal
 
 abbrev pub invariant-loop-r : goal.invariant-loop-r
