@@ -10,6 +10,7 @@
 #include <stddef.h>
 #include <string.h>
 #include <sys/stat.h>
+#include <sys/syscall.h>
 #include <sys/types.h>
 #include <unistd.h>
 
@@ -101,6 +102,12 @@ const struct feature_leaf *__x86_get_cpuid_feature_leaf(unsigned number) {
     __asm__("cpuid" : "=a"(found[0]), "=b"(found[1]), "=c"(found[2]), "=d"(found[3]) : "a"(leaves[number]), "c"(0));
     memcpy(told[number].of_use, found, sizeof told[number].of_use);
     return &told[number];
+}
+
+/* ---- what is asked of a file by its name, which Debian's musl does not have yet: the system's own call */
+
+int statx(int folder, const char *path, int flags, unsigned mask, void *to) {
+    return (int)syscall(SYS_statx, folder, path, flags, mask, to);
 }
 
 static int starts(const char *word) {
