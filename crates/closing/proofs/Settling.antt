@@ -10,6 +10,7 @@ use lib.Dec.{ltb}
 use lib.ListN.{length, get_or, set, drop, length-append}
 use lib.Seq.{paste}
 use borrow.Author.Tests.{lt-ltb}
+use Rattle.std.specs.Prelude.{Result, Ok, Err}
 use Rattle.meaning.specs.declared.colouring.Colouring.{Colouring}
 use Rattle.meaning.specs.Bits.{listed}
 use Rattle.meaning.specs.Written.{Tables, written}
@@ -24,8 +25,6 @@ use Rattle.meaning.proofs.Choice.{lt_yes, lt_no}
 use Rattle.meaning.proofs.Buffers.{write-length, write-turn, write_done, write-next, write-front}
 use Rattle.book.specs.declared.refusal.Refusal.{Refusal}
 use Rattle.book.specs.declared.reader.Shape.{Shape}
-use Rattle.book.specs.declared.reader.Read.{Read}
-use Rattle.book.specs.declared.reader.Read.TheVariants.{Good, Refused}
 use Rattle.book.specs.Numbers.{number_of, place_of, told as book_told}
 use Rattle.book.specs.Format.{read_of, told_of, book_of, book_in, ReadAs}
 use Rattle.book.specs.RuleRows.{headed_by, lost_by, RuleRows}
@@ -131,11 +130,11 @@ module _ (s : List ℕ) (h : Shape) (e : ReadAs s h) (out : List ℕ) where
 
 -- ---- the book
 
-module _ (s : List ℕ) {x : Read} (e : book_told x ≡ told_of (read_of s)) (out : List ℕ) where
-  pub settle-refused : {f : Refusal} → x ≡ Refused f → record { told = refused_at (number_of f) (place_of f); buffer = out } ≡ settle_of s out
+module _ (s : List ℕ) {x : Result Shape Refusal} (e : book_told x ≡ told_of (read_of s)) (out : List ℕ) where
+  pub settle-refused : {f : Refusal} → x ≡ Err f → record { told = refused_at (number_of f) (place_of f); buffer = out } ≡ settle_of s out
   unfolding settle_of settle_read
   settle-refused f = sym (rw (read-bad s e f))
 
-  pub settle_read-good : {h : Shape} {p : Answered (Unit {0})} → x ≡ Good h → p ≡ settle_in (book_in s) out → p ≡ settle_of s out
+  pub settle_read-good : {h : Shape} {p : Answered (Unit {0})} → x ≡ Ok h → p ≡ settle_in (book_in s) out → p ≡ settle_of s out
   unfolding settle_of settle_read book_in book_of
   settle_read-good f g = g ∙ rw (told-good (read_of s) _ _ _ (read_as s e f))

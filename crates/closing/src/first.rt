@@ -6,11 +6,12 @@ ghost use Rattle.meaning.specs.Bits.{listed};
 ghost use Rattle.meaning.specs.Told.{Answered};
 ghost use Rattle.meaning.specs.Buffers.{write_at};
 ghost use Rattle.book.specs.Format.{book_in, ReadAs};
+ghost use Rattle.closing.specs.declared.first.Unsettled.TheVariants.{Book};
 ghost use Rattle.closing.specs.Settle.{settled_byte, settled_row, told, settle_in, settle_of};
 
 use crate::close;
 use crate::starting::begin;
-use book::{Read, Refusal, Shape, make_rows, read_book};
+use book::{Refusal, Shape, make_rows, read_book};
 use meaning::{Colouring, has};
 
 // Why nothing was settled.
@@ -20,6 +21,14 @@ pub enum Unsettled {
     Book(Refusal),
     // 8: the buffer has fewer bytes than the book has rules and atoms.
     NoRoom,
+}
+
+impl From<Refusal> for Unsettled {
+    ghost from_gives = { λ why u. u ≡ Book why };
+
+    fn from(why: Refusal) -> Unsettled {
+        Unsettled::Book(why)
+    }
 }
 
 // The byte of one rule or atom.
@@ -74,8 +83,6 @@ pub fn settle(book: &[u8], out: &mut [u8]) -> Result<(), Unsettled>
     ensures { ◌≡◌ {A = Answered (Unit {0})} (record { told = told result; buffer = out.new })
         (settle_of book.now out.old) }
 {
-    match read_book(book) {
-        Read::Refused(why) => Err(Unsettled::Book(why)),
-        Read::Good(shape) => settle_in(book, shape, out),
-    }
+    let shape = read_book(book)?;
+    settle_in(book, shape, out)
 }
