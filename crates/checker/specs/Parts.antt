@@ -10,7 +10,7 @@
 --   Ends at from w        a branch that is done ends past its start, and not past the witness
 --   end_told b s e         what is told of a paper whose last bytes come to e: what its steps come to, or 20 to 23
 --   EndsAs b s x e        what reading a trailer promises: this is x, and the witness of a good one ends at it
-use Rattle.std.specs.Prelude.{Result, Ok, Err, ◌≡◌, List, [], ◌∷◌, map, ℕ, ◌+◌, ◌<◌, ◌≤◌, length, take, drop}
+use Rattle.std.specs.Prelude.{Result, Ok, Err, ⊤, ◌≡◌, List, [], ◌∷◌, map, ℕ, ◌+◌, ◌<◌, ◌≤◌, length, take, drop}
 use Rattle.meaning.specs.declared.RuleNo.{RuleNo}
 use Rattle.meaning.specs.Books.{rule_no, Book, count, InBook}
 use Rattle.meaning.specs.Colours.{Pair, on_side, off_side, put}
@@ -93,7 +93,7 @@ pub data Ends (at from : ℕ) : Walked → Type 0 where
   past : {m : ℕ} → at < m → m ≤ from → Ends at from (done m)
   refused : {i place : ℕ} → Ends at from (wrong_at i place)
 
-abbrev pub verdict : Result (Unit {0}) ℕ → Check
+abbrev pub verdict : Result ⊤ ℕ → Check
 verdict (Ok u) = fine
 verdict (Err at) = wrong at
 

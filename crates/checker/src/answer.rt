@@ -1,4 +1,7 @@
 // Why a paper is refused, where checking doesn't answer with the claim that holds.
+ghost use Rattle.std.specs.Prelude.{◌≡◌};
+ghost use Rattle.checker.specs.declared.answer.Rejected.TheVariants.{Book};
+
 use book::Refusal;
 
 #[derive(Clone, Copy)]
@@ -22,4 +25,12 @@ pub enum Rejected {
     Gap(usize),
     // 27: the witness is wrong; or, where the book is said to have no reading, there is one.
     Witness(usize),
+}
+
+impl From<Refusal> for Rejected {
+    ghost from_gives = { λ why it. it ≡ Book why };
+
+    fn from(why: Refusal) -> Rejected {
+        Rejected::Book(why)
+    }
 }

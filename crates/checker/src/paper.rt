@@ -10,7 +10,7 @@ use crate::answer::Rejected;
 use crate::branch::branch;
 use crate::trailer::{Trailer, read_trailer};
 use crate::witness::check_grounds;
-use book::{Read, Shape, read_book};
+use book::{Shape, read_book};
 use meaning::{Claim, Colouring};
 
 // The steps from the empty colouring, then that nothing stands between them and the witness, then
@@ -45,8 +45,6 @@ fn check_paper(book: &[u8], shape: Shape, paper: &[u8]) -> Result<Claim, Rejecte
 pub fn check(book: &[u8], paper: &[u8]) -> Result<Claim, Rejected>
     ensures { told result ≡ check_of book.now paper.now }
 {
-    match read_book(book) {
-        Read::Refused(why) => Err(Rejected::Book(why)),
-        Read::Good(shape) => check_paper(book, shape, paper),
-    }
+    let shape = read_book(book)?;
+    check_paper(book, shape, paper)
 }
