@@ -1,10 +1,8 @@
-// What the two entry points answer.
+// Why the two entry points refuse.
 use book::Refusal;
 
 #[derive(Clone, Copy)]
-pub enum Exported {
-    // How many bytes the text has.
-    Text(usize),
+pub enum Unexported {
     // 1 to 7: the book was refused.
     Book(Refusal),
     // 33: the buffer is too short for the text.
@@ -12,9 +10,7 @@ pub enum Exported {
 }
 
 #[derive(Clone, Copy)]
-pub enum Restored {
-    // How many bytes the book has.
-    Book(usize),
+pub enum Unrestored {
     // 34: the text is none that a book has.
     Outside,
     // 35: the book passes the limits of size, or the buffer is too short for it.
