@@ -18,7 +18,7 @@ pub use asking::{every_headed, is_headed, is_lost, may_go_on};
 pub use conditions::{every_in, goes_on, is_blocked, is_starved, some_in};
 pub use making::{Making, add_rule, copy_front, count_atoms, finish_book};
 pub use number::{u16_at, wide};
-pub use reader::{Read, Shape, read_book};
+pub use reader::{Shape, read_book};
 pub use refusal::Refusal;
 pub use rules::{head, negatives, positives};
 pub use standing::{head_row, make_rows, neg_row, pos_row};

@@ -38,7 +38,7 @@ mod suspected;
 mod unsupported;
 
 pub use choice::Choice;
-pub use clash::{Picked, lowest_clash, lowest_in};
+pub use clash::{lowest_clash, lowest_in};
 pub use first::{Settled, settle};
 pub use marking::support;
 pub use starting::propagate_chosen;
@@ -47,7 +47,7 @@ pub use starting::propagate_chosen;
 #[derive(Clone, Copy)]
 pub struct Closure {
     pub colours: Colouring,
-    pub clash: Picked,
+    pub clash: Option<RuleNo>,
 }
 
 // The least closed colouring above c, also where a rule comes to be in both sets. Its marks are
@@ -151,7 +151,7 @@ fn close_on(
     if close_propagated(book, shape, rows, d_off, &mut on, &mut off, early) {
         return Closure {
             colours: c,
-            clash: Picked::Rule(r),
+            clash: Some(r),
         };
     }
     ended(shape.rules, c, Bits { w: on }, Bits { w: off })
@@ -180,7 +180,7 @@ fn close_off(
     if close_propagated(book, shape, rows, d_off, &mut on, &mut off, early) {
         return Closure {
             colours: c,
-            clash: Picked::Rule(r),
+            clash: Some(r),
         };
     }
     ended(shape.rules, c, Bits { w: on }, Bits { w: off })
@@ -191,14 +191,7 @@ fn is_left(rules: u8, early: bool, on: &[u64; 4], off: &[u64; 4]) -> bool
     ensures { result ≡ left_at early (lowest_from 0 rules
         (in_both (lent (listed on.now) (listed off.now)))) }
 {
-    if !early {
-        return false;
-    }
-    let clash = lowest_clash(rules, whole(on), whole(off));
-    match clash {
-        Picked::Nothing => false,
-        Picked::Rule(_) => true,
-    }
+    early && lowest_clash(rules, whole(on), whole(off)).is_some()
 }
 
 // Closes two sets from which nothing follows but by support: the rules that nothing holds up go off,
