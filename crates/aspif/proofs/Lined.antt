@@ -93,6 +93,21 @@ pub record Lines (s : List ℕ) (at : ℕ) (draft : List ℕ) (making : Making) 
   pub top-is : top ≡ top_rules acc
   pub made : Made acc making draft
 
+-- the parts of a rule that was read
+record SameRule (m n : Making) (t u i j : ℕ) : Type 0 where
+  making : m ≡ n
+  top : t ≡ u
+  next : i ≡ j
+
+same-rule : {m n : Making} {t u i j : ℕ} → ◌≡◌ {A = Option (Making × ℕ × ℕ)} (Some (m, t, i)) (Some (n, u, j)) → SameRule m n t u i j
+same-rule {m} {n} {t} {u} {i} {j} e =
+    let p : ◌≡◌ {A = Making × ℕ × ℕ} (m, t, i) (n, u, j) = cc in
+    record {
+      making = ap (λ (x : Making × ℕ × ℕ). x.0) p;
+      top = ap (λ (x : Making × ℕ × ℕ). x.1) p;
+      next = ap (λ (x : Making × ℕ × ℕ). x.2) p;
+    }
+
 module _ (s : List ℕ) (at : ℕ) where
   pub lines_start : at ≤ length s → {m : Making} {d : List ℕ} → Made [] m d → Lines s at d m 0 at
   unfolding top_rules
@@ -116,7 +131,7 @@ module _ (s : List ℕ) (at : ℕ) where
 
     pub lines-behind : {y : Option (Making × ℕ × ℕ)} {e : List ℕ} → Lined s (rule_in (length s) (drop next s)) next m d y e
         → {n : Making} {t i : ℕ} → y ≡ Some (n, t, i) → (next < i) × (i ≤ length s)
-    lines-behind (lined {next = j} p a t n q) {i = i} f = let z : j ≡ i = cc in (omega arith, omega arith)
+    lines-behind (lined {next = j} p a t n q) f = let z = same-rule f in (omega (arith, z.next), omega (arith, z.next))
     lines-behind (other p) f = let z : ◌≡◌ {A = ℕ} 0 1 = cc in absurd (omega arith)
 
     pub lines_more : {y : Option (Making × ℕ × ℕ)} {e : List ℕ} → Lined s (rule_in (length s) (drop next s)) next m d y e
@@ -124,16 +139,15 @@ module _ (s : List ℕ) (at : ℕ) where
     unfolding rules_in
     lines_more (other p) f v = let z : ◌≡◌ {A = ℕ} 0 1 = cc in absurd (omega arith)
     lines_more (lined {r = r} {n = o} {top = u} {next = j} p a t l q) {n = n} {t = k} {i = i} f v =
-        let z : j ≡ i = cc in
-        let y : o ≡ n = cc in
-        let x : u ≡ k = cc in
+        let w = same-rule f in
+        let z = w.next in
         let b : suc (length s - at) - length (g.acc ++ (r ∷ [])) ≡ length s - at - length g.acc
         = rw length-append (omega (arith, g.ahead, g.inside)) in
         record {
           acc = g.acc ++ (r ∷ []);
           rest = g.rest ∙ rw (fuel-left, b, ← z) (on-got _ _ p);
           ahead = rw length-append (omega (arith, g.ahead));
-          inside = omega arith;
-          top-is = v ∙ rw (top-more g.acc r, ← g.top-is, ← t, x);
-          made = rw (← y) (a.behind g.acc g.made);
+          inside = omega (arith, w.next);
+          top-is = v ∙ rw (top-more g.acc r, ← g.top-is, ← t, w.top);
+          made = rw (← w.making) (a.behind g.acc g.made);
         }

@@ -11,7 +11,7 @@ use Rattle.book.specs.declared.making.Making.{Making}
 use Rattle.book.specs.Making.{Made, Finished}
 use Rattle.book.specs.Writing.{Fits}
 use Rattle.book.proofs.Made.{fits-small, made-whole, made-over}
-use Rattle.std.specs.Prelude.{Option, Some, None, Result, Ok, Err}
+use Rattle.std.specs.Prelude.{Option, Some, None, Ok, Err}
 use Rattle.aspif.specs.declared.answer.Unrestored.TheVariants.{Outside, NoFit}
 use Rattle.aspif.specs.Text.{Formed}
 use Rattle.aspif.specs.Lining.{TextSeen, whole, none}
@@ -32,8 +32,9 @@ pub record BookSeen (s : List ℕ) (m : Making) (n : ℕ) (d : List ℕ) : Type 
 
 pub book-seen : {s : List ℕ} {w : Option (Making × ℕ)} {d : List ℕ} {m : Making} {n : ℕ} → TextSeen s w d → w ≡ Some (m, n) → BookSeen s m n d
 book-seen {s} {m = m} {n = n} (whole {b = b} {m = o} e a) f =
-    let p : o ≡ m = cc in
-    let q : b.atoms ≡ n = cc in
+    let k : ◌≡◌ {A = Making × ℕ} (o, b.atoms) (m, n) = cc in
+    let p : o ≡ m = ap (λ (x : Making × ℕ). x.0) k in
+    let q : b.atoms ≡ n = ap (λ (x : Making × ℕ). x.1) k in
     record { rules = b.rules; formed = rw (← q) ((read-exact s b).0 e); made = rw (← p) a }
 book-seen (none e) f = let z : ◌≡◌ {A = ℕ} 0 1 = cc in apart z
 

@@ -6,7 +6,7 @@ use Prim.Native.Nat.{ℕ, ◌≤◌}
 use native.Mathlib.Omega.{arith}
 use lib.ListN.{length, take}
 use lib.Seq.{take-append_seam}
-use Rattle.std.specs.Prelude.{Result, Ok, Err}
+use Rattle.std.specs.Prelude.{Result, Ok}
 use Rattle.meaning.specs.Books.{Rule, Book}
 use Rattle.meaning.specs.Told.{Told, success, refused, Answered}
 use Rattle.meaning.proofs.Tests.{apart}

@@ -53,7 +53,9 @@ reaches {n} nowhere e = let z : ◌≡◌ {A = ℕ} 0 1 = cc in absurd (omega ar
 
 pub behind : {at most v n : ℕ} {y : Option (ℕ × ℕ)} → Behind at most y → y ≡ Some (v, n) → (v ≤ most) × (at < n) × (n ≤ most)
 behind {v} {n} (value {v = u} {n = m} h g k) e =
-    let f : m ≡ n = cc in let d : u ≡ v = cc in (omega arith, omega arith, omega arith)
+    let p : ◌≡◌ {A = ℕ × ℕ} (u, m) (v, n) = cc in
+    let f : m ≡ n = ap (λ (x : ℕ × ℕ). x.1) p in
+    let d : u ≡ v = ap (λ (x : ℕ × ℕ). x.0) p in (omega arith, omega arith, omega arith)
 behind {n} nothing e = let z : ◌≡◌ {A = ℕ} 0 1 = cc in absurd (omega arith)
 
 module _ (s : List ℕ) (at : ℕ) (w : List ℕ) (least : ℕ) {x : Option ℕ} (e : went s x ≡ skip w (drop at s)) where

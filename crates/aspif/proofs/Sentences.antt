@@ -5,7 +5,7 @@ use mathlib.Core.List.{List, []}
 use Prim.Native.Nat.{ℕ, ◌<◌, ◌≤◌}
 use native.Mathlib.Omega.{arith}
 use lib.ListN.{length, take, length-append}
-use Rattle.std.specs.Prelude.{Result, Ok, Err}
+use Rattle.std.specs.Prelude.{Result, Err}
 use Rattle.meaning.specs.Books.{Rule, Book}
 use Rattle.meaning.specs.Told.{Told, success, refused_at, refused, Answered}
 use Rattle.meaning.proofs.Tests.{apart}

@@ -1,4 +1,7 @@
 // Why the two entry points refuse.
+ghost use Rattle.std.specs.Prelude.{◌≡◌};
+ghost use Rattle.aspif.specs.declared.answer.Unexported.TheVariants.{Book};
+
 use book::Refusal;
 
 #[derive(Clone, Copy)]
@@ -7,6 +10,14 @@ pub enum Unexported {
     Book(Refusal),
     // 33: the buffer is too short for the text.
     NoRoom,
+}
+
+impl From<Refusal> for Unexported {
+    ghost from_gives = { λ why refused. refused ≡ Book why };
+
+    fn from(why: Refusal) -> Unexported {
+        Unexported::Book(why)
+    }
 }
 
 #[derive(Clone, Copy)]

@@ -29,7 +29,13 @@ fn keep_rule<'a>(
         Adds (record { head = atom_no (head - 1); pos = p; neg = q } ∷ []) m
         draft.old result draft.new }
 {
-    if !positive || !negative || 255 < head {
+    if !positive {
+        return m.passed();
+    }
+    if !negative {
+        return m.passed();
+    }
+    if 255 < head {
         return m.passed();
     }
     add_rule(draft, m, AtomNo((head - 1) as u8), pos, neg)
@@ -63,7 +69,12 @@ fn read_body(
 }
 
 // Reads the rule line at `at`, and adds its rule.
-pub fn read_rule(text: &[u8], at: usize, draft: &mut [u8; BOOK_BYTES], m: Making) -> Option<(Making, usize, usize)>
+pub fn read_rule(
+    text: &[u8],
+    at: usize,
+    draft: &mut [u8; BOOK_BYTES],
+    m: Making,
+) -> Option<(Making, usize, usize)>
     requires { at ≤ length text.now }
     ensures { Lined text.now
         (rule_in (length text.now) (drop at text.now)) at m

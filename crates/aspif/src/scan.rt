@@ -44,7 +44,12 @@ fn read_number(text: &[u8], at: usize) -> Option<(usize, usize)>
 }
 
 // The number at least `least` that stands behind the word at `at`.
-pub fn read_item<'a>(text: &'a [u8], at: usize, word: &'a [u8], least: usize) -> Option<(usize, usize)>
+pub fn read_item<'a>(
+    text: &'a [u8],
+    at: usize,
+    word: &'a [u8],
+    least: usize,
+) -> Option<(usize, usize)>
     requires { at ≤ length text.now }
     ensures result_value { seen text.now result
         ≡ item_in (length text.now) word.now least

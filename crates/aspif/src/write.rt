@@ -8,7 +8,7 @@ ghost use Rattle.aspif.specs.Handing.{told_text, export_of, hand_text};
 
 use crate::answer::Unexported;
 use crate::lines::{put_outputs, put_rules, put_text};
-use book::{Read, Shape, copy_front, read_book};
+use book::{Shape, copy_front, read_book};
 
 // The longest text: 10 bytes, 255 rule lines of 159, 255 output lines of 15, and 2.
 pub const TEXT_ROOM: usize = 44382;
@@ -44,12 +44,8 @@ pub fn export(book: &[u8], out: &mut [u8]) -> Result<usize, Unexported>
     ensures { ◌≡◌ {A = Answered ℕ} (record { told = told_text result; buffer = out.new })
         (export_of book.now out.old) }
 {
-    match read_book(book) {
-        Read::Refused(why) => Err(Unexported::Book(why)),
-        Read::Good(shape) => {
-            let mut draft = [0u8; TEXT_ROOM];
-            let n = put_book(book, shape, &mut draft);
-            hand_over(&draft, n, out)
-        }
-    }
+    let shape = read_book(book)?;
+    let mut draft = [0u8; TEXT_ROOM];
+    let n = put_book(book, shape, &mut draft);
+    hand_over(&draft, n, out)
 }
