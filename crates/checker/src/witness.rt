@@ -15,16 +15,9 @@ use crate::trailer::Trailer;
 use book::{Shape, every_in, head, heads_of, is_blocked, negatives, positives, some_in, wide};
 use meaning::{Bits, Claim, Colouring, RuleNo, has, put};
 
-#[derive(Clone, Copy)]
-pub enum Verdict {
-    Right,
-    // The place of what is wrong.
-    Wrong(usize),
-}
-
 // Each byte in turn: its number, repetition and positive atoms. The list starts at byte `from` of
 // the paper.
-fn check_order(book: &[u8], shape: Shape, list: &[u8], from: usize) -> Verdict
+fn check_order(book: &[u8], shape: Shape, list: &[u8], from: usize) -> Result<(), usize>
     requires { ReadAs book.now shape × (from + length list.now < 65536) }
     ensures { verdict result ≡
         order_of (book_in book.now) from [] list.now }
@@ -35,19 +28,19 @@ fn check_order(book: &[u8], shape: Shape, list: &[u8], from: usize) -> Verdict
     while i < list.len() {
         let n = list[i];
         if shape.rules <= n {
-            return Verdict::Wrong(from + i);
+            return Err(from + i);
         }
         if has(&before, n) {
-            return Verdict::Wrong(from + i);
+            return Err(from + i);
         }
         if !every_in(positives(book, shape, RuleNo(n)), &headed) {
-            return Verdict::Wrong(from + i);
+            return Err(from + i);
         }
         put(&mut before, n);
         headed[wide(head(book, shape, RuleNo(n)).0)] = true;
         i += 1;
     }
-    Verdict::Right
+    Ok(())
 }
 
 // Each byte once more: no negative atom of its rule is in the table.
@@ -57,7 +50,7 @@ fn check_unblocked(
     list: &[u8],
     from: usize,
     headed: &[bool; Colouring::ATOMS],
-) -> Verdict
+) -> Result<(), usize>
     requires { ReadAs book.now shape × Below shape.rules list.now
         × (from + length list.now < 65536) }
     ensures { verdict result ≡
@@ -67,11 +60,11 @@ fn check_unblocked(
     let mut i = 0;
     while i < list.len() {
         if is_blocked(book, shape, RuleNo(list[i]), headed) {
-            return Verdict::Wrong(from + i);
+            return Err(from + i);
         }
         i += 1;
     }
-    Verdict::Right
+    Ok(())
 }
 
 // The rule has a positive atom outside the table or a negative atom in it.
@@ -106,7 +99,7 @@ fn rest_fails(book: &[u8], shape: Shape, set: &[u64; 4], headed: &[bool; Colouri
 }
 
 // The whole witness: its order, its negative atoms, then the rules that it doesn't list.
-pub fn check_witness(book: &[u8], shape: Shape, paper: &[u8], trailer: Trailer) -> Verdict
+pub fn check_witness(book: &[u8], shape: Shape, paper: &[u8], trailer: Trailer) -> Result<(), usize>
     requires { ReadAs book.now shape
         × (trailer.from + trailer.count + 6 ≡ length paper.now)
         × (length paper.now ≤ paper_bytes) }
@@ -115,24 +108,20 @@ pub fn check_witness(book: &[u8], shape: Shape, paper: &[u8], trailer: Trailer) 
 {
     let from = trailer.from;
     let end = from + trailer.count;
-    if let Verdict::Wrong(at) = check_order(book, shape, &paper[from..end], from) {
-        return Verdict::Wrong(at);
-    }
+    check_order(book, shape, &paper[from..end], from)?;
     let all = with_rules(Bits::empty(), &paper[from..end]);
     let set = all.w;
     let mut headed = [false; Colouring::ATOMS];
     heads_of(book, shape, &set, &mut headed);
-    if let Verdict::Wrong(at) = check_unblocked(book, shape, &paper[from..end], from, &headed) {
-        return Verdict::Wrong(at);
-    }
+    check_unblocked(book, shape, &paper[from..end], from, &headed)?;
     if !rest_fails(book, shape, &set, &headed) {
-        return Verdict::Wrong(paper.len() - 6);
+        return Err(paper.len() - 6);
     }
-    Verdict::Right
+    Ok(())
 }
 
 // What the claim asks behind the steps: a witness, or that nothing is listed.
-pub fn check_grounds(book: &[u8], shape: Shape, paper: &[u8], trailer: Trailer) -> Verdict
+pub fn check_grounds(book: &[u8], shape: Shape, paper: &[u8], trailer: Trailer) -> Result<(), usize>
     requires { ReadAs book.now shape
         × (trailer.from + trailer.count + 6 ≡ length paper.now)
         × (length paper.now ≤ paper_bytes) }
@@ -144,9 +133,9 @@ pub fn check_grounds(book: &[u8], shape: Shape, paper: &[u8], trailer: Trailer) 
         Claim::About(_, _) => check_witness(book, shape, paper, trailer),
         Claim::NoReading => {
             if trailer.count != 0 {
-                return Verdict::Wrong(trailer.from);
+                return Err(trailer.from);
             }
-            Verdict::Right
+            Ok(())
         }
     }
 }

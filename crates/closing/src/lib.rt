@@ -39,7 +39,7 @@ mod unsupported;
 
 pub use choice::Choice;
 pub use clash::{lowest_clash, lowest_in};
-pub use first::{Settled, settle};
+pub use first::{Unsettled, settle};
 pub use marking::support;
 pub use starting::propagate_chosen;
 

@@ -65,10 +65,8 @@ fn sweep(
         atom_table (heads (book_in book.now) (of (listed marks.new)))) }
 {
     let mut more = false;
-    let mut r: u8 = 0;
-    while r < shape.rules {
+    for r in 0..shape.rules {
         more = try_rule(book, shape, RuleNo(r), off, marks, supported, more);
-        r += 1;
     }
     more
 }

@@ -37,7 +37,7 @@ fn note_atom(
 }
 
 // Writes the true ones and the lost ones of the first `atoms` atoms.
-fn begin(
+pub fn begin(
     atoms: u8,
     rows: &[u64; 3072],
     on: &[u64; 4],
@@ -52,10 +52,8 @@ fn begin(
 {
     *nt = [0; 4];
     *nl = [0; 4];
-    let mut a: u8 = 0;
-    while a < atoms {
+    for a in 0..atoms {
         note_atom(rows, AtomNo(a), on, off, nt, nl);
-        a += 1;
     }
 }
 
