@@ -7,13 +7,12 @@ use native.Mathlib.Nat.{sub-zero}
 use native.Mathlib.Omega.{arith}
 use lib.ListN.{length, take, drop, length-append}
 use lib.Seq.{sets-eq, take_at, length-take-le}
+use Rattle.std.specs.Prelude.{Result, Ok, Err}
 use Rattle.meaning.specs.Books.{Book}
 use Rattle.meaning.specs.Told.{success, refused_at, refused, Answered}
 use Rattle.meaning.proofs.Choice.{lt_yes, lt_no}
 use Rattle.book.specs.Numbers.{number_of, place_of, told}
 use Rattle.book.specs.declared.refusal.Refusal.{Refusal}
-use Rattle.book.specs.declared.reader.Read.{Read}
-use Rattle.book.specs.declared.reader.Read.TheVariants.{Good, Refused}
 use Rattle.book.specs.declared.reader.Shape.{Shape}
 use Rattle.book.specs.Format.{BookRead, good, bad, read_of, told_of, book_of, book_in, ReadAs}
 use Rattle.book.proofs.Shapes.{told-good, good-rules-fit}
@@ -64,12 +63,12 @@ unfolding told_of export_read
 refused-read out (good n k index l) i at e = let z : ◌≡◌ {A = ℕ} 0 1 = cc in absurd (omega arith)
 refused-read out (bad j to) i at e = let p : j ≡ i = cc in let q : to ≡ at = cc in rw (p, q)
 
-module _ (s out : List ℕ) {x : Read} (e : told x ≡ told_of (read_of s)) where
-  pub export-refused : {f : Refusal} → x ≡ Refused f → record { told = refused_at (number_of f) (place_of f); buffer = out } ≡ export_of s out
+module _ (s out : List ℕ) {x : Result Shape Refusal} (e : told x ≡ told_of (read_of s)) where
+  pub export-refused : {f : Refusal} → x ≡ Err f → record { told = refused_at (number_of f) (place_of f); buffer = out } ≡ export_of s out
   unfolding export_of
   export-refused {f} g = refused-read out (read_of s) (number_of f) (place_of f) (sym e ∙ ap told g)
 
-  module _ {h : Shape} (g : x ≡ Good h) where
+  module _ {h : Shape} (g : x ≡ Ok h) where
     pub read_as : ReadAs s h
     read_as = sym e ∙ ap told g
 

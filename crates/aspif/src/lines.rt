@@ -14,12 +14,9 @@ pub fn put_text(word: &[u8], out: &mut [u8], at: usize) -> usize
     requires { at + length word.now ≤ length out.old }
     ensures { Stored word.now at out.old result out.new }
 {
-    let mut i = 0;
-    while i < word.len() {
-        out[at + i] = word[i];
-        i += 1;
-    }
-    at + i
+    let end = at + word.len();
+    out[at..end].copy_from_slice(word);
+    end
 }
 
 // Writes the word and the number behind it; where they end.
@@ -39,10 +36,8 @@ fn put_part<'a>(part: &'a [u8], sign: &'a [u8], out: &mut [u8], at: usize) -> us
         out.old result out.new }
 {
     let mut end = at;
-    let mut i = 0;
-    while i < part.len() {
-        end = put_item(sign, wide(part[i]) + 1, out, end);
-        i += 1;
+    for n in part {
+        end = put_item(sign, wide(*n) + 1, out, end);
     }
     end
 }
@@ -71,10 +66,8 @@ pub fn put_rules(book: &[u8], shape: Shape, out: &mut [u8], at: usize) -> usize
         out.old result out.new }
 {
     let mut end = at;
-    let mut r: u8 = 0;
-    while r < shape.rules {
+    for r in 0..shape.rules {
         end = put_rule(book, shape, RuleNo(r), out, end);
-        r += 1;
     }
     end
 }
@@ -99,10 +92,8 @@ pub fn put_outputs(atoms: u8, out: &mut [u8], at: usize) -> usize
     ensures { Stored (output_lines 0 atoms) at out.old result out.new }
 {
     let mut end = at;
-    let mut n: u8 = 0;
-    while n < atoms {
+    for n in 0..atoms {
         end = put_output(wide(n), out, end);
-        n += 1;
     }
     end
 }
