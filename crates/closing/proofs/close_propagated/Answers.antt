@@ -3,48 +3,28 @@
 -- pair is closed, and what is reached at the start of a turn may be left at a contradiction. Blueprint C2.
 use mathlib.Core.Path.{sym, subst}
 use mathlib.Core.List.{List}
-use Prim.Native.Nat.{ℕ}
+use Prim.Native.Nat.{ℕ, ◌≤◌}
 use native.Mathlib.Omega.{arith}
 use borrow.Author.Rules.{rules}
-use Rattle.meaning.specs.Colours.{Pair, Under}
+use Rattle.meaning.specs.Books.{count}
+use Rattle.meaning.specs.Colours.{Under}
 use Rattle.meaning.specs.Bits.{listed}
-use Rattle.meaning.specs.Written.{Tables, of, coloured, lent}
+use Rattle.meaning.specs.Written.{of, coloured, lent}
 use Rattle.meaning.specs.Propagation.{Propagated}
 use Rattle.meaning.specs.Suspects.{Settled}
 use Rattle.book.specs.Format.{book_in}
 use Rattle.book.proofs.Places.{shape-count}
 use Rattle.closing.proofs.Good.{Good, good-few}
 use Rattle.closing.proofs.Propagating.{sized-coloured}
-use Rattle.closing.proofs.Closed.{UnderWay, closes-start, propagated-to, closes-propagated, propagated-no-more, dropped-above}
+use Rattle.closing.proofs.Closed.{closes-start, propagated-to, closes-propagated, propagated-no-more, dropped-above}
 use Rattle.closing.proofs.Closed.{closes-dropped, dropped-settled, dropped-less, propagated-off, closed-to}
 use Rattle.closing.proofs.Leaving.{ends-left, ends-closed}
 use Rattle.closing.proofs.close_propagated.Goals as goal
-use Rattle.closing.proofs.close_propagated.Lts as lts
-use Rattle.closing.proofs.close_propagated.Tie as tie
+use Rattle.closing.proofs.close_propagated.Goals.{Start}
 
-abbrev Start : Type 0
-Start = lts.Start tie.the-claims tie.handed_pre tie.handed_post goal.the-invariant-loop-shape goal.the-decreases-loop-shape
-
-abbrev After-drop_suspects : Type 0
-After-drop_suspects = lts.After-drop_suspects tie.the-claims tie.handed_pre tie.handed_post goal.the-invariant-loop-shape goal.the-decreases-loop-shape
-
-good : (s : Start) → Good s.args.book.now s.args.shape
-good s = search rules
-
--- behind the rules that nothing holds up: where the turn began, and the start of the function
-module _ (d : After-drop_suspects) where
-  abbrev first : Pair
-  first = lent (listed d.args.on.now) (listed d.args.off.now)
-
-  -- the sets then
-  abbrev off-then : List ℕ
-  off-then = d.drop_suspects.new.off
-
-  abbrev sets : Tables
-  sets = coloured (listed d.loop-shape.on) (listed off-then)
-
-  dropped : UnderWay (book_in d.args.book.now) first (lent (listed d.loop-shape.on) (listed off-then))
-  dropped = closes-dropped _ (good-few (good d.before.before.before.before.before.before.before.before.before.before)) _ _ d.drop_suspects.ensures.0.gone (of (listed d.loop-shape.on)) d.loop-shape.invariant.0
+-- at the start the book is good, so it has few rules
+few : (s : Start) → count (book_in s.args.book.now) ≤ 255
+few s = let g : Good s.args.book.now s.args.shape = search rules in good-few g
 
 -- ---- the needs
 pub loop-shape-init : goal.loop-shape-init
@@ -62,14 +42,14 @@ drop_suspects-requires c =
 pub returns-then-not-drop_suspects : goal.returns-then-not-drop_suspects
 returns-then-not-drop_suspects c =
     let l = c.loop-shape in
-    ends-closed (closed-to _ (good-few (good c.before.before.before.before.before.before.before.before.before.before.before.before)) (first c.before.before) l.on l.off (off-then c.before.before) l.invariant.0 l.invariant.1
-    c.drop_suspects.ensures.0 c.if-not-drop_suspects.true)
+    ends-closed (closed-to _ (few (goal.at.returns-then-not-drop_suspects c).Start) (lent (listed c.args.on.now) (listed c.args.off.now)) l.on l.off c.drop_suspects.new.off
+    l.invariant.0 l.invariant.1 c.drop_suspects.ensures.0 c.if-not-drop_suspects.true)
 
 pub propagate_dropped-requires : goal.propagate_dropped-requires
 propagate_dropped-requires c =
     let l = c.loop-shape in
-    let off = off-then c.before.before.before.before.before in
-    let above = dropped-above _ (good-few (good c.before.before.before.before.before.before.before.before.before.before.before.before.before.before.before)) (of (listed l.off)) (of (listed off)) c.drop_suspects.ensures.0.gone in (
+    let off = c.drop_suspects.new.off in
+    let above = dropped-above _ (few (goal.at.propagate_dropped-requires c).Start) (of (listed l.off)) (of (listed off)) c.drop_suspects.ensures.0.gone in (
       c.requires.0,
       c.requires.1,
       subst (λ (v : List ℕ). Propagated (book_in c.args.book.now) (lent (listed l.on) (listed v))) (sym c.whole-was.ensures) l.invariant.1,
@@ -78,23 +58,26 @@ propagate_dropped-requires c =
 
 pub loop-shape-smaller : goal.loop-shape-smaller
 loop-shape-smaller c =
-    let few = good-few (good c.before.before.before.before.before.before.before.before.before.before.before.before.before.before.before.before) in
+    let fits = few (goal.at.loop-shape-smaller c).Start in
+    let sets = coloured (listed c.loop-shape.on) (listed c.drop_suspects.new.off) in
     omega (
       arith,
-      propagated-no-more _ few (sets c.before.before.before.before.before.before) (sized-coloured _ _) c.propagate_dropped.ensures.0 c.propagate_dropped.ensures.1,
-      dropped-less _ few _ _ c.drop_suspects.ensures.0 (of (listed c.loop-shape.on))
-          c.if-not-drop_suspects.false,
+      propagated-no-more _ fits sets (sized-coloured _ _) c.propagate_dropped.ensures.0 c.propagate_dropped.ensures.1,
+      dropped-less _ fits _ _ c.drop_suspects.ensures.0 (of (listed c.loop-shape.on)) c.if-not-drop_suspects.false,
     )
 
 pub loop-shape-preserved : goal.loop-shape-preserved
 loop-shape-preserved c =
-    let few = good-few (good c.before.before.before.before.before.before.before.before.before.before.before.before.before.before.before.before) in
+    let fits = few (goal.at.loop-shape-preserved c).Start in
+    let l = c.loop-shape in
+    let sets = coloured (listed l.on) (listed c.drop_suspects.new.off) in
+    let dropped = closes-dropped _ fits _ _ c.drop_suspects.ensures.0.gone (of (listed l.on)) l.invariant.0 in
     let (e, f) = c.propagate_dropped.ensures in
     let same = c.drop_suspects.ensures.1 in (
-      closes-propagated _ few (sets c.before.before.before.before.before.before) (sized-coloured _ _) e f (dropped c.before.before.before.before.before.before),
-      (propagated-to _ few (sets c.before.before.before.before.before.before) (sized-coloured _ _) e f).good.propagated,
+      closes-propagated _ fits sets (sized-coloured _ _) e f dropped,
+      (propagated-to _ fits sets (sized-coloured _ _) e f).good.propagated,
       subst (λ (v : List ℕ). Settled (book_in c.args.book.now) (of (listed v))) (sym same)
-          (dropped-settled _ few (of (listed c.loop-shape.off)) _ c.drop_suspects.ensures.0.gone),
+          (dropped-settled _ fits (of (listed l.off)) _ c.drop_suspects.ensures.0.gone),
       subst (λ (v : List ℕ). Under (book_in c.args.book.now) (of (listed v)) (of (listed c.propagate_dropped.new.off))) (sym same)
-          (propagated-off _ few (sets c.before.before.before.before.before.before) (sized-coloured _ _) e f),
+          (propagated-off _ fits sets (sized-coloured _ _) e f),
     )
