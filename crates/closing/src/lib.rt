@@ -56,10 +56,8 @@ pub fn close(rowed: &RowedBook, c: Colouring) -> Closure
         × (picked result.clash ≡ clashed (the_book rowed.now.book)
         (pair (close (the_book rowed.now.book) (written c)))) }
 {
-    let c_on = c.on;
-    let c_off = c.off;
-    let mut on = c_on.w;
-    let mut off = c_off.w;
+    let mut on = c.on.w;
+    let mut off = c.off.w;
     propagate(rowed, &mut on, &mut off);
     let before = off;
     drop_unsupported(&rowed.book, &mut off);
@@ -110,13 +108,11 @@ fn close_on(rowed: &RowedBook, d: Colouring, r: RuleNo, early: bool) -> Closure
     ensures { Ends (the_book rowed.now.book) early (chosen on_side r (written d))
         (written result.colours) (picked result.clash) }
 {
-    let d_on = d.on;
-    let d_off = d.off;
-    let mut on = d_on.w;
-    let mut off = d_off.w;
+    let mut on = d.on.w;
+    let mut off = d.off.w;
     propagate_on(rowed, r, &mut on, &mut off);
     let c = d.choose_on(r);
-    if close_propagated(rowed, d_off, &mut on, &mut off, early) {
+    if close_propagated(rowed, d.off, &mut on, &mut off, early) {
         return Closure {
             colours: c,
             clash: Some(r),
@@ -131,13 +127,11 @@ fn close_off(rowed: &RowedBook, d: Colouring, r: RuleNo, early: bool) -> Closure
     ensures { Ends (the_book rowed.now.book) early (chosen off_side r (written d))
         (written result.colours) (picked result.clash) }
 {
-    let d_on = d.on;
-    let d_off = d.off;
-    let mut on = d_on.w;
-    let mut off = d_off.w;
+    let mut on = d.on.w;
+    let mut off = d.off.w;
     propagate_off(rowed, r, &mut on, &mut off);
     let c = d.choose_off(r);
-    if close_propagated(rowed, d_off, &mut on, &mut off, early) {
+    if close_propagated(rowed, d.off, &mut on, &mut off, early) {
         return Closure {
             colours: c,
             clash: Some(r),
@@ -176,8 +170,7 @@ fn close_propagated(
         if is_left(rowed.book.shape.rules, early, on, off) {
             return true;
         }
-        let was = whole(off);
-        let before = was.w;
+        let before = *off;
         if !drop_suspects(rowed, &mut old, off) {
             return false;
         }
@@ -193,9 +186,8 @@ fn ended(rules: u8, c: Colouring, on: Bits, off: Bits) -> Closure
         lowest_from 0 rules (in_both (lent (listed on.w) (listed off.w)))) }
 {
     let new = on.union(off).difference(c.on.union(c.off));
-    let w = new.w;
     let mut levels = c.levels;
-    stamp(rules, &w, c.level, &mut levels);
+    stamp(rules, &new.w, c.level, &mut levels);
     Closure {
         colours: Colouring {
             on,

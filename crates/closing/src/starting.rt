@@ -85,9 +85,8 @@ pub fn propagate_dropped(
         (coloured (listed on.old) (listed off.old))).off) }
 {
     let fresh = whole(off).difference(whole(before));
-    let new = fresh.w;
     let mut nl = [0u64; 4];
-    lost_heads(rowed, &new, off, &mut nl);
+    lost_heads(rowed, &fresh.w, off, &mut nl);
     propagate_from(rowed, Bits::empty(), Bits { w: nl }, Bits::empty(), on, off);
 }
 
@@ -114,8 +113,7 @@ pub fn propagate_off(rowed: &RowedBook, r: RuleNo, on: &mut [u64; 4], off: &mut 
         × (listed off.new ≡ (propagate (the_book rowed.now.book)
         (colour_off r (coloured (listed on.old) (listed off.old)))).off) }
 {
-    let was = whole(off);
-    let before = was.w;
+    let before = *off;
     put(off, r.0);
     propagate_dropped(rowed, &before, on, off);
 }
