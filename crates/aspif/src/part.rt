@@ -4,7 +4,7 @@ ghost use Rattle.meaning.specs.declared.AtomNo.{AtomNo};
 ghost use Rattle.meaning.specs.Books.{atom_no};
 ghost use Rattle.aspif.specs.Gathering.{Held, PartSeen};
 
-use crate::scan::{Number, read_item};
+use crate::scan::read_item;
 use meaning::Colouring;
 
 // How many atoms a part has, the largest number of them, where the text goes on, and whether all
@@ -46,7 +46,7 @@ pub fn read_part<'a>(
     let mut next = at;
     let mut small = true;
     loop {
-        let Number::Value(value, end) = read_item(text, next, sign, top + 1) else {
+        let Some((value, end)) = read_item(text, next, sign, top + 1) else {
             return Part {
                 count,
                 top,

@@ -8,22 +8,15 @@ ghost use Rattle.checker.specs.Steps.{parts, step_of};
 ghost use Rattle.checker.specs.Branches.{BranchTo};
 ghost use Rattle.checker.specs.Parts.{Ready, RuleWithin, walked, Ends};
 
+use crate::answer::Rejected;
 use crate::run::run_steps;
 use crate::step::Stop;
 use crate::trailer::Trailer;
 use book::Shape;
 use meaning::{Colouring, RuleNo};
 
-#[derive(Clone, Copy)]
-pub enum Walked {
-    // The branch is right and ends before this byte.
-    Done(usize),
-    // Numbers 24 and 25, with the step's place.
-    Form(usize),
-    Fails(usize),
-}
-
-// The branch at byte `at`, which starts with the colouring c.
+// The branch at byte `at`, which starts with the colouring c: where it ends if it is right, and the
+// step that is not otherwise, with number 24 or 25.
 #[cycle(branch_split)]
 pub fn branch(
     book: &[u8],
@@ -32,7 +25,7 @@ pub fn branch(
     trailer: Trailer,
     at: usize,
     c: Colouring,
-) -> Walked
+) -> Result<usize, Rejected>
     requires { Ready book.now shape paper.now trailer.from }
     ensures { BranchTo (book_in book.now) trailer.claim
         paper.now trailer.from at (pair (written c)) (walked result)
@@ -42,13 +35,13 @@ pub fn branch(
     let stop = ran.stop;
     let last = ran.at;
     match stop {
-        Stop::End => Walked::Done(last + 1),
+        Stop::End => Ok(last + 1),
         Stop::Split(r) => {
             let colours = ran.colours;
             split(book, shape, paper, trailer, last, r, colours)
         }
-        Stop::Form => Walked::Form(last),
-        Stop::Fails => Walked::Fails(last),
+        Stop::Form => Err(Rejected::Form(last)),
+        Stop::Fails => Err(Rejected::Fails(last)),
     }
 }
 
@@ -63,7 +56,7 @@ fn split(
     at: usize,
     r: RuleNo,
     c: Colouring,
-) -> Walked
+) -> Result<usize, Rejected>
     requires { Ready book.now shape paper.now trailer.from
         × RuleWithin (book_in book.now) trailer.from at r
         × (step_of (book_in book.now) trailer.claim paper.now trailer.from at
@@ -74,9 +67,6 @@ fn split(
 {
     let start = at + 2;
     let first = c.with_on(r);
-    match branch(book, shape, paper, trailer, start, first) {
-        Walked::Done(next) => branch(book, shape, paper, trailer, next, c.with_off(r)),
-        Walked::Form(place) => Walked::Form(place),
-        Walked::Fails(place) => Walked::Fails(place),
-    }
+    let next = branch(book, shape, paper, trailer, start, first)?;
+    branch(book, shape, paper, trailer, next, c.with_off(r))
 }

@@ -15,39 +15,26 @@ use crate::trailer::Trailer;
 use book::{Shape, every_in, head, heads_of, is_blocked, negatives, positives, some_in, wide};
 use meaning::{Bits, Claim, Colouring, RuleNo, has, put};
 
-#[derive(Clone, Copy)]
-pub enum Verdict {
-    Right,
-    // The place of what is wrong.
-    Wrong(usize),
-}
-
 // Each byte in turn: its number, repetition and positive atoms. The list starts at byte `from` of
 // the paper.
-fn check_order(book: &[u8], shape: Shape, list: &[u8], from: usize) -> Verdict
+fn check_order(book: &[u8], shape: Shape, list: &[u8], from: usize) -> Result<(), usize>
     requires { ReadAs book.now shape × (from + length list.now < 65536) }
     ensures { verdict result ≡
         order_of (book_in book.now) from [] list.now }
 {
     let mut before = [0u64; 4];
     let mut headed = [false; Colouring::ATOMS];
-    let mut i = 0;
-    while i < list.len() {
-        let n = list[i];
-        if shape.rules <= n {
-            return Verdict::Wrong(from + i);
-        }
-        if has(&before, n) {
-            return Verdict::Wrong(from + i);
-        }
-        if !every_in(positives(book, shape, RuleNo(n)), &headed) {
-            return Verdict::Wrong(from + i);
+    for (i, &n) in list.iter().enumerate() {
+        if shape.rules <= n
+            || has(&before, n)
+            || !every_in(positives(book, shape, RuleNo(n)), &headed)
+        {
+            return Err(from + i);
         }
         put(&mut before, n);
         headed[wide(head(book, shape, RuleNo(n)).0)] = true;
-        i += 1;
     }
-    Verdict::Right
+    Ok(())
 }
 
 // Each byte once more: no negative atom of its rule is in the table.
@@ -57,21 +44,19 @@ fn check_unblocked(
     list: &[u8],
     from: usize,
     headed: &[bool; Colouring::ATOMS],
-) -> Verdict
+) -> Result<(), usize>
     requires { ReadAs book.now shape × Below shape.rules list.now
         × (from + length list.now < 65536) }
     ensures { verdict result ≡
         blocked_of (book_in book.now) (atoms_in headed.now) from
         list.now }
 {
-    let mut i = 0;
-    while i < list.len() {
-        if is_blocked(book, shape, RuleNo(list[i]), headed) {
-            return Verdict::Wrong(from + i);
+    for (i, &n) in list.iter().enumerate() {
+        if is_blocked(book, shape, RuleNo(n), headed) {
+            return Err(from + i);
         }
-        i += 1;
     }
-    Verdict::Right
+    Ok(())
 }
 
 // The rule has a positive atom outside the table or a negative atom in it.
@@ -80,10 +65,7 @@ fn fails_in(book: &[u8], shape: Shape, r: RuleNo, headed: &[bool; Colouring::ATO
     ensures { result ≡
         fails (atoms_in headed.now) (rule (book_in book.now) r) }
 {
-    if !every_in(positives(book, shape, r), headed) {
-        return true;
-    }
-    some_in(negatives(book, shape, r), headed)
+    !every_in(positives(book, shape, r), headed) || some_in(negatives(book, shape, r), headed)
 }
 
 // Every rule that is not listed fails.
@@ -93,20 +75,16 @@ fn rest_fails(book: &[u8], shape: Shape, set: &[u64; 4], headed: &[bool; Colouri
         (λ r. of (listed set.now) r
         || fails (atoms_in headed.now) (rule (book_in book.now) r)) }
 {
-    let mut r: u8 = 0;
-    while r < shape.rules {
-        if !has(set, r) {
-            if !fails_in(book, shape, RuleNo(r), headed) {
-                return false;
-            }
+    for r in 0..shape.rules {
+        if !has(set, r) && !fails_in(book, shape, RuleNo(r), headed) {
+            return false;
         }
-        r += 1;
     }
     true
 }
 
 // The whole witness: its order, its negative atoms, then the rules that it doesn't list.
-pub fn check_witness(book: &[u8], shape: Shape, paper: &[u8], trailer: Trailer) -> Verdict
+pub fn check_witness(book: &[u8], shape: Shape, paper: &[u8], trailer: Trailer) -> Result<(), usize>
     requires { ReadAs book.now shape
         × (trailer.from + trailer.count + 6 ≡ length paper.now)
         × (length paper.now ≤ paper_bytes) }
@@ -115,24 +93,20 @@ pub fn check_witness(book: &[u8], shape: Shape, paper: &[u8], trailer: Trailer) 
 {
     let from = trailer.from;
     let end = from + trailer.count;
-    if let Verdict::Wrong(at) = check_order(book, shape, &paper[from..end], from) {
-        return Verdict::Wrong(at);
-    }
+    check_order(book, shape, &paper[from..end], from)?;
     let all = with_rules(Bits::empty(), &paper[from..end]);
     let set = all.w;
     let mut headed = [false; Colouring::ATOMS];
     heads_of(book, shape, &set, &mut headed);
-    if let Verdict::Wrong(at) = check_unblocked(book, shape, &paper[from..end], from, &headed) {
-        return Verdict::Wrong(at);
-    }
+    check_unblocked(book, shape, &paper[from..end], from, &headed)?;
     if !rest_fails(book, shape, &set, &headed) {
-        return Verdict::Wrong(paper.len() - 6);
+        return Err(paper.len() - 6);
     }
-    Verdict::Right
+    Ok(())
 }
 
 // What the claim asks behind the steps: a witness, or that nothing is listed.
-pub fn check_grounds(book: &[u8], shape: Shape, paper: &[u8], trailer: Trailer) -> Verdict
+pub fn check_grounds(book: &[u8], shape: Shape, paper: &[u8], trailer: Trailer) -> Result<(), usize>
     requires { ReadAs book.now shape
         × (trailer.from + trailer.count + 6 ≡ length paper.now)
         × (length paper.now ≤ paper_bytes) }
@@ -144,9 +118,9 @@ pub fn check_grounds(book: &[u8], shape: Shape, paper: &[u8], trailer: Trailer) 
         Claim::About(_, _) => check_witness(book, shape, paper, trailer),
         Claim::NoReading => {
             if trailer.count != 0 {
-                return Verdict::Wrong(trailer.from);
+                return Err(trailer.from);
             }
-            Verdict::Right
+            Ok(())
         }
     }
 }

@@ -28,7 +28,7 @@ use Rattle.closing.proofs.Stamping.{before}
 -- ---- one atom
 
 -- the set of atoms and the list say the same
-said : (w : List ℕ) (a : AtomNo) → atom_set w a ≡ of (listed w) (rule_no a.0)
+pub said : (w : List ℕ) (a : AtomNo) → atom_set w a ≡ of (listed w) (rule_no a.0)
 said w a = ap (λ (s : Set ℕ). s a.0) (sym (listed-members w))
 
 pub put-atom : (w v : List ℕ) (h : AtomNo) → h.0 < 256 → listed w ≡ set (listed v) h.0 true

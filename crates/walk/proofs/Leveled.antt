@@ -18,10 +18,9 @@ use Rattle.meaning.proofs.Choice.{lt_yes, lt_no, lt-either, eq_yes, eq_no, eq-ei
 use Rattle.meaning.proofs.Tests.{lt-or-le, apart}
 use Rattle.meaning.proofs.Buffers.{write-turn, write_done, write-front}
 use Rattle.meaning.proofs.LeastModel.{Proper, Inside, answer-inside}
+use Rattle.std.specs.Prelude.{Result, Ok, Err}
 use Rattle.book.specs.declared.refusal.Refusal.{Refusal}
 use Rattle.book.specs.declared.reader.Shape.{Shape}
-use Rattle.book.specs.declared.reader.Read.{Read}
-use Rattle.book.specs.declared.reader.Read.TheVariants.{Good, Refused}
 use Rattle.book.specs.Numbers.{number_of, place_of, told as book_told}
 use Rattle.book.specs.Format.{read_of, told_of, book_of, book_in, ReadAs}
 use Rattle.book.proofs.Shapes.{told-good}
@@ -102,13 +101,13 @@ module _ (s : List ℕ) (h : Shape) (e : ReadAs s h) (k limit : ℕ) (out : List
 
 -- ---- the book
 
-module _ (s : List ℕ) {x : Read} (e : book_told x ≡ told_of (read_of s)) (k limit : ℕ) (out : List ℕ) where
-  pub levels-refused : {f : Refusal} → x ≡ Refused f
+module _ (s : List ℕ) {x : Result Shape Refusal} (e : book_told x ≡ told_of (read_of s)) (k limit : ℕ) (out : List ℕ) where
+  pub levels-refused : {f : Refusal} → x ≡ Err f
       → record { told = refused_at (number_of f) (place_of f); buffer = out } ≡ levels_of s k limit out
   unfolding levels_of levels_read
   levels-refused f = sym (rw (read-bad s e f))
 
-  pub levels-read : {h : Shape} {p : Answered ℕ} → x ≡ Good h → p ≡ levels_in (book_in s) k limit out → p ≡ levels_of s k limit out
+  pub levels-read : {h : Shape} {p : Answered ℕ} → x ≡ Ok h → p ≡ levels_in (book_in s) k limit out → p ≡ levels_of s k limit out
   unfolding levels_of levels_read book_in book_of
   levels-read f g = g ∙ rw (told-good (read_of s) _ _ _ (read_as s e f))
 

@@ -19,9 +19,8 @@ use Rattle.meaning.specs.Written.{Tables, nothing}
 use Rattle.meaning.proofs.Tests.{decided, same}
 use Rattle.meaning.proofs.Choice.{b-yes, b-no, eq_yes, eq_no, lt_yes, lt_no}
 use Rattle.meaning.proofs.LeastModel.{Proper}
+use Rattle.std.specs.Prelude.{Result, Err}
 use Rattle.book.specs.declared.reader.Shape.{Shape}
-use Rattle.book.specs.declared.reader.Read.{Read}
-use Rattle.book.specs.declared.reader.Read.TheVariants.{Refused}
 use Rattle.book.specs.declared.refusal.Refusal.{Refusal}
 use Rattle.book.specs.Numbers.{number_of, place_of, told as book_told}
 use Rattle.book.specs.Format.{good, bad, read_of, told_of, book_of, book_in, ReadAs}
@@ -118,8 +117,8 @@ module _ (s : List ℕ) (k limit : ℕ) (shown answer : List ℕ) where
   unfolding find_shown_of find_shown_read book_in book_of
   shown-good-book n r index l e = rw e
 
-pub selected-refused : (s : List ℕ) {x : Read} → book_told x ≡ told_of (read_of s) → (k limit : ℕ) (shown answer : List ℕ) {f : Refusal}
-    → x ≡ Refused f → record { told = refused_at (number_of f) (place_of f); buffer = answer } ≡ find_shown_of s k limit shown answer
+pub selected-refused : (s : List ℕ) {x : Result Shape Refusal} → book_told x ≡ told_of (read_of s) → (k limit : ℕ) (shown answer : List ℕ) {f : Refusal}
+    → x ≡ Err f → record { told = refused_at (number_of f) (place_of f); buffer = answer } ≡ find_shown_of s k limit shown answer
 selected-refused s e k limit shown answer f = sym (shown-bad-book s k limit shown answer _ _ (read-bad s e f))
 
 module _ (s : List ℕ) (h : Shape) (e : ReadAs s h) (k limit : ℕ) (shown answer : List ℕ) where

@@ -12,11 +12,11 @@ ghost use Rattle.walk.specs.Page.{set_in};
 ghost use Rattle.walk.specs.Levels.{choice_of, down, levels_in, levels_of};
 
 use crate::colours::lowest_uncoloured;
-use crate::kth::{Found, kth_by, tell};
+use crate::kth::{Unfound, kth_by, tell};
 use crate::resume::generates;
 use crate::tally::Halt;
-use book::{Read, Shape, make_rows, read_book};
-use closing::{Choice, Picked, close_chosen};
+use book::{Shape, make_rows, read_book};
+use closing::{Choice, close_chosen};
 use meaning::{Colouring, RuleNo};
 
 // The choice that the row's set makes: the rule goes on if it generates the set.
@@ -40,12 +40,11 @@ fn descend(book: &[u8], shape: Shape, rows: &[u64; 3072], row: &[u8]) -> Colouri
     let mut choice = Choice::Nothing;
     loop {
         let closed = close_chosen(book, shape, rows, c, choice);
-        let clash = closed.clash;
         let d = closed.colours;
-        if let Picked::Rule(_) = clash {
+        if closed.clash.is_some() {
             return d;
         }
-        let Picked::Rule(r) = lowest_uncoloured(shape.rules, d.on, d.off) else {
+        let Some(r) = lowest_uncoloured(shape.rules, d.on, d.off) else {
             return d;
         };
         choice = follow(book, shape, r, row);
@@ -68,16 +67,16 @@ fn write_levels(rules: u8, levels: &[u8; Colouring::RULES], out: &mut [u8])
 }
 
 // The same for a good book. The walk's row is its own: the caller's buffer has a byte for each rule.
-fn levels_in(book: &[u8], shape: Shape, k: u32, limit: u32, out: &mut [u8]) -> Found
+fn levels_in(book: &[u8], shape: Shape, k: u32, limit: u32, out: &mut [u8]) -> Result<u32, Unfound>
     requires { ReadAs book.now shape }
     ensures { ◌≡◌ {A = Answered ℕ} (record { told = told result; buffer = out.new })
         (levels_in (book_in book.now) k limit out.old) }
 {
     if k == 0 {
-        return Found::NoNumber;
+        return Err(Unfound::NoNumber);
     }
     if out.len() < shape.rules as usize {
-        return Found::NoRoom;
+        return Err(Unfound::NoRoom);
     }
     let mut rows = [0u64; 3072];
     make_rows(book, shape, &mut rows);
@@ -94,12 +93,10 @@ fn levels_in(book: &[u8], shape: Shape, k: u32, limit: u32, out: &mut [u8]) -> F
 
 // Writes the level of each rule in the k-th reading's colouring to the front of the buffer, or says
 // why not.
-pub fn levels(book: &[u8], k: u32, limit: u32, out: &mut [u8]) -> Found
+pub fn levels(book: &[u8], k: u32, limit: u32, out: &mut [u8]) -> Result<u32, Unfound>
     ensures { ◌≡◌ {A = Answered ℕ} (record { told = told result; buffer = out.new })
         (levels_of book.now k limit out.old) }
 {
-    match read_book(book) {
-        Read::Refused(why) => Found::Book(why),
-        Read::Good(shape) => levels_in(book, shape, k, limit, out),
-    }
+    let shape = read_book(book)?;
+    levels_in(book, shape, k, limit, out)
 }

@@ -6,19 +6,19 @@ ghost use Rattle.book.specs.Format.{book_in, ReadAs};
 ghost use Rattle.book.specs.RuleRows.{RuleRows};
 ghost use Rattle.walk.specs.Events.{events};
 ghost use Rattle.walk.specs.Run.{State, run};
+ghost use Rattle.walk.specs.declared.kth.Unfound.TheVariants.{Book};
 ghost use Rattle.walk.specs.Find.{told, told_by, start_of, find_of};
 
 use crate::origin::tell_clash;
 use crate::tally::{Halt, Tally};
 use crate::walk::walk;
-use book::{Read, Refusal, Shape, make_rows, read_book};
+use book::{Refusal, Shape, make_rows, read_book};
 use closing::Choice;
 use meaning::{Colouring, RuleNo};
 
+// Why no reading is given.
 #[derive(Clone, Copy)]
-pub enum Found {
-    // The k-th reading stands in the buffer; so many tries were made.
-    Set(u32),
+pub enum Unfound {
     // 11: fewer than k readings: all tries, all readings, and the rule of the last contradictory
     // try, 255 if there was none.
     Fewer(u32, u32, RuleNo),
@@ -32,6 +32,14 @@ pub enum Found {
     NoNumber,
     // 16: the list of shown atoms is out of range or out of order.
     NoList,
+}
+
+impl From<Refusal> for Unfound {
+    ghost from_gives = { λ w r. r ≡ Book w };
+
+    fn from(w: Refusal) -> Unfound {
+        Unfound::Book(w)
+    }
 }
 
 // Walks to the k-th reading of a good book and writes it, by the rows that are lent.
@@ -49,12 +57,6 @@ pub fn kth_by(
         (run (book_in book.now) (record { pass = k - 1; room = 1; limit = limit })
         (start_of answer.old) (events (book_in book.now) nothing)) }
 {
-    let start = Tally {
-        tries: 0,
-        sets: 0,
-        clash: RuleNo(255),
-        halt: Halt::Going,
-    };
     let mut origin = [0u64; 8];
     let t = walk(
         book,
@@ -65,7 +67,7 @@ pub fn kth_by(
         k - 1,
         1,
         limit,
-        start,
+        Tally::START,
         &mut origin,
         answer,
     );
@@ -96,33 +98,30 @@ pub fn first(book: &[u8], shape: Shape, limit: u32, row: &mut [u8; Colouring::AT
 }
 
 // What a call's tally tells.
-pub fn tell(t: Tally, limit: u32) -> Found
+pub fn tell(t: Tally, limit: u32) -> Result<u32, Unfound>
     ensures { told result ≡ told_by t.halt (record { tally = t; out = [] }) limit }
 {
     let halt = t.halt;
     let rule = t.clash;
     match halt {
-        Halt::Going => Found::Fewer(t.tries, t.sets, rule),
-        Halt::Full => Found::Set(t.tries),
-        Halt::Limit => Found::Stopped(limit),
+        Halt::Going => Err(Unfound::Fewer(t.tries, t.sets, rule)),
+        Halt::Full => Ok(t.tries),
+        Halt::Limit => Err(Unfound::Stopped(limit)),
     }
 }
 
-// Writes the k-th reading's row to the front of the answer buffer, or says why not.
-pub fn find(book: &[u8], k: u32, limit: u32, answer: &mut [u8]) -> Found
+// Writes the k-th reading's row to the front of the answer buffer and tells the tries, or says why
+// not.
+pub fn find(book: &[u8], k: u32, limit: u32, answer: &mut [u8]) -> Result<u32, Unfound>
     ensures { ◌≡◌ {A = Answered ℕ} (record { told = told result; buffer = answer.new })
         (find_of book.now k limit answer.old) }
 {
-    match read_book(book) {
-        Read::Refused(why) => Found::Book(why),
-        Read::Good(shape) => {
-            if k == 0 {
-                return Found::NoNumber;
-            }
-            if answer.len() < shape.atoms as usize {
-                return Found::NoRoom;
-            }
-            tell(kth(book, shape, k, limit, answer), limit)
-        }
+    let shape = read_book(book)?;
+    if k == 0 {
+        return Err(Unfound::NoNumber);
     }
+    if answer.len() < shape.atoms as usize {
+        return Err(Unfound::NoRoom);
+    }
+    tell(kth(book, shape, k, limit, answer), limit)
 }

@@ -9,7 +9,7 @@ ghost use Rattle.walk.specs.Origin.{origin_in, told_clash};
 use crate::memory::{keep, words_at};
 use crate::tally::Tally;
 use book::Shape;
-use closing::{Picked, close};
+use closing::close;
 use meaning::{Bits, Colouring};
 
 // Keeps the two sets over those of the try before.
@@ -39,15 +39,8 @@ pub fn tell_clash(
     c.on = words_at(origin, 0);
     c.off = words_at(origin, 1);
     let closed = close(book, shape, rows, c);
-    let clash = closed.clash;
-    let Picked::Rule(r) = clash else {
+    let Some(r) = closed.clash else {
         return t;
     };
-    let halt = t.halt;
-    Tally {
-        tries: t.tries,
-        sets: t.sets,
-        clash: r,
-        halt,
-    }
+    Tally { clash: r, ..t }
 }

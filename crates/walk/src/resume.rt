@@ -21,7 +21,7 @@ use crate::colours::lowest_uncoloured;
 use crate::tally::Tally;
 use crate::walk::walk;
 use book::{Shape, negatives, positives};
-use closing::{Choice, Picked, close_or_clash};
+use closing::{Choice, close_or_clash};
 use meaning::{AtomNo, Colouring, RuleNo};
 
 // Both say yes, or both say no.
@@ -87,12 +87,11 @@ pub fn resume(
         (rest (book_in book.now) (taken choice (written c)) (set_in last.now))) }
 {
     let closed = close_or_clash(book, shape, rows, c, choice);
-    let clash = closed.clash;
-    if let Picked::Rule(_) = clash {
+    if closed.clash.is_some() {
         return t;
     }
     let d = closed.colours;
-    let Picked::Rule(r) = lowest_uncoloured(shape.rules, d.on, d.off) else {
+    let Some(r) = lowest_uncoloured(shape.rules, d.on, d.off) else {
         return t;
     };
     if !generates(book, shape, r, last) {

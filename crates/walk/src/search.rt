@@ -16,7 +16,7 @@ use crate::colours::lowest_uncoloured;
 use crate::part::is_lost_in;
 use crate::verdict::Verdict;
 use book::Shape;
-use closing::{Choice, Picked, close_or_clash};
+use closing::{Choice, close_or_clash};
 use meaning::{Bits, Colouring};
 
 // The two sets hold the same of the first `rules` rules.
@@ -49,15 +49,14 @@ pub fn first_alike(
         (taken choice (written c)) result }
 {
     let closed = close_or_clash(book, shape, rows, c, choice);
-    let clash = closed.clash;
-    if let Picked::Rule(_) = clash {
+    if closed.clash.is_some() {
         return Verdict::Nobody;
     }
     let d = closed.colours;
     if is_lost_in(rows, inside, d.off) {
         return Verdict::Nobody;
     }
-    let Picked::Rule(r) = lowest_uncoloured(shape.rules, d.on, d.off) else {
+    let Some(r) = lowest_uncoloured(shape.rules, d.on, d.off) else {
         if same_rules(shape.rules, on, d.on) {
             return Verdict::This;
         }

@@ -8,14 +8,14 @@ ghost use Rattle.walk.specs.Find.{told, start_of};
 ghost use Rattle.walk.specs.Shown.{shown_events};
 ghost use Rattle.walk.specs.FindShown.{good_list, find_shown_of};
 
-use crate::kth::{Found, tell};
+use crate::kth::{Unfound, tell};
 use crate::list::{is_good_list, mask_of};
 use crate::origin::tell_clash;
-use crate::tally::{Halt, Tally};
+use crate::tally::Tally;
 use crate::walk::walk_shown;
-use book::{Read, Shape, make_rows, read_book};
+use book::{Shape, make_rows, read_book};
 use closing::Choice;
-use meaning::{Colouring, RuleNo};
+use meaning::Colouring;
 
 // Walks to the k-th reading of a good book and writes it. A list of all atoms needs no search: no
 // two readings match on it. The memory has room for 256 readings.
@@ -34,12 +34,6 @@ fn kth_shown(
         (start_of answer.old)
         (shown_events (book_in book.now) (map atom_no shown.now))) }
 {
-    let start = Tally {
-        tries: 0,
-        sets: 0,
-        clash: RuleNo(255),
-        halt: Halt::Going,
-    };
     let mut rows = [0u64; 3072];
     make_rows(book, shape, &mut rows);
     let mask = mask_of(shown);
@@ -58,7 +52,7 @@ fn kth_shown(
         k - 1,
         1,
         limit,
-        start,
+        Tally::START,
         &mut origin,
         &mut seen,
         answer,
@@ -68,23 +62,25 @@ fn kth_shown(
 
 // Writes the k-th reading's row to the front of the answer buffer, or says why not. Readings that
 // match on every atom of the list count as one, the first of them.
-pub fn find_shown(book: &[u8], k: u32, limit: u32, shown: &[u8], answer: &mut [u8]) -> Found
+pub fn find_shown(
+    book: &[u8],
+    k: u32,
+    limit: u32,
+    shown: &[u8],
+    answer: &mut [u8],
+) -> Result<u32, Unfound>
     ensures { ◌≡◌ {A = Answered ℕ} (record { told = told result; buffer = answer.new })
         (find_shown_of book.now k limit shown.now answer.old) }
 {
-    match read_book(book) {
-        Read::Refused(why) => Found::Book(why),
-        Read::Good(shape) => {
-            if k == 0 {
-                return Found::NoNumber;
-            }
-            if !is_good_list(shown, shape.atoms) {
-                return Found::NoList;
-            }
-            if answer.len() < shape.atoms as usize {
-                return Found::NoRoom;
-            }
-            tell(kth_shown(book, shape, k, limit, shown, answer), limit)
-        }
+    let shape = read_book(book)?;
+    if k == 0 {
+        return Err(Unfound::NoNumber);
     }
+    if !is_good_list(shown, shape.atoms) {
+        return Err(Unfound::NoList);
+    }
+    if answer.len() < shape.atoms as usize {
+        return Err(Unfound::NoRoom);
+    }
+    tell(kth_shown(book, shape, k, limit, shown, answer), limit)
 }

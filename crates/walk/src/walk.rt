@@ -19,7 +19,7 @@ use crate::met::meet;
 use crate::origin::keep_origin;
 use crate::tally::{Halt, Tally};
 use book::Shape;
-use closing::{Choice, Picked, close_or_clash};
+use closing::{Choice, close_or_clash};
 use meaning::{Colouring, RuleNo};
 
 // Walks on from the colouring c with the choice taken: one try, and after it first with a rule on,
@@ -64,22 +64,15 @@ pub fn walk_shown(
         return t;
     };
     if limit <= t.tries {
-        let clash = t.clash;
-        return Tally {
-            tries: t.tries,
-            sets: t.sets,
-            clash,
-            halt: Halt::Limit,
-        };
+        return t.stopped();
     }
     let closed = close_or_clash(book, shape, rows, c, choice);
-    let clash = closed.clash;
     let d = closed.colours;
-    if let Picked::Rule(_) = clash {
+    if closed.clash.is_some() {
         keep_origin(d.on, d.off, origin);
         return t.clashed(RuleNo(0));
     }
-    let Picked::Rule(r) = lowest_uncoloured(shape.rules, d.on, d.off) else {
+    let Some(r) = lowest_uncoloured(shape.rules, d.on, d.off) else {
         if !does_count(book, shape, rows, d.on, every, mask, t.sets, seen) {
             return t.tried(t.sets, Halt::Going);
         }

@@ -3,6 +3,7 @@ pub mod Words
 pub mod Names
 pub mod Terms
 pub mod Places
+pub mod Dues
 pub mod Able
 pub mod Lined
 pub mod Opens

@@ -6,6 +6,7 @@ use mathlib.Core.List.{List, [], ◌∷◌, ◌++◌, append-nil}
 use Prim.Native.Nat.{ℕ, ◌+◌, ◌<◌, ◌≤◌}
 use native.Mathlib.Omega.{arith}
 use lib.ListN.{length, get_or}
+use Rattle.std.specs.Prelude.{Ok, Err}
 use Rattle.meaning.specs.Books.{Rule}
 use Rattle.meaning.proofs.Choice.{lt_yes, lt_no, lt-either}
 use Rattle.meaning.proofs.Tests.{true-and-false}
@@ -17,15 +18,14 @@ use Rattle.words.specs.declared.due.Ended.{Ended}
 use Rattle.words.specs.declared.due.Ended.TheVariants.{Nothing as Blank, Rule as Closes, Missing}
 use Rattle.words.specs.declared.decision.Act.{Act}
 use Rattle.words.specs.declared.decision.Act.TheVariants.{Nothing, Fix, Note, Stand}
-use Rattle.words.specs.declared.decision.Decision.{Decision}
-use Rattle.words.specs.declared.decision.Decision.TheVariants.{Goes as MayGo, Form as BadForm, Name as BadName, TooMany as OneTooMany}
+use Rattle.words.specs.declared.decision.Misplaced.TheVariants.{Form as BadForm, Name as BadName, TooMany as OneTooMany}
 use Rattle.words.specs.declared.step.Fate.{Fate}
 use Rattle.words.specs.declared.step.Fate.TheVariants.{Goes, Done, Form, Name, TooMany}
 use Rattle.words.specs.declared.step.Reading.{Reading}
 use Rattle.words.specs.Words.{start_of, end_of, Word, between, word_at}
 use Rattle.words.specs.Names.{no_word}
 use Rattle.words.specs.Moves.{ended_of}
-use Rattle.words.specs.Reading.{State, known, done, goes, wrong, on_decision, decision_of, next_line, open_rule, on_ended, on_piece, and_then, follow_at, heard, book_of, start}
+use Rattle.words.specs.Reading.{Decision, State, known, done, goes, wrong, on_decision, decision_of, next_line, open_rule, on_ended, on_piece, and_then, follow_at, heard, book_of, start}
 use Rattle.words.specs.Progress.{known_of, reading_of, Able, known_by, weighed, acted, halted, on_weighed, worded, closed_by, next_at, lined_by, Lined, goes_on, Good, InText, Holds, Along, going, whole, form, name, many}
 use Rattle.words.proofs.Words.{start-late}
 use Rattle.words.proofs.Able.{weighed-able}
@@ -151,7 +151,7 @@ module _ (text : List ℕ) (r : Reading) (draft : List ℕ) (o : OnWay text r dr
     by-decision : (n : Reading) (d : Decision) → decision_of w.bytes s ≡ d → n ≡ on_weighed d r i j
         → and_then (on_decision d w s) (follow_at text j) ≡ heard text → Turned text r.at n draft
     unfolding on_weighed on_decision and_then
-    by-decision n (MayGo due act) e g k =
+    by-decision n (Ok (due, act)) e g k =
         let (a, b, c) = word-ahead text r.at i j f in
         let able = weighed-able text w.bytes stood o.holds.good.book.atoms due act
         (weighed-decision text s r.at r.making draft o.holds Goes w.bytes (rules-counted text s _ _ draft o.holds).1 ∙ e) in
@@ -163,9 +163,9 @@ module _ (text : List ℕ) (r : Reading) (draft : List ℕ) (o : OnWay text r dr
           spelled = spelled-done text s w (word_in text r.at i j f) o.holds.spelled due act;
           made = made-done s w due act r.making draft o.holds.made;
         }) k (omega arith)
-    by-decision n BadForm e g k = bad-form text r.at n draft r i g (ap (wrong 40) (sym (word-place text r.at i j f)) ∙ k)
-    by-decision n BadName e g k = bad-name text r.at n draft r i g (ap (wrong 41) (sym (word-place text r.at i j f)) ∙ k)
-    by-decision n OneTooMany e g k = one-too-many text r.at n draft r i g (ap (wrong 42) (sym (word-place text r.at i j f)) ∙ k)
+    by-decision n (Err BadForm) e g k = bad-form text r.at n draft r i g (ap (wrong 40) (sym (word-place text r.at i j f)) ∙ k)
+    by-decision n (Err BadName) e g k = bad-name text r.at n draft r i g (ap (wrong 41) (sym (word-place text r.at i j f)) ∙ k)
+    by-decision n (Err OneTooMany) e g k = one-too-many text r.at n draft r i g (ap (wrong 42) (sym (word-place text r.at i j f)) ∙ k)
 
     pub word-turn : (n : Reading) → n ≡ worded text r i j → Turned text r.at n draft
     unfolding on_piece

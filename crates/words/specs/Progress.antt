@@ -12,7 +12,7 @@
 --   InText s w               the word stands in the text at its place
 --   Holds text s at m d      the state is good, its names stand in the text, and its rules were made
 --   Along text r draft       reading goes on, is done or was refused as the text says
-use Rattle.std.specs.Prelude.{◌≡◌, Bool, true, false, List, [], ◌∷◌, ℕ, ◌+◌, ◌≤◌, ◌<◌, leb, length, get_or, set}
+use Rattle.std.specs.Prelude.{◌≡◌, Bool, true, false, List, [], ◌∷◌, ℕ, ◌+◌, ◌≤◌, ◌<◌, leb, length, get_or, set, Ok, Err}
 use Prim.{Unit}
 use Rattle.meaning.specs.Choice.{if_lt}
 use Rattle.meaning.specs.Books.{Rule}
@@ -27,8 +27,7 @@ use Rattle.words.specs.declared.known.Known.{Known}
 use Rattle.words.specs.declared.opened.Open.{Open}
 use Rattle.words.specs.declared.decision.Act.{Act}
 use Rattle.words.specs.declared.decision.Act.TheVariants.{Nothing, Fix, Note, Stand}
-use Rattle.words.specs.declared.decision.Decision.{Decision}
-use Rattle.words.specs.declared.decision.Decision.TheVariants.{Goes as MayGo, Form as BadForm, Name as BadName, TooMany as OneTooMany}
+use Rattle.words.specs.declared.decision.Misplaced.TheVariants.{Form as BadForm, Name as BadName, TooMany as OneTooMany}
 use Rattle.words.specs.declared.step.Fate.{Fate}
 use Rattle.words.specs.declared.step.Fate.TheVariants.{Goes, Done, Form, Name, TooMany}
 use Rattle.words.specs.declared.step.Reading.{Reading}
@@ -36,7 +35,7 @@ use Rattle.words.specs.Words.{Word, between}
 use Rattle.words.specs.Names.{no_word, place_of}
 use Rattle.words.specs.Terms.{term_of}
 use Rattle.words.specs.Moves.{rank, move_of, ended_of}
-use Rattle.words.specs.Reading.{State, placed, decided, goes, wrong, follow_at, heard, book_of}
+use Rattle.words.specs.Reading.{Decision, State, placed, decided, goes, wrong, follow_at, heard, book_of}
 use Rattle.words.specs.Make.{filled, starts_of, ends_of}
 
 abbrev pub known_of : List Word → Known
@@ -90,10 +89,10 @@ halted r fate = record {
 }
 
 unfoldable pub on_weighed : Decision → Reading → ℕ → ℕ → Reading
-on_weighed (MayGo due act) r from to = acted r due act from to
-on_weighed BadForm r from to = halted r (Form from)
-on_weighed BadName r from to = halted r (Name from)
-on_weighed OneTooMany r from to = halted r (TooMany from)
+on_weighed (Ok (due, act)) r from to = acted r due act from to
+on_weighed (Err BadForm) r from to = halted r (Form from)
+on_weighed (Err BadName) r from to = halted r (Name from)
+on_weighed (Err OneTooMany) r from to = halted r (TooMany from)
 
 abbrev pub worded : List ℕ → Reading → ℕ → ℕ → Reading
 worded text r from to = on_weighed (weighed text (between text from to) r) r from to

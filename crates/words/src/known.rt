@@ -2,7 +2,6 @@
 ghost use Rattle.std.specs.Prelude.{◌≡◌, ◌+◌, ◌≤◌, ◌<◌, set};
 ghost use Rattle.words.specs.Names.{is_between, place_of, whose_of};
 
-use crate::answer::Whose;
 use crate::term::is_same;
 use meaning::AtomNo;
 
@@ -39,12 +38,10 @@ pub fn number_of<'a>(
     ensures { (result ≡ place_of text.now n from.now to.now
         word.now) × (result ≤ n) }
 {
-    let mut i = 0;
-    while i < n {
+    for i in 0..n {
         if stands_between(text, from[i], to[i], word) {
             return i;
         }
-        i += 1;
     }
     n
 }
@@ -85,14 +82,14 @@ pub fn atom_named<'a>(
     from: &'a [usize; 255],
     to: &'a [usize; 255],
     word: &'a [u8],
-) -> Whose
+) -> Option<AtomNo>
     ensures { result ≡ whose_of text.now atoms from.now to.now
         word.now }
 {
     let n = atoms as usize;
     let i = number_of(text, n, from, to, word);
     if i < n {
-        return Whose::Atom(AtomNo(i as u8));
+        return Some(AtomNo(i as u8));
     }
-    Whose::Nothing
+    None
 }

@@ -7,7 +7,7 @@ ghost use Rattle.words.specs.Reading.{start};
 ghost use Rattle.words.specs.Make.{told_book, Answer, make_of};
 ghost use Rattle.words.specs.Progress.{reading_of, goes_on, Along};
 
-use crate::answer::Worded;
+use crate::answer::Unworded;
 use crate::due::Due;
 use crate::known::Known;
 use crate::opened::Open;
@@ -61,7 +61,12 @@ fn read_text(text: &[u8], draft: &mut [u8; BOOK_BYTES]) -> Reading
 
 // Writes the book of the text to the front of the buffer, and where each atom's name starts and ends
 // to the other two; or says why not.
-pub fn make(text: &[u8], out: &mut [u8], from: &mut [usize; 255], to: &mut [usize; 255]) -> Worded
+pub fn make(
+    text: &[u8],
+    out: &mut [u8],
+    from: &mut [usize; 255],
+    to: &mut [usize; 255],
+) -> Result<usize, Unworded>
     ensures { ◌≡◌ {A = Answer} (record {
       told = told_book result;
       book = out.new;
@@ -77,21 +82,21 @@ pub fn make(text: &[u8], out: &mut [u8], from: &mut [usize; 255], to: &mut [usiz
     let making = r.making;
     match fate {
         // Never: reading is over.
-        Fate::Goes => Worded::NoRoom,
-        Fate::Form(place) => Worded::Form(place),
-        Fate::Name(place) => Worded::Name(place),
-        Fate::TooMany(place) => Worded::TooMany(place),
+        Fate::Goes => Err(Unworded::NoRoom),
+        Fate::Form(place) => Err(Unworded::Form(place)),
+        Fate::Name(place) => Err(Unworded::Name(place)),
+        Fate::TooMany(place) => Err(Unworded::TooMany(place)),
         Fate::Done => {
             let n = finish_book(&mut draft, making, names.count as u8);
             if out.len() < n {
-                return Worded::NoRoom;
+                return Err(Unworded::NoRoom);
             }
             copy_front(&draft[0..n], out);
             let starts = names.from;
             let ends = names.to;
             *from = starts;
             *to = ends;
-            Worded::Book(n)
+            Ok(n)
         }
     }
 }

@@ -35,30 +35,12 @@ fn column_behind(n: usize, x: u8) -> usize
 pub fn line_of(text: &[u8], place: usize) -> usize
     ensures { result ≡ line_in text.now place }
 {
-    let mut n = 1;
-    let mut i = 0;
-    while i < text.len() {
-        if i == place {
-            return n;
-        }
-        n = line_behind(n, text[i]);
-        i += 1;
-    }
-    n
+    text.iter().take(place).fold(1, |n, x| line_behind(n, *x))
 }
 
 // The column of a place, counted from 1.
 pub fn column_of(text: &[u8], place: usize) -> usize
     ensures { result ≡ column_in text.now place }
 {
-    let mut n = 1;
-    let mut i = 0;
-    while i < text.len() {
-        if i == place {
-            return n;
-        }
-        n = column_behind(n, text[i]);
-        i += 1;
-    }
-    n
+    text.iter().take(place).fold(1, |n, x| column_behind(n, *x))
 }

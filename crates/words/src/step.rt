@@ -16,7 +16,7 @@ ghost use Rattle.words.specs.Progress.{
   Along,
 };
 
-use crate::decision::{Act, Decision, decide};
+use crate::decision::{Act, Misplaced, decide};
 use crate::due::{Due, Ended, end_line, move_of};
 use crate::known::{Known, note, number_of};
 use crate::opened::{Open, place};
@@ -60,7 +60,7 @@ pub fn goes_on(fate: Fate) -> bool
 }
 
 // Whether the word may stand there.
-fn weigh<'a>(text: &'a [u8], word: &'a [u8], r: Reading) -> Decision
+fn weigh<'a>(text: &'a [u8], word: &'a [u8], r: Reading) -> Result<(Due, Act), Misplaced>
     requires { r.names.count ≤ 255 }
     ensures { result ≡ weighed text.now word.now r }
 {
@@ -159,10 +159,10 @@ fn take_word(text: &[u8], r: Reading, from: usize, to: usize) -> Reading
     ensures { result ≡ worded text.now r from to }
 {
     match weigh(text, &text[from..to], r) {
-        Decision::Goes(due, act) => take(r, due, act, from, to),
-        Decision::Form => stop(r, Fate::Form(from)),
-        Decision::Name => stop(r, Fate::Name(from)),
-        Decision::TooMany => stop(r, Fate::TooMany(from)),
+        Ok((due, act)) => take(r, due, act, from, to),
+        Err(Misplaced::Form) => stop(r, Fate::Form(from)),
+        Err(Misplaced::Name) => stop(r, Fate::Name(from)),
+        Err(Misplaced::TooMany) => stop(r, Fate::TooMany(from)),
     }
 }
 

@@ -55,14 +55,7 @@ fn is_name_byte(x: u8) -> bool
 fn are_name_bytes(word: &[u8]) -> bool
     ensures { result ≡ every name_byte word.now }
 {
-    let mut i = 0;
-    while i < word.len() {
-        if !is_name_byte(word[i]) {
-            return false;
-        }
-        i += 1;
-    }
-    true
+    word.iter().all(|x| is_name_byte(*x))
 }
 
 // 1 to 64 bytes of a name, no digit first.

@@ -40,14 +40,12 @@ fn start_of(text: &[u8], at: usize) -> usize
     requires { at ≤ length text.now }
     ensures { (result ≡ start_of text.now at) × (result ≤ length text.now) }
 {
-    let mut i = at;
-    while i < text.len() {
+    for i in at..text.len() {
         if !is_blank(text[i]) {
             return i;
         }
-        i += 1;
     }
-    i
+    text.len()
 }
 
 // Where the word that starts there ends.
@@ -55,14 +53,12 @@ fn end_of(text: &[u8], start: usize) -> usize
     requires { start ≤ length text.now }
     ensures { (result ≡ end_of text.now start) × (result ≤ length text.now) }
 {
-    let mut i = start;
-    while i < text.len() {
+    for i in start..text.len() {
         if is_parting(text[i]) {
             return i;
         }
-        i += 1;
     }
-    i
+    text.len()
 }
 
 // The next word or line's end, from `at` on.

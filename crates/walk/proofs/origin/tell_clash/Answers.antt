@@ -18,4 +18,4 @@ returns-in_default c =
 pub returns : goal.returns
 returns c =
     told-rule _ _ _ c.if-rule.false (origin-read _ _ _ c.empty-c.ensures c.words_at-c.ensures c.words_at-c-2.ensures refl) _
-    c.close-closed.ensures.1 c.in-Rule.is
+    c.close-closed.ensures.1 c.in-Some.is

@@ -3,12 +3,12 @@ use mathlib.Core.Path.{ap, sym, ◌∙◌}
 use Rattle.words.specs.Reading.{decided}
 use Rattle.words.proofs.decision.decide.Goals as goal
 
-pub returns-in-Goes : goal.returns-in-Goes
+pub returns-in-Some : goal.returns-in-Some
 unfolding decided
-returns-in-Goes c =
+returns-in-Some c =
     let a = c.args in
-    c.on_said.ensures ∙ sym (ap (λ x. decided x a.fixed a.rules a.count a.a a.rule) c.in-Goes.is)
+    c.on_said.ensures ∙ sym (ap (λ x. decided x a.fixed a.rules a.count a.a a.rule) c.in-Some.is)
 
-pub returns-in-Wrong : goal.returns-in-Wrong
+pub returns-in-None : goal.returns-in-None
 unfolding decided
-returns-in-Wrong c = let a = c.args in sym (ap (λ x. decided x a.fixed a.rules a.count a.a a.rule) c.in-Wrong.is)
+returns-in-None c = let a = c.args in sym (ap (λ x. decided x a.fixed a.rules a.count a.a a.rule) c.in-None.is)

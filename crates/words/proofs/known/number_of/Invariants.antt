@@ -5,6 +5,3 @@ use Rattle.words.proofs.known.number_of.Given as goal
 
 abbrev pub invariant-loop-i : goal.invariant-loop-i
 invariant-loop-i l = (l.i ≤ l.n) × (l.n ≤ 255) × (place_of l.text l.n l.from l.to l.word ≡ first_from l.i (l.n - l.i) (is_spelled l.text l.from l.to l.word))
-
-abbrev pub decreases-loop-i : goal.decreases-loop-i
-decreases-loop-i l = l.n - l.i

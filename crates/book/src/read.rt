@@ -1,0 +1,115 @@
+// A book that was read as good: its bytes and its shape belong together, and with them goes that they do.
+// It hands out its rules in place, and nothing is checked again.
+ghost use Rattle.std.specs.Prelude.{◌≡◌, ◌&&◌, ◌<◌, IfOk};
+ghost use Rattle.meaning.specs.Sets.{every, some};
+ghost use Rattle.meaning.specs.Books.{rule};
+ghost use Rattle.meaning.specs.Bits.{listed};
+ghost use Rattle.meaning.specs.Written.{of};
+ghost use Rattle.meaning.specs.Colours.{heads, all_in};
+ghost use Rattle.book.specs.Numbers.{told};
+ghost use Rattle.book.specs.Format.{read_of, told_of, ReadAs};
+ghost use Rattle.book.specs.Writing.{atom_bytes};
+ghost use Rattle.book.specs.Tables.{atoms_in, atom_table};
+
+use crate::conditions::{goes_on, is_blocked, is_starved};
+use crate::reader::{Shape, read_book};
+use crate::refusal::Refusal;
+use crate::rules::{head, negatives, positives};
+use crate::tables::{heads_of, lost_in};
+use meaning::{AtomNo, Colouring, RuleNo};
+
+#[derive(Clone, Copy)]
+pub struct ReadBook<'a> {
+    pub bytes: &'a [u8],
+    pub shape: Shape,
+    ghost read_as: { ReadAs bytes.now shape },
+    ghost small: { (shape.atoms < 256) × (shape.rules < 256) },
+}
+
+impl<'a> ReadBook<'a> {
+    ghost use Rattle.book.specs.ReadBook.{the_book, shape_in};
+
+    // The book, if the bytes are a good one; else the first thing that is wrong.
+    pub fn read(bytes: &'a [u8]) -> Result<ReadBook<'a>, Refusal>
+        ensures tells { told (shape_in result) ≡ told_of (read_of bytes.now) }
+        ensures bytes { IfOk result (λ b. b.bytes.now ≡ bytes.now) }
+    {
+        let shape = read_book(bytes)?;
+        Ok(ReadBook { bytes, shape })
+    }
+
+    // The head of rule r.
+    pub fn head(&self, r: RuleNo) -> AtomNo
+        requires { r.0 < self.now.shape.rules }
+        ensures { result ≡ (rule (the_book self.now) r).head }
+    {
+        head(self.bytes, self.shape, r)
+    }
+
+    // The positive atoms of rule r, one byte each, as the part of the book that holds them.
+    pub fn positives(&self, r: RuleNo) -> &'a [u8]
+        requires { r.0 < self.now.shape.rules }
+        ensures { result.now ≡ atom_bytes (rule (the_book self.now) r).pos }
+    {
+        positives(self.bytes, self.shape, r)
+    }
+
+    // The negative atoms of rule r, likewise.
+    pub fn negatives(&self, r: RuleNo) -> &'a [u8]
+        requires { r.0 < self.now.shape.rules }
+        ensures { result.now ≡ atom_bytes (rule (the_book self.now) r).neg }
+    {
+        negatives(self.bytes, self.shape, r)
+    }
+
+    // The rule goes on: each positive atom is in the one table and each negative atom in the other.
+    pub fn goes_on<'t>(
+        &self,
+        r: RuleNo,
+        headed: &'t [bool; Colouring::ATOMS],
+        lost: &'t [bool; Colouring::ATOMS],
+    ) -> bool
+        requires { r.0 < self.now.shape.rules }
+        ensures { result ≡
+            (every (atoms_in headed.now) (rule (the_book self.now) r).pos
+            && every (atoms_in lost.now) (rule (the_book self.now) r).neg) }
+    {
+        goes_on(self.bytes, self.shape, r, headed, lost)
+    }
+
+    // The rule goes off: some negative atom is in the table.
+    pub fn is_blocked(&self, r: RuleNo, headed: &[bool; Colouring::ATOMS]) -> bool
+        requires { r.0 < self.now.shape.rules }
+        ensures { result ≡
+            some (atoms_in headed.now) (rule (the_book self.now) r).neg }
+    {
+        is_blocked(self.bytes, self.shape, r, headed)
+    }
+
+    // The rule goes off: some positive atom has all its rules off.
+    pub fn is_starved(&self, r: RuleNo, off: &[u64; 4]) -> bool
+        requires { r.0 < self.now.shape.rules }
+        ensures { result ≡
+            some (all_in (the_book self.now) (of (listed off.now)))
+            (rule (the_book self.now) r).pos }
+    {
+        is_starved(self.bytes, self.shape, r, off)
+    }
+
+    // Writes the heads of the rules of the set over whatever the table held.
+    pub fn heads_of(&self, set: &[u64; 4], out: &mut [bool; Colouring::ATOMS])
+        ensures { out.new ≡
+            atom_table (heads (the_book self.now) (of (listed set.now))) }
+    {
+        heads_of(self.bytes, self.shape, set, out);
+    }
+
+    // Writes the atoms all of whose rules are in the set over whatever the table held. An atom with no
+    // rule counts.
+    pub fn lost_in(&self, set: &[u64; 4], out: &mut [bool; Colouring::ATOMS])
+        ensures { out.new ≡
+            atom_table (all_in (the_book self.now) (of (listed set.now))) }
+    {
+        lost_in(self.bytes, self.shape, set, out);
+    }
+}
