@@ -8,7 +8,7 @@ ghost use Rattle.book.specs.Format.{book_in, ReadAs};
 ghost use Rattle.counting.specs.Count.{told, count_in, count_of};
 ghost use Rattle.counting.specs.SoFar.{SoFar, Comes};
 
-use crate::answer::Counted;
+use crate::answer::Uncounted;
 use crate::column::add_page;
 use crate::places::{copy_counts, keep_row};
 use book::{Read, Shape, read_book};
@@ -75,7 +75,7 @@ fn count_page(
 }
 
 // Counts a good book. The lent array is written where all pages are counted.
-fn count_in(book: &[u8], shape: Shape, limit: u32, counts: &mut [u32]) -> Counted
+fn count_in(book: &[u8], shape: Shape, limit: u32, counts: &mut [u32]) -> Result<u32, Uncounted>
     requires { ReadAs book.now shape × (length counts.old ≡ 255) }
     ensures { ◌≡◌ {A = Answered ℕ} (record { told = told result; buffer = counts.new })
         (count_in (book_in book.now) limit counts.old) }
@@ -101,21 +101,25 @@ fn count_in(book: &[u8], shape: Shape, limit: u32, counts: &mut [u32]) -> Counte
             }
             Paged::All(met) => {
                 copy_counts(&tallies, atoms, counts);
-                return Counted::Sets(met);
+                return Ok(met);
             }
-            Paged::Limited => return Counted::Stopped(limit),
+            Paged::Limited => return Err(Uncounted::Stopped(limit)),
         }
     }
 }
 
 // Counts the answer sets of the book, and for each atom those that hold it, within so many tries of
-// the whole walk.
-pub fn count(book: &[u8], limit: u32, counts: &mut [u32; Colouring::ATOMS]) -> Counted
+// the whole walk: how many sets there are, and in the array in how many of them each atom stands.
+pub fn count(
+    book: &[u8],
+    limit: u32,
+    counts: &mut [u32; Colouring::ATOMS],
+) -> Result<u32, Uncounted>
     ensures { ◌≡◌ {A = Answered ℕ} (record { told = told result; buffer = counts.new })
         (count_of book.now limit counts.old) }
 {
     match read_book(book) {
-        Read::Refused(why) => Counted::Book(why),
+        Read::Refused(why) => Err(Uncounted::Book(why)),
         Read::Good(shape) => count_in(book, shape, limit, counts),
     }
 }
