@@ -1,6 +1,6 @@
 -- The totals of one book, atom by atom (src/sum.rt), and the turn of a book by what was told of it (src/turn.rt).
 use Rattle.std.proofs.Common.{◌≡◌, ℕ, zero, suc, ◌+◌, ◌%◌, ◌^◌, ◌<◌, ◌≤◌, Bool, true, false, ltb, List, get_or, take, sym, refl, ◌∙◌, ⊎_elim, add-one, arith, le-ltb, lt-ltb}
-use Rattle.std.specs.Prelude.{Result, Err}
+use Rattle.std.specs.Prelude.{Result, Ok, Err}
 use Rattle.meaning.specs.Sets.{Set}
 use Rattle.meaning.specs.Choice.{ifb}
 use Rattle.meaning.specs.Told.{success, Answered}
@@ -8,8 +8,6 @@ use Rattle.meaning.proofs.Tests.{decided}
 use Rattle.meaning.proofs.Choice.{b-either}
 use Rattle.book.specs.declared.refusal.Refusal.{Refusal}
 use Rattle.book.specs.declared.reader.Shape.{Shape}
-use Rattle.book.specs.declared.reader.Read.{Read}
-use Rattle.book.specs.declared.reader.Read.TheVariants.{Good, Refused}
 use Rattle.book.specs.Numbers.{number_of, told as book_told}
 use Rattle.book.specs.Format.{read_of, told_of, book_of, book_in}
 use Rattle.book.proofs.Places.{shape-atoms}
@@ -69,11 +67,11 @@ totals-added t n sets counts e p q r u = rw (p, q, r, u, e)
 
 -- ---- the turn
 
-module _ (s : List ℕ) {x : Read} (e : book_told x ≡ told_of (read_of s)) where
-  pub good-atoms : {h : Shape} → x ≡ Good h → h.atoms ≡ (book_in s).atoms
+module _ (s : List ℕ) {x : Result Shape Refusal} (e : book_told x ≡ told_of (read_of s)) where
+  pub good-atoms : {h : Shape} → x ≡ Ok h → h.atoms ≡ (book_in s).atoms
   good-atoms f = sym (shape-atoms s _ (read_as s e f))
 
-  pub bad-atoms : {f : Refusal} → x ≡ Refused f → 0 ≡ (book_in s).atoms
+  pub bad-atoms : {f : Refusal} → x ≡ Err f → 0 ≡ (book_in s).atoms
   unfolding book_in book_of
   bad-atoms f = sym (rw (read-bad s e f))
 

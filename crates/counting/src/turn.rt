@@ -7,7 +7,7 @@ ghost use Rattle.counting.specs.Table.{Turn as TableTurn, opened_as, row_in, tur
 use crate::answer::Uncounted;
 use crate::pages::count;
 use crate::sum::Totals;
-use book::{Read, read_book};
+use book::read_book;
 use meaning::Colouring;
 
 #[derive(Clone, Copy)]
@@ -33,8 +33,8 @@ fn atoms_of(book: &[u8]) -> u8
     ensures { result ≡ (book_in book.now).atoms }
 {
     match read_book(book) {
-        Read::Good(shape) => shape.atoms,
-        Read::Refused(_) => 0,
+        Ok(shape) => shape.atoms,
+        Err(_) => 0,
     }
 }
 
