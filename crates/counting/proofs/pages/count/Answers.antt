@@ -1,5 +1,5 @@
 -- count keeps its promise: the book refused, or a good one counted.
-use Rattle.std.proofs.Common.{refl, sym, ◌∙◌, rules}
+use Rattle.std.proofs.Common.{refl, sym, ◌∙◌}
 use Rattle.std.proofs.lemmas.Result.{err_from_is_err_and}
 use Rattle.book.specs.Format.{read_of}
 use Rattle.book.proofs.Shapes.{told-good}
