@@ -71,7 +71,11 @@ fn know(names: Known, a: usize, from: usize, to: usize) -> Known
     requires { a < 255 }
     ensures { result ≡ known_by names a from to }
 {
-    if a < names.count { names } else { note(names, from, to) }
+    if a < names.count {
+        names
+    } else {
+        note(names, from, to)
+    }
 }
 
 // What is done with a word that may stand there.

@@ -61,6 +61,7 @@ fn plain_term(word: &[u8]) -> Term
     }
 }
 
+#[tactic(auto, unfolding(crate::specs::Terms::term_of, meaning::specs::Choice::ifb))]
 pub fn term_of(word: &[u8]) -> Term
     ensures { result ≡ term_of word.now }
 {

@@ -13,4 +13,3 @@ know-requires c =
 pub place-requires : goal.place-requires
 place-requires c =
     able-stand _ _ _ _ c.in-Stand.is c.requires
-
