@@ -8,7 +8,6 @@ use native.Mathlib.Omega.{arith}
 use Rattle.meaning.specs.Colours.{Under}
 use Rattle.meaning.specs.Bits.{listed}
 use Rattle.meaning.specs.Written.{of, coloured, lent}
-use Rattle.meaning.specs.Propagation.{Propagated}
 use Rattle.meaning.specs.Suspects.{Settled}
 use Rattle.book.specs.Format.{book_in}
 use Rattle.book.proofs.Places.{shape-count}
@@ -43,8 +42,8 @@ propagate_dropped-requires c =
     let l = c.loop-old in
     let off = c.drop_suspects.new.off in
     let above = dropped-above _ (good-few (good-book c.args.rowed.now.book)) (of (listed l.off)) (of (listed off)) c.drop_suspects.ensures.0.gone in (
-      subst (λ (v : List ℕ). Propagated (book_in c.args.rowed.now.book.bytes.now) (lent (listed l.on) (listed v))) (sym c.whole-was.ensures) l.invariant.1,
-      subst (λ (v : List ℕ). Under (book_in c.args.rowed.now.book.bytes.now) (of (listed v)) (of (listed off))) (sym c.whole-was.ensures) above,
+      l.invariant.1,
+      above,
     )
 
 pub loop-old-smaller : goal.loop-old-smaller

@@ -28,7 +28,7 @@ loop-r-preserved c =
 
 pub returns : goal.returns
 returns c =
-    let e = less-listed c.difference-left.result.w _ _ c.args.cand.now c.args.on.now c.difference-left.ensures c.whole.ensures
+    let e = less-listed c.difference.result.w _ _ c.args.cand.now c.args.on.now c.difference.ensures c.whole.ensures
     c.whole-2.ensures in (
       raised-off _ (of (listed c.args.off.now)) (of (listed c.args.cand.now)) _ (of (listed c.args.on.now)) (atom_set c.args.nt.now) e
           (onward-end _ (of (listed c.args.off.now)) _ (of (listed c.args.on.now)) (atom_set c.args.nt.now) _ c.loop-r.r c.loop-r.invariant.1
