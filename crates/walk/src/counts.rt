@@ -40,10 +40,7 @@ fn is_first(
     c.off = off;
     let inside = part.w;
     let verdict = first_alike(book, shape, rows, c, Choice::Nothing, &inside, on);
-    let Verdict::This = verdict else {
-        return false;
-    };
-    true
+    matches!(verdict, Verdict::This)
 }
 
 // The same, asked first of the memory, of which the first n rows are in use.
@@ -116,8 +113,5 @@ pub fn does_count(
         × Remembers every (book_in book.now) (shown_in mask.now) seen.new
         (ifb result (n + 1) n) }
 {
-    if every {
-        return true;
-    }
-    is_new(book, shape, rows, on, mask, n, seen)
+    every || is_new(book, shape, rows, on, mask, n, seen)
 }

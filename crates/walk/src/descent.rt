@@ -26,9 +26,10 @@ fn follow(book: &[u8], shape: Shape, r: RuleNo, row: &[u8]) -> Choice
         choice_of (generating (book_in book.now) (set_in row.now) r) r }
 {
     if generates(book, shape, r, row) {
-        return Choice::On(r);
+        Choice::On(r)
+    } else {
+        Choice::Off(r)
     }
-    Choice::Off(r)
 }
 
 // The closed colouring to which the choices of the row's set lead: one closing a level, and no try.
@@ -58,12 +59,8 @@ fn write_levels(rules: u8, levels: &[u8; Colouring::RULES], out: &mut [u8])
     ensures { out.new ≡
         write_at 0 (take rules levels.now) out.old }
 {
-    let mut i: u8 = 0;
-    while i < rules {
-        let at = i as usize;
-        out[at] = levels[at];
-        i += 1;
-    }
+    let n = rules as usize;
+    out[..n].copy_from_slice(&levels[..n]);
 }
 
 // The same for a good book. The walk's row is its own: the caller's buffer has a byte for each rule.
@@ -82,8 +79,7 @@ fn levels_in(book: &[u8], shape: Shape, k: u32, limit: u32, out: &mut [u8]) -> R
     make_rows(book, shape, &mut rows);
     let mut row = [0u8; Colouring::ATOMS];
     let t = kth_by(book, shape, &rows, k, limit, &mut row);
-    let halt = t.halt;
-    let Halt::Full = halt else {
+    let Halt::Full = t.halt else {
         return tell(t, limit);
     };
     let d = descend(book, shape, &rows, &row);

@@ -101,10 +101,8 @@ pub fn first(book: &[u8], shape: Shape, limit: u32, row: &mut [u8; Colouring::AT
 pub fn tell(t: Tally, limit: u32) -> Result<u32, Unfound>
     ensures { told result ≡ told_by t.halt (record { tally = t; out = [] }) limit }
 {
-    let halt = t.halt;
-    let rule = t.clash;
-    match halt {
-        Halt::Going => Err(Unfound::Fewer(t.tries, t.sets, rule)),
+    match t.halt {
+        Halt::Going => Err(Unfound::Fewer(t.tries, t.sets, t.clash)),
         Halt::Full => Ok(t.tries),
         Halt::Limit => Err(Unfound::Stopped(limit)),
     }

@@ -31,8 +31,7 @@ pub fn tell_clash(
     requires { ReadAs book.now shape × RuleRows (book_in book.now) rows.now }
     ensures { result ≡ told_clash (book_in book.now) origin.now t }
 {
-    let rule = t.clash;
-    if rule.0 == 255 {
+    if t.clash.0 == 255 {
         return t;
     }
     let mut c = Colouring::empty();

@@ -18,17 +18,17 @@ fn rows_in(atoms: u8, bytes: usize) -> usize
     ensures { result ≡ if_eq atoms 0 1 (bytes / atoms) }
 {
     if atoms == 0 {
-        return 1;
+        1
+    } else {
+        bytes / atoms as usize
     }
-    bytes / atoms as usize
 }
 
 // What a call's tally tells.
 fn tell(t: Tally) -> Page
     ensures { told (Ok result) ≡ success (ended_by t.halt (record { tally = t; out = [] })) }
 {
-    let halt = t.halt;
-    match halt {
+    match t.halt {
         Halt::Going => Page::Last(t.tries, t.sets),
         Halt::Full => Page::Whole(t.tries),
         Halt::Limit => Page::Cut(t.sets),

@@ -24,29 +24,12 @@ use book::{Shape, negatives, positives};
 use closing::{Choice, close_or_clash};
 use meaning::{AtomNo, Colouring, RuleNo};
 
-// Both say yes, or both say no.
-fn agrees(one: bool, other: bool) -> bool
-    ensures { result ≡ agree one other }
-{
-    if one {
-        return other;
-    }
-    !other
-}
-
 // Every atom of the part is in the row's set; or, where `inside` is false, none is.
 fn all_so(part: &[u8], row: &[u8], inside: bool) -> bool
     ensures { result ≡
         every (λ a. agree inside (set_in row.now a)) (map atom_no part.now) }
 {
-    let mut i = 0;
-    while i < part.len() {
-        if !agrees(inside, in_row(row, AtomNo(part[i]))) {
-            return false;
-        }
-        i += 1;
-    }
-    true
+    part.iter().all(|a| in_row(row, AtomNo(*a)) == inside)
 }
 
 // The rule is one of those that generate the row's set.
@@ -54,10 +37,7 @@ pub fn generates(book: &[u8], shape: Shape, r: RuleNo, row: &[u8]) -> bool
     requires { ReadAs book.now shape × (r.0 < shape.rules) }
     ensures { result ≡ generating (book_in book.now) (set_in row.now) r }
 {
-    if !all_so(positives(book, shape, r), row, true) {
-        return false;
-    }
-    all_so(negatives(book, shape, r), row, false)
+    all_so(positives(book, shape, r), row, true) && all_so(negatives(book, shape, r), row, false)
 }
 
 // Walks on behind the reading of the last row, from the colouring c with the choice taken.

@@ -25,10 +25,7 @@ pub fn same_rules(rules: u8, one: Bits, other: Bits) -> bool
         every_below rules (λ i. agree (members one.w i) (members other.w i)) }
 {
     let all = Bits::below(rules);
-    if !all.intersection(one).is_within(other) {
-        return false;
-    }
-    all.intersection(other).is_within(one)
+    all.intersection(one).is_within(other) && all.intersection(other).is_within(one)
 }
 
 // The reading has the shown atoms `inside`, and its generating rules are `on`. The search ends

@@ -59,8 +59,7 @@ pub fn walk_shown(
         (events (book_in book.now) (taken choice (written c))))))
         × Remembers every (book_in book.now) (shown_in mask.now) seen.new result.sets }
 {
-    let halt = t.halt;
-    let Halt::Going = halt else {
+    let Halt::Going = t.halt else {
         return t;
     };
     if limit <= t.tries {

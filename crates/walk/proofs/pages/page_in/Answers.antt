@@ -1,7 +1,6 @@
 -- The next page of a good book: no room, the first page by the walk, or a later one by resuming it. Both start with room for their rows.
 use mathlib.Core.Path.{◌∙◌, ap}
 use mathlib.Core.List.{[]}
-use Prim.Native.Nat.{◌<◌}
 use borrow.Author.Rules.{rules}
 use Rattle.walk.proofs.Answering.{page-no-room, page-room, page-first, page-later}
 use Rattle.meaning.specs.Told.{success}

@@ -1,7 +1,6 @@
 -- The walk meets its contract: each return is one way of the laws in Walking, with what the calls on that way said. The measure is the
 -- number of rules without a colour: each side of a fork has fewer.
 use mathlib.Core.Path.{refl, sym, ◌∙◌, ap}
-use native.Mathlib.Omega.{arith}
 use borrow.Author.Rules.{rules}
 use Rattle.meaning.specs.Colours.{on_side, off_side}
 use Rattle.meaning.proofs.Choice.{b-yes, b-no}
