@@ -1,11 +1,11 @@
 // The lines of a text, written into a buffer that has room for them.
 ghost use Rattle.std.specs.Prelude.{◌++◌, map, ◌+◌, ◌≤◌, ◌<◌, length};
 ghost use Rattle.meaning.specs.Books.{atom_no, rule};
-ghost use Rattle.book.specs.Format.{book_in, ReadAs};
+ghost use Rattle.book.specs.ReadBook.{the_book};
 ghost use Rattle.decimal.specs.Fewest.{decimal, Stored};
 ghost use Rattle.aspif.specs.Text.{part_bytes, rule_line, rule_lines, output_line, output_lines};
 
-use book::{Shape, head, negatives, positives, wide};
+use book::{ReadBook, wide};
 use decimal::put_number;
 use meaning::RuleNo;
 
@@ -43,15 +43,15 @@ fn put_part<'a>(part: &'a [u8], sign: &'a [u8], out: &mut [u8], at: usize) -> us
 }
 
 // Writes the line of rule r.
-fn put_rule(book: &[u8], shape: Shape, r: RuleNo, out: &mut [u8], at: usize) -> usize
-    requires { ReadAs book.now shape × (r.0 < shape.rules)
-        × (at + length (rule_line (rule (book_in book.now) r)) ≤ length out.old) }
-    ensures { Stored (rule_line (rule (book_in book.now) r)) at
+fn put_rule(book: &ReadBook, r: RuleNo, out: &mut [u8], at: usize) -> usize
+    requires { (r.0 < book.now.shape.rules)
+        × (at + length (rule_line (rule (the_book book.now) r)) ≤ length out.old) }
+    ensures { Stored (rule_line (rule (the_book book.now) r)) at
         out.old result out.new }
 {
-    let pos = positives(book, shape, r);
-    let neg = negatives(book, shape, r);
-    let headed = put_item(b"1 0 1 ", wide(head(book, shape, r).0) + 1, out, at);
+    let pos = book.positives(r);
+    let neg = book.negatives(r);
+    let headed = put_item(b"1 0 1 ", wide(book.head(r).0) + 1, out, at);
     let counted = put_item(b" 0 ", pos.len() + neg.len(), out, headed);
     let positive = put_part(pos, b" ", out, counted);
     let negative = put_part(neg, b" -", out, positive);
@@ -59,15 +59,14 @@ fn put_rule(book: &[u8], shape: Shape, r: RuleNo, out: &mut [u8], at: usize) -> 
 }
 
 // Writes the lines of all rules.
-pub fn put_rules(book: &[u8], shape: Shape, out: &mut [u8], at: usize) -> usize
-    requires { ReadAs book.now shape
-        × (at + length (rule_lines (book_in book.now).rules) ≤ length out.old) }
-    ensures { Stored (rule_lines (book_in book.now).rules) at
+pub fn put_rules(book: &ReadBook, out: &mut [u8], at: usize) -> usize
+    requires { at + length (rule_lines (the_book book.now).rules) ≤ length out.old }
+    ensures { Stored (rule_lines (the_book book.now).rules) at
         out.old result out.new }
 {
     let mut end = at;
-    for r in 0..shape.rules {
-        end = put_rule(book, shape, RuleNo(r), out, end);
+    for r in 0..book.shape.rules {
+        end = put_rule(book, RuleNo(r), out, end);
     }
     end
 }

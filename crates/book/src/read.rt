@@ -23,6 +23,7 @@ pub struct ReadBook<'a> {
     pub bytes: &'a [u8],
     pub shape: Shape,
     ghost read_as: { ReadAs bytes.now shape },
+    ghost small: { (shape.atoms < 256) × (shape.rules < 256) },
 }
 
 impl<'a> ReadBook<'a> {

@@ -19,13 +19,11 @@ pub fn heads_of(book: &[u8], shape: Shape, set: &[u64; 4], out: &mut [bool; Colo
         atom_table (heads (book_in book.now) (of (listed set.now))) }
 {
     *out = [false; Colouring::ATOMS];
-    let mut r: u8 = 0;
-    while r < shape.rules {
+    for r in 0..shape.rules {
         if has(set, r) {
             let a = wide(head(book, shape, RuleNo(r)).0);
             out[a] = true;
         }
-        r += 1;
     }
 }
 
@@ -37,12 +35,10 @@ pub fn lost_in(book: &[u8], shape: Shape, set: &[u64; 4], out: &mut [bool; Colou
         atom_table (all_in (book_in book.now) (of (listed set.now))) }
 {
     *out = [true; Colouring::ATOMS];
-    let mut r: u8 = 0;
-    while r < shape.rules {
+    for r in 0..shape.rules {
         if !has(set, r) {
             let a = wide(head(book, shape, RuleNo(r)).0);
             out[a] = false;
         }
-        r += 1;
     }
 }

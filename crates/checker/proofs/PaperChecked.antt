@@ -1,6 +1,6 @@
 -- The whole check, one law for each answer: the book's refusals, then the paper's length, mark and trailer, then its steps and its witness.
 -- Each is the definition with the tests before it decided. Document 01, "Numbers given back".
-use mathlib.Core.Path.{◌≡◌, refl, sym, ◌∙◌, ap}
+use mathlib.Core.Path.{◌≡◌, refl, sym, ◌∙◌, ap, subst}
 use mathlib.Core.Bool.{Bool, true, false}
 use mathlib.Core.List.{List}
 use Rattle.std.specs.Prelude.{Result}
@@ -30,7 +30,7 @@ use Rattle.checker.specs.Branches.{Walked, done, BranchTo}
 use Rattle.checker.specs.Witness.{Check, fine, wrong, witness_verdict, grounds_verdict}
 use Rattle.checker.specs.declared.answer.Rejected.{Rejected}
 use Rattle.checker.specs.declared.trailer.Trailer.{Trailer}
-use Rattle.checker.specs.Parts.{EndsAs}
+use Rattle.checker.specs.Parts.{EndFits, EndsAs}
 use Rattle.checker.specs.Check.{witness_told, branch_told, steps_told, stated, trailer_told, marked_told, paper_of, check_read, check_of}
 use Rattle.checker.proofs.Marked.{mark_in}
 
@@ -75,8 +75,12 @@ module _ (b : Book) (k : Claim) (s : List ℕ) (from w : ℕ) where
 
 -- ---- what the last bytes come to
 
-pub ends-told : {b : Book} {s : List ℕ} {x y : Told Claim} {e : Result Trailer Rejected} → EndsAs b s x e → x ≡ y → EndsAs b s y e
-ends-told p q = record { told = p.told ∙ q; fits = p.fits }
+module _ {b : Book} {s : List ℕ} {x : Told Claim} {e : Result Trailer Rejected} (p : EndsAs b s x e) where
+  pub ends-told : {y : Told Claim} → x ≡ y → EndsAs b s y e
+  ends-told q = record { told = p.told ∙ q; fits = p.fits }
+
+  pub ends-fit : {f : Result Trailer Rejected} → e ≡ f → EndFits s f
+  ends-fit q = subst (EndFits s) q p.fits
 
 -- ---- the length, the mark and the trailer
 

@@ -47,10 +47,7 @@ pub fn may_go_off(book: &[u8], shape: Shape, r: RuleNo, on: &[u64; 4]) -> bool
 pub fn is_uncoloured<'a>(r: RuleNo, on: &'a [u64; 4], off: &'a [u64; 4]) -> bool
     ensures { result ≡ uncoloured (lent (listed on.now) (listed off.now)) r }
 {
-    if has(on, r.0) {
-        return false;
-    }
-    !has(off, r.0)
+    !has(on, r.0) && !has(off, r.0)
 }
 
 // Some rule is in both sets.
@@ -67,14 +64,10 @@ pub fn is_head(book: &[u8], shape: Shape, a: AtomNo, set: &[u64; 4]) -> bool
     requires { ReadAs book.now shape }
     ensures { result ≡ heads (book_in book.now) (of (listed set.now)) a }
 {
-    let mut r: u8 = 0;
-    while r < shape.rules {
-        if has(set, r) {
-            if head(book, shape, RuleNo(r)).0 == a.0 {
-                return true;
-            }
+    for r in 0..shape.rules {
+        if has(set, r) && head(book, shape, RuleNo(r)).0 == a.0 {
+            return true;
         }
-        r += 1;
     }
     false
 }
@@ -84,16 +77,8 @@ pub fn is_lost(book: &[u8], shape: Shape, a: AtomNo, set: &[u64; 4]) -> bool
     requires { ReadAs book.now shape }
     ensures { result ≡ all_in (book_in book.now) (of (listed set.now)) a }
 {
-    let mut r: u8 = 0;
-    while r < shape.rules {
-        if !has(set, r) {
-            if head(book, shape, RuleNo(r)).0 == a.0 {
-                return false;
-            }
-        }
-        r += 1;
-    }
-    true
+    let others = Bits::below(shape.rules).difference(whole(set));
+    !is_head(book, shape, a, &others.w)
 }
 
 // The claim is shown: an on rule has the claimed atom as head, or all rules with it as head are off.
@@ -130,8 +115,5 @@ pub fn is_ended<'a>(
     ensures { result ≡
         ended (book_in book.now) claim (lent (listed on.now) (listed off.now)) }
 {
-    if is_clashing(shape.rules, on, off) {
-        return true;
-    }
-    is_shown(book, shape, claim, on, off)
+    is_clashing(shape.rules, on, off) || is_shown(book, shape, claim, on, off)
 }

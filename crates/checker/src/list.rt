@@ -18,17 +18,11 @@ pub fn is_proper(list: &[u8], rules: u8) -> bool
         (ascending list.now && every (λ n. ltb n rules) list.now) }
 {
     let mut least: u8 = 0;
-    let mut i = 0;
-    while i < list.len() {
-        let n = list[i];
-        if rules <= n {
-            return false;
-        }
-        if n < least {
+    for &n in list {
+        if rules <= n || n < least {
             return false;
         }
         least = n + 1;
-        i += 1;
     }
     true
 }
@@ -40,10 +34,8 @@ pub fn with_rules(set: Bits, list: &[u8]) -> Bits
         plus (of (listed set.w)) (map rule_no list.now) }
 {
     let mut w = set.w;
-    let mut i = 0;
-    while i < list.len() {
-        put(&mut w, list[i]);
-        i += 1;
+    for &n in list {
+        put(&mut w, n);
     }
     Bits { w }
 }
@@ -55,12 +47,10 @@ fn each_starves(book: &[u8], shape: Shape, list: &[u8], gone: &[u64; 4]) -> bool
         some (all_in (book_in book.now) (of (listed gone.now)))
         (rule (book_in book.now) r).pos) (map rule_no list.now) }
 {
-    let mut i = 0;
-    while i < list.len() {
-        if !is_starved(book, shape, RuleNo(list[i]), gone) {
+    for &n in list {
+        if !is_starved(book, shape, RuleNo(n), gone) {
             return false;
         }
-        i += 1;
     }
     true
 }

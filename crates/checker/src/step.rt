@@ -52,34 +52,22 @@ fn check_rule_step<'a>(
         paper.now trailer.from at
         (lent (listed on.now) (listed off.now)) result }
 {
+    if trailer.from <= at + 1 || shape.rules <= paper[at + 1] {
+        return Step::Stops(Stop::Form);
+    }
     let code = paper[at];
-    if trailer.from <= at + 1 {
-        return Step::Stops(Stop::Form);
+    let r = RuleNo(paper[at + 1]);
+    let (holds, step) = match code {
+        STEP_ON => (may_go_on(book, shape, r, on, off), Step::On(r)),
+        STEP_OFF => (may_go_off(book, shape, r, on), Step::Off(r)),
+        STEP_SPLIT => (is_uncoloured(r, on, off), Step::Stops(Stop::Split(r))),
+        _ => return Step::Stops(Stop::Form),
+    };
+    if holds {
+        step
+    } else {
+        Step::Stops(Stop::Fails)
     }
-    let n = paper[at + 1];
-    if shape.rules <= n {
-        return Step::Stops(Stop::Form);
-    }
-    let r = RuleNo(n);
-    if code == STEP_ON {
-        if may_go_on(book, shape, r, on, off) {
-            return Step::On(r);
-        }
-        return Step::Stops(Stop::Fails);
-    }
-    if code == STEP_OFF {
-        if may_go_off(book, shape, r, on) {
-            return Step::Off(r);
-        }
-        return Step::Stops(Stop::Fails);
-    }
-    if code == STEP_SPLIT {
-        if is_uncoloured(r, on, off) {
-            return Step::Stops(Stop::Split(r));
-        }
-        return Step::Stops(Stop::Fails);
-    }
-    Step::Stops(Stop::Form)
 }
 
 // A step of code 55. Whatever is on, it asks only of what is off.
@@ -136,16 +124,10 @@ pub fn check_step<'a>(
     if trailer.from <= at {
         return Step::Stops(Stop::Form);
     }
-    let code = paper[at];
-    if code == STEP_UNFOUNDED {
-        return check_list_step(book, shape, paper, trailer, at, off);
+    match paper[at] {
+        STEP_UNFOUNDED => check_list_step(book, shape, paper, trailer, at, off),
+        STEP_END if is_ended(book, shape, trailer.claim, on, off) => Step::Stops(Stop::End),
+        STEP_END => Step::Stops(Stop::Fails),
+        _ => check_rule_step(book, shape, paper, trailer, at, on, off),
     }
-    if code == STEP_END {
-        let claim = trailer.claim;
-        if is_ended(book, shape, claim, on, off) {
-            return Step::Stops(Stop::End);
-        }
-        return Step::Stops(Stop::Fails);
-    }
-    check_rule_step(book, shape, paper, trailer, at, on, off)
 }

@@ -24,21 +24,15 @@ fn check_order(book: &[u8], shape: Shape, list: &[u8], from: usize) -> Result<()
 {
     let mut before = [0u64; 4];
     let mut headed = [false; Colouring::ATOMS];
-    let mut i = 0;
-    while i < list.len() {
-        let n = list[i];
-        if shape.rules <= n {
-            return Err(from + i);
-        }
-        if has(&before, n) {
-            return Err(from + i);
-        }
-        if !every_in(positives(book, shape, RuleNo(n)), &headed) {
+    for (i, &n) in list.iter().enumerate() {
+        if shape.rules <= n
+            || has(&before, n)
+            || !every_in(positives(book, shape, RuleNo(n)), &headed)
+        {
             return Err(from + i);
         }
         put(&mut before, n);
         headed[wide(head(book, shape, RuleNo(n)).0)] = true;
-        i += 1;
     }
     Ok(())
 }
@@ -57,12 +51,10 @@ fn check_unblocked(
         blocked_of (book_in book.now) (atoms_in headed.now) from
         list.now }
 {
-    let mut i = 0;
-    while i < list.len() {
-        if is_blocked(book, shape, RuleNo(list[i]), headed) {
+    for (i, &n) in list.iter().enumerate() {
+        if is_blocked(book, shape, RuleNo(n), headed) {
             return Err(from + i);
         }
-        i += 1;
     }
     Ok(())
 }
@@ -73,10 +65,7 @@ fn fails_in(book: &[u8], shape: Shape, r: RuleNo, headed: &[bool; Colouring::ATO
     ensures { result ≡
         fails (atoms_in headed.now) (rule (book_in book.now) r) }
 {
-    if !every_in(positives(book, shape, r), headed) {
-        return true;
-    }
-    some_in(negatives(book, shape, r), headed)
+    !every_in(positives(book, shape, r), headed) || some_in(negatives(book, shape, r), headed)
 }
 
 // Every rule that is not listed fails.
@@ -86,14 +75,10 @@ fn rest_fails(book: &[u8], shape: Shape, set: &[u64; 4], headed: &[bool; Colouri
         (λ r. of (listed set.now) r
         || fails (atoms_in headed.now) (rule (book_in book.now) r)) }
 {
-    let mut r: u8 = 0;
-    while r < shape.rules {
-        if !has(set, r) {
-            if !fails_in(book, shape, RuleNo(r), headed) {
-                return false;
-            }
+    for r in 0..shape.rules {
+        if !has(set, r) && !fails_in(book, shape, RuleNo(r), headed) {
+            return false;
         }
-        r += 1;
     }
     true
 }

@@ -113,8 +113,9 @@ module _ (s : List ℕ) (h : Shape) (e : ReadAs s h) (out : List ℕ) where
       atoms_are : settled_row h.atoms (listed nt) (listed nl) ≡ atom_row (book_in s) (close (book_in s) nothing)
       unfolding book_in book_of
       atoms_are = rw (← first, shape-atoms s h e) (settled_same 0 h.atoms _ _ _ _ (λ j m. (
-          byte-of nt (headed_by rows d.on.w) (heads (book_in s) (of (listed d.on.w))) p j (omega arith) (headed-by _ rows k d.on.w (atom_no j) (omega arith)),
-          byte-of nl (lost_by rows d.off.w) (all_in (book_in s) (of (listed d.off.w))) q j (omega arith) (lost-by _ rows k d.off.w (atom_no j) (omega arith)))))
+        byte-of nt (headed_by rows d.on.w) (heads (book_in s) (of (listed d.on.w))) p j (omega arith) (headed-by _ rows k d.on.w (atom_no j) (omega arith)),
+        byte-of nl (lost_by rows d.off.w) (all_in (book_in s) (of (listed d.off.w))) q j (omega arith) (lost-by _ rows k d.off.w (atom_no j) (omega arith)),
+      )))
 
       pub settle-told : {u w : List ℕ} → u ≡ write_at 0 (settled_row h.rules (listed d.on.w) (listed d.off.w)) out
           → w ≡ write_at h.rules (settled_row h.atoms (listed nt) (listed nl)) u

@@ -5,13 +5,13 @@ ghost use Rattle.std.specs.Prelude.{◌≡◌, ◌+◌, ◌≤◌, length};
 ghost use Rattle.meaning.specs.Bits.{listed};
 ghost use Rattle.meaning.specs.Told.{Answered};
 ghost use Rattle.meaning.specs.Buffers.{write_at};
-ghost use Rattle.book.specs.Format.{book_in, ReadAs};
+ghost use Rattle.book.specs.ReadBook.{the_book};
 ghost use Rattle.closing.specs.declared.first.Unsettled.TheVariants.{Book};
 ghost use Rattle.closing.specs.Settle.{settled_byte, settled_row, told, settle_in, settle_of};
 
 use crate::close;
 use crate::starting::begin;
-use book::{Refusal, Shape, make_rows, read_book};
+use book::{ReadBook, Refusal, RowedBook};
 use meaning::{Colouring, has};
 
 // Why nothing was settled.
@@ -56,25 +56,23 @@ fn write_settled(n: u8, holds: &[u64; 4], fails: &[u64; 4], at: usize, out: &mut
 }
 
 // The same of a good book: of the rules' two sets, and behind it of the atoms that are true and lost.
-fn settle_in(book: &[u8], shape: Shape, out: &mut [u8]) -> Result<(), Unsettled>
-    requires { ReadAs book.now shape }
+fn settle_in(book: ReadBook, out: &mut [u8]) -> Result<(), Unsettled>
     ensures { ◌≡◌ {A = Answered (Unit {0})} (record { told = told result; buffer = out.new })
-        (settle_in (book_in book.now) out.old) }
+        (settle_in (the_book book.entry) out.old) }
 {
-    let rules = shape.rules as usize;
-    if out.len() < rules + shape.atoms as usize {
+    let rules = book.shape.rules as usize;
+    if out.len() < rules + book.shape.atoms as usize {
         return Err(Unsettled::NoRoom);
     }
-    let mut rows = [0u64; 3072];
-    make_rows(book, shape, &mut rows);
-    let closed = close(book, shape, &rows, Colouring::empty());
+    let rowed = RowedBook::of(book);
+    let closed = close(&rowed, Colouring::empty());
     let on = closed.colours.on.w;
     let off = closed.colours.off.w;
     let mut holding = [0u64; 4];
     let mut failing = [0u64; 4];
-    begin(shape.atoms, &rows, &on, &off, &mut holding, &mut failing);
-    write_settled(shape.rules, &on, &off, 0, out);
-    write_settled(shape.atoms, &holding, &failing, rules, out);
+    begin(&rowed, &on, &off, &mut holding, &mut failing);
+    write_settled(book.shape.rules, &on, &off, 0, out);
+    write_settled(book.shape.atoms, &holding, &failing, rules, out);
     Ok(())
 }
 
@@ -83,6 +81,5 @@ pub fn settle(book: &[u8], out: &mut [u8]) -> Result<(), Unsettled>
     ensures { ◌≡◌ {A = Answered (Unit {0})} (record { told = told result; buffer = out.new })
         (settle_of book.now out.old) }
 {
-    let shape = read_book(book)?;
-    settle_in(book, shape, out)
+    settle_in(ReadBook::read(book)?, out)
 }

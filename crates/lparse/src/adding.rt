@@ -60,11 +60,9 @@ fn add_heads(draft: &mut [u8; BOOK_BYTES], m: Making, c: usize, count: usize, o:
     let neg = o.neg;
     let mut made = m;
     let mut helper = c;
-    let mut j = 0;
-    while j < count {
-        made = add_head(draft, made, o.free, helper, heads[j], pos, neg);
+    for head in &heads[..count] {
+        made = add_head(draft, made, o.free, helper, *head, pos, neg);
         helper = counted_on(helper, 1);
-        j += 1;
     }
     made
 }

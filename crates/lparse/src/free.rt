@@ -9,8 +9,8 @@ ghost use Rattle.lparse.specs.FreeHeads.{
 };
 
 use crate::due::{Due, Role, Said, Standing};
-use crate::named::Whose;
-use crate::step::{Step, take_word};
+use crate::step::take_word;
+use imported::TextAtom;
 
 // The atom is a head of a choice.
 fn is_free(standing: Standing) -> bool
@@ -28,30 +28,30 @@ fn is_free(standing: Standing) -> bool
 }
 
 // The head of a choice that a word says.
-fn head_said(said: Said) -> Whose
+fn head_said(said: Said) -> Option<TextAtom>
     ensures { result ≡ head_said said }
 {
     match said {
-        Said::Nothing => Whose::Nothing,
-        Said::Choice => Whose::Nothing,
+        Said::Nothing => None,
+        Said::Choice => None,
         Said::Atom(a, standing) => {
             if is_free(standing) {
-                return Whose::Atom(a);
+                return Some(a);
             }
-            Whose::Nothing
+            None
         }
     }
 }
 
 // The head found, with the one that a word says, where `left` heads are passed over yet.
-fn head_by(found: Whose, here: Whose, left: usize) -> Whose
+fn head_by(found: Option<TextAtom>, here: Option<TextAtom>, left: usize) -> Option<TextAtom>
     ensures { result ≡ head_by found here left }
 {
     match found {
-        Whose::Atom(_) => found,
-        Whose::Nothing => {
+        Some(_) => found,
+        None => {
             if left != 0 {
-                return Whose::Nothing;
+                return None;
             }
             here
         }
@@ -59,41 +59,35 @@ fn head_by(found: Whose, here: Whose, left: usize) -> Whose
 }
 
 // How many heads are passed over yet behind the word.
-fn left_behind(left: usize, here: Whose) -> usize
+fn left_behind(left: usize, here: Option<TextAtom>) -> usize
     ensures { result ≡ left_behind left here }
 {
     match here {
-        Whose::Nothing => left,
-        Whose::Atom(_) => {
-            if left == 0 {
-                return 0;
-            }
-            left - 1
-        }
+        None => left,
+        Some(_) => left.saturating_sub(1),
     }
 }
 
 // The j-th head of a choice, counted from 0 over all choices of a text in the format: the atom that
 // the j-th helper behind the text's atoms is opposite to.
-pub fn free_head(text: &[u8], j: usize) -> Whose
+pub fn free_head(text: &[u8], j: usize) -> Option<TextAtom>
     ensures { result ≡ free_head_of text.now j }
 {
-    let mut found = Whose::Nothing;
+    let mut found = None;
     let mut left = j;
     let mut due = Due::Number(Role::Kind);
     let mut at = 0;
     loop {
         match take_word(text, at, due) {
-            Step::Goes(next, said, _, end) => {
-                let here = head_said(said);
+            Ok(Some(word)) => {
+                let here = head_said(word.said);
                 found = head_by(found, here, left);
                 left = left_behind(left, here);
-                due = next;
-                at = end;
+                due = word.next;
+                at = word.end;
             }
-            Step::Format(_) => return Whose::Nothing,
-            Step::Kind(_) => return Whose::Nothing,
-            Step::Done => return found,
+            Ok(None) => return found,
+            Err(_) => return None,
         }
     }
 }

@@ -11,37 +11,20 @@ ghost use Rattle.lparse.specs.Names.{
 
 use crate::due::{Due, Role, Said, Standing};
 use crate::numbering::number_of;
-use crate::step::{Step, take_word};
+use crate::step::take_word;
 use imported::TextAtom;
 
-#[derive(Clone, Copy)]
-pub enum Whose {
-    Atom(TextAtom),
-    // No atom of the text has the number.
-    Nothing,
-}
-
-#[derive(Clone, Copy)]
-pub enum Name {
-    // The first byte of the name, and its end.
-    At(usize, usize),
-    // The table gives the atom fewer names.
-    Nothing,
-}
-
 // The first of these atoms whose number is n.
-pub fn atom_at(seen: &[u32], n: usize) -> Whose
+pub fn atom_at(seen: &[u32], n: usize) -> Option<TextAtom>
     ensures { result ≡ whose_of seen.now n }
 {
-    let mut i = 0;
-    while i < seen.len() {
-        let a = TextAtom(seen[i]);
+    for x in seen {
+        let a = TextAtom(*x);
         if number_of(seen, a) == n {
-            return Whose::Atom(a);
+            return Some(a);
         }
-        i += 1;
     }
-    Whose::Nothing
+    None
 }
 
 // The atom stands in the table.
@@ -76,19 +59,25 @@ fn is_named(said: Said, a: TextAtom) -> bool
 }
 
 // The name found, with the word from `from` to `end`, where `left` names are passed over yet.
-fn found_by(found: Name, named: bool, left: usize, from: usize, end: usize) -> Name
+fn found_by(
+    found: Option<(usize, usize)>,
+    named: bool,
+    left: usize,
+    from: usize,
+    end: usize,
+) -> Option<(usize, usize)>
     ensures { result ≡ found_by found named left from end }
 {
     match found {
-        Name::At(_, _) => found,
-        Name::Nothing => {
+        Some(_) => found,
+        None => {
             if !named {
-                return Name::Nothing;
+                return None;
             }
             if left != 0 {
-                return Name::Nothing;
+                return None;
             }
-            Name::At(from, end)
+            Some((from, end))
         }
     }
 }
@@ -97,35 +86,29 @@ fn found_by(found: Name, named: bool, left: usize, from: usize, end: usize) -> N
 fn left_by(left: usize, named: bool) -> usize
     ensures { result ≡ left_by left named }
 {
-    if !named {
-        return left;
-    }
-    if left == 0 {
-        return 0;
-    }
-    left - 1
+    if named { left.saturating_sub(1) } else { left }
 }
 
-// The k-th name, counted from 0, that the table of a text in the format gives the atom.
-pub fn nth_name(text: &[u8], a: TextAtom, k: usize) -> Name
+// The k-th name, counted from 0, that the table of a text in the format gives the atom: its first
+// byte, and its end.
+pub fn nth_name(text: &[u8], a: TextAtom, k: usize) -> Option<(usize, usize)>
     ensures { result ≡ name_of text.now a k }
 {
-    let mut found = Name::Nothing;
+    let mut found = None;
     let mut left = k;
     let mut due = Due::Number(Role::Kind);
     let mut at = 0;
     loop {
         match take_word(text, at, due) {
-            Step::Goes(next, said, from, end) => {
-                let named = is_named(said, a);
-                found = found_by(found, named, left, from, end);
+            Ok(Some(word)) => {
+                let named = is_named(word.said, a);
+                found = found_by(found, named, left, word.from, word.end);
                 left = left_by(left, named);
-                due = next;
-                at = end;
+                due = word.next;
+                at = word.end;
             }
-            Step::Format(_) => return Name::Nothing,
-            Step::Kind(_) => return Name::Nothing,
-            Step::Done => return found,
+            Ok(None) => return found,
+            Err(_) => return None,
         }
     }
 }

@@ -69,14 +69,12 @@ pub fn word_start(text: &[u8], at: usize) -> usize
     requires { at ≤ length text.now }
     ensures { (result ≡ start_of text.now at) × (result ≤ length text.now) }
 {
-    let mut i = at;
-    while i < text.len() {
+    for i in at..text.len() {
         if !parts(text[i]) {
             return i;
         }
-        i += 1;
     }
-    i
+    text.len()
 }
 
 // Where the word that starts there ends.
@@ -85,14 +83,12 @@ pub fn word_end(text: &[u8], start: usize) -> usize
     ensures { (result ≡ end_of text.now start) × (result ≤ length text.now) }
 {
     let mut q = Quote::Outside;
-    let mut i = start;
-    while i < text.len() {
+    for i in start..text.len() {
         let x = text[i];
         if ends_word(q, x) {
             return i;
         }
         q = turn(q, x);
-        i += 1;
     }
-    i
+    text.len()
 }

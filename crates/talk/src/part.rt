@@ -5,8 +5,5 @@ ghost use Rattle.std.specs.Prelude.{◌≡◌, take};
 pub fn first_bytes<'a>(bytes: &'a [u8], n: usize) -> &'a [u8]
     ensures { result.now ≡ take n bytes.now }
 {
-    if bytes.len() <= n {
-        return bytes;
-    }
-    &bytes[..n]
+    &bytes[..bytes.len().min(n)]
 }

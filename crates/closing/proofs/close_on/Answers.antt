@@ -1,9 +1,9 @@
 -- With the rule put on in a closed colouring, what is propagated is under way to the closing, and the rest of the way closes it.
 use mathlib.Core.Path.{ap, ◌∙◌}
-use mathlib.Core.List.{List}
-use Prim.Native.Nat.{ℕ}
+use Prim.Native.Nat.{◌≤◌}
 use native.Mathlib.Omega.{arith}
 use borrow.Author.Rules.{rules}
+use Rattle.meaning.specs.Books.{count}
 use Rattle.meaning.specs.Colours.{on_side}
 use Rattle.meaning.specs.Bits.{listed}
 use Rattle.meaning.specs.Written.{Tables, written, coloured, lent, colour_on, chosen, pair}
@@ -14,83 +14,56 @@ use Rattle.meaning.proofs.Suspects.{closed-settled}
 use Rattle.book.specs.Format.{book_in}
 use Rattle.book.proofs.Places.{shape-count, in-shape}
 use Rattle.closing.specs.Ended.{ended_at, EndsAt, at-end}
-use Rattle.closing.proofs.Good.{Good, good-few}
+use Rattle.closing.proofs.Good.{good-book, good-few}
 use Rattle.closing.proofs.Propagating.{sized-coloured}
 use Rattle.closing.proofs.Closed.{closes-start, propagated-to, propagated-off, closes-propagated, closes-end, clash-end}
 use Rattle.closing.proofs.Leaving.{ends-behind, tells-clash}
 use Rattle.closing.proofs.close_on.Goals as goal
-use Rattle.closing.proofs.close_on.Lts as lts
-use Rattle.closing.proofs.close_on.Tie as tie
+use Rattle.closing.proofs.close_on.Goals.{Start, After-close_propagated}
 
-abbrev Start : Type 0
-Start = lts.Start tie.the-claims tie.handed_pre tie.handed_post
+long : (s : Start) → Sized (written s.args.d)
+long s = sized-written s.args.d (search rules)
 
-abbrev After-propagate_on : Type 0
-After-propagate_on = lts.After-propagate_on tie.the-claims tie.handed_pre tie.handed_post
-
-abbrev After-close_propagated : Type 0
-After-close_propagated = lts.After-close_propagated tie.the-claims tie.handed_pre tie.handed_post
-
--- ---- the places on the way, with what is known there
--- the book is good, and the tables of the colouring have their length
-start-good : (s : Start) → Good s.args.book.now s.args.shape × Sized (written s.args.d)
-start-good s = (search rules, sized-written s.args.d (search rules))
-
--- behind the propagation: the start, its sets with the rule put on, and the chosen colouring
-module _ (p : After-propagate_on) where
-  abbrev sets : Tables
-  sets = colour_on p.args.r (coloured (listed p.args.d.on.w) (listed p.args.d.off.w))
-
-  abbrev from : Tables
-  from = chosen on_side p.args.r (written p.args.d)
-
-  sized : Sized sets
-  sized = sized_on p.args.r (sized-coloured _ _)
-
--- behind the rest of the way: the sets then
-module _ (k : After-close_propagated) where
-  abbrev on : List ℕ
-  on = k.close_propagated.new.on
-
-  abbrev off : List ℕ
-  off = k.close_propagated.new.off
-
-  ends : EndsAt (book_in k.args.book.now) k.args.early (pair (from k.before.before.before.before)) (lent (listed on) (listed off))
-      k.close_propagated.result
-  ends =
-      let (e, f) = k.propagate_on.ensures in
-      let way = closes-propagated _ (good-few (start-good k.before.before.before.before.before.before.before.before.before.before.before.before).0) (sets k.before.before.before.before) (sized k.before.before.before.before) e f (closes-start _ _) in
-      ends-behind _ way k.close_propagated.ensures
+-- behind the rest of the way: how the sets end
+ends : (k : After-close_propagated) → count (book_in k.args.rowed.now.book.bytes.now) ≤ 255
+    → EndsAt (book_in k.args.rowed.now.book.bytes.now) k.args.early (pair (chosen on_side k.args.r (written k.args.d)))
+    (lent (listed k.close_propagated.new.on) (listed k.close_propagated.new.off)) k.close_propagated.result
+ends k fits =
+    let (e, f) = k.propagate_on.ensures in
+    let sets = colour_on k.args.r (coloured (listed k.args.d.on.w) (listed k.args.d.off.w)) in
+    ends-behind _ (closes-propagated _ fits sets (sized_on k.args.r (sized-coloured _ _)) e f (closes-start _ _)) k.close_propagated.ensures
 
 -- ---- the needs
 pub propagate_on-requires : goal.propagate_on-requires
 propagate_on-requires c =
-    (c.requires.0, c.requires.1, in-shape _ _ c.requires.0 _ c.requires.2.in-book, closed-propagated _ c.requires.2.closed)
+    (in-shape _ _ c.args.rowed.now.book.read_as _ c.requires.in-book, closed-propagated _ c.requires.closed)
 
 pub close_propagated-requires : goal.close_propagated-requires
 close_propagated-requires c =
+    let fits = good-few (good-book c.args.rowed.now.book) in
     let (e, f) = c.propagate_on.ensures in
-    let few = good-few (start-good c.before.before.before.before.before.before.before.before.before.before.before.before).0 in (
-      c.requires.0,
-      c.requires.1,
-      (propagated-to _ few (sets c.before.before.before.before) (sized c.before.before.before.before) e f).good.propagated,
-      closed-settled _ c.requires.2.closed,
-      propagated-off _ few (sets c.before.before.before.before) (sized c.before.before.before.before) e f,
+    let sets = colour_on c.args.r (coloured (listed c.args.d.on.w) (listed c.args.d.off.w)) in (
+      (propagated-to _ fits sets (sized_on c.args.r (sized-coloured _ _)) e f).good.propagated,
+      closed-settled _ c.requires.closed,
+      propagated-off _ fits sets (sized_on c.args.r (sized-coloured _ _)) e f,
     )
 
 pub choose_on-c-requires : goal.choose_on-c-requires
 choose_on-c-requires c =
-    (omega (arith, c.requires.2.in-book, good-few (start-good c.before.before.before.before.before.before.before.before.before).0), c.requires.2.low)
+    (omega (arith, c.requires.in-book, good-few (good-book c.args.rowed.now.book)), c.requires.low)
 
 pub returns-then-close_propagated : goal.returns-then-close_propagated
 returns-then-close_propagated c =
-    let (g, long) = start-good c.before.before.before.before.before.before.before.before.before.before.before.before.before.before in
-    tells-clash c.choose_on-c.ensures c.args.r (good-few g) (sized-chosen on_side c.args.r long) (ends c.before.before) c.if-close_propagated.true
+    let at = goal.at.returns-then-close_propagated c in
+    tells-clash c.choose_on-c.ensures c.args.r (good-few (good-book c.args.rowed.now.book)) (sized-chosen on_side c.args.r (long at.Start)) (ends at.After-close_propagated (good-few (good-book c.args.rowed.now.book))) c.if-close_propagated.true
 
 pub returns : goal.returns
 returns c =
-    let (g, long) = start-good c.before.before.before.before.before.before.before.before.before.before.before.before.before.before.before in
-    let n = shape-count _ _ c.requires.0 in
-    let at = c.ended.ensures.0 ∙ ap (λ (t : Tables). ended_at c.args.shape.rules t (listed (on c.before.before.before)) (listed (off c.before.before.before))) c.choose_on-c.ensures in
-    let q = closes-end _ (good-few g) (from c.before.before.before.before.before.before.before) (sized-chosen on_side c.args.r long) (on c.before.before.before) (off c.before.before.before) ((ends c.before.before.before).closed c.if-close_propagated.false) n at in
-    at-end q (clash-end _ _ n q _ _ (ap pair at) c.ended.ensures.1)
+    let at = goal.at.returns c in
+    let n = shape-count _ _ c.args.rowed.now.book.read_as in
+    let on = c.close_propagated.new.on in
+    let off = c.close_propagated.new.off in
+    let to = c.ended.ensures.0 ∙ ap (λ (t : Tables). ended_at c.args.rowed.now.book.shape.rules t (listed on) (listed off)) c.choose_on-c.ensures in
+    let q = closes-end _ (good-few (good-book c.args.rowed.now.book)) (chosen on_side c.args.r (written c.args.d)) (sized-chosen on_side c.args.r (long at.Start)) on off
+    ((ends at.After-close_propagated (good-few (good-book c.args.rowed.now.book))).closed c.if-close_propagated.false) n to in
+    at-end q (clash-end _ _ n q _ _ (ap pair to) c.ended.ensures.1)

@@ -3,81 +3,71 @@
 -- pair is closed, and what is reached at the start of a turn may be left at a contradiction. Blueprint C2.
 use mathlib.Core.Path.{sym, subst}
 use mathlib.Core.List.{List}
-use Prim.Native.Nat.{ℕ, ◌≤◌}
+use Prim.Native.Nat.{ℕ}
 use native.Mathlib.Omega.{arith}
-use borrow.Author.Rules.{rules}
-use Rattle.meaning.specs.Books.{count}
 use Rattle.meaning.specs.Colours.{Under}
 use Rattle.meaning.specs.Bits.{listed}
 use Rattle.meaning.specs.Written.{of, coloured, lent}
-use Rattle.meaning.specs.Propagation.{Propagated}
 use Rattle.meaning.specs.Suspects.{Settled}
 use Rattle.book.specs.Format.{book_in}
 use Rattle.book.proofs.Places.{shape-count}
-use Rattle.closing.proofs.Good.{Good, good-few}
+use Rattle.closing.proofs.Good.{good-book, good-few}
 use Rattle.closing.proofs.Propagating.{sized-coloured}
 use Rattle.closing.proofs.Closed.{closes-start, propagated-to, closes-propagated, propagated-no-more, dropped-above}
 use Rattle.closing.proofs.Closed.{closes-dropped, dropped-settled, dropped-less, propagated-off, closed-to}
 use Rattle.closing.proofs.Leaving.{ends-left, ends-closed}
 use Rattle.closing.proofs.close_propagated.Goals as goal
-use Rattle.closing.proofs.close_propagated.Goals.{Start}
-
--- at the start the book is good, so it has few rules
-few : (s : Start) → count (book_in s.args.book.now) ≤ 255
-few s = let g : Good s.args.book.now s.args.shape = search rules in good-few g
 
 -- ---- the needs
-pub loop-shape-init : goal.loop-shape-init
-loop-shape-init c = (closes-start _ _, c.requires.2, c.requires.3, c.requires.4)
+pub loop-old-init : goal.loop-old-init
+loop-old-init c = (closes-start _ _, c.requires.0, c.requires.1, c.requires.2)
 
 -- the closing is left at the start of a turn
 pub returns-then-is_left : goal.returns-then-is_left
 returns-then-is_left c =
-    ends-left _ (shape-count _ _ c.requires.0) (listed c.loop-shape.on) (listed c.loop-shape.off) c.loop-shape.invariant.0 c.is_left.ensures c.if-is_left.true
+    ends-left _ (shape-count _ _ c.args.rowed.now.book.read_as) (listed c.loop-old.on) (listed c.loop-old.off) c.loop-old.invariant.0 c.is_left.ensures c.if-is_left.true
 
 pub drop_suspects-requires : goal.drop_suspects-requires
 drop_suspects-requires c =
-    (c.requires.0, c.requires.1, c.loop-shape.invariant.2, c.loop-shape.invariant.3)
+    (c.loop-old.invariant.2, c.loop-old.invariant.3)
 
 pub returns-then-not-drop_suspects : goal.returns-then-not-drop_suspects
 returns-then-not-drop_suspects c =
-    let l = c.loop-shape in
-    ends-closed (closed-to _ (few (goal.at.returns-then-not-drop_suspects c).Start) (lent (listed c.args.on.now) (listed c.args.off.now)) l.on l.off c.drop_suspects.new.off
+    let l = c.loop-old in
+    ends-closed (closed-to _ (good-few (good-book c.args.rowed.now.book)) (lent (listed c.args.on.now) (listed c.args.off.now)) l.on l.off c.drop_suspects.new.off
     l.invariant.0 l.invariant.1 c.drop_suspects.ensures.0 c.if-not-drop_suspects.true)
 
 pub propagate_dropped-requires : goal.propagate_dropped-requires
 propagate_dropped-requires c =
-    let l = c.loop-shape in
+    let l = c.loop-old in
     let off = c.drop_suspects.new.off in
-    let above = dropped-above _ (few (goal.at.propagate_dropped-requires c).Start) (of (listed l.off)) (of (listed off)) c.drop_suspects.ensures.0.gone in (
-      c.requires.0,
-      c.requires.1,
-      subst (λ (v : List ℕ). Propagated (book_in c.args.book.now) (lent (listed l.on) (listed v))) (sym c.whole-was.ensures) l.invariant.1,
-      subst (λ (v : List ℕ). Under (book_in c.args.book.now) (of (listed v)) (of (listed off))) (sym c.whole-was.ensures) above,
+    let above = dropped-above _ (good-few (good-book c.args.rowed.now.book)) (of (listed l.off)) (of (listed off)) c.drop_suspects.ensures.0.gone in (
+      l.invariant.1,
+      above,
     )
 
-pub loop-shape-smaller : goal.loop-shape-smaller
-loop-shape-smaller c =
-    let fits = few (goal.at.loop-shape-smaller c).Start in
-    let sets = coloured (listed c.loop-shape.on) (listed c.drop_suspects.new.off) in
+pub loop-old-smaller : goal.loop-old-smaller
+loop-old-smaller c =
+    let fits = good-few (good-book c.args.rowed.now.book) in
+    let sets = coloured (listed c.loop-old.on) (listed c.drop_suspects.new.off) in
     omega (
       arith,
       propagated-no-more _ fits sets (sized-coloured _ _) c.propagate_dropped.ensures.0 c.propagate_dropped.ensures.1,
-      dropped-less _ fits _ _ c.drop_suspects.ensures.0 (of (listed c.loop-shape.on)) c.if-not-drop_suspects.false,
+      dropped-less _ fits _ _ c.drop_suspects.ensures.0 (of (listed c.loop-old.on)) c.if-not-drop_suspects.false,
     )
 
-pub loop-shape-preserved : goal.loop-shape-preserved
-loop-shape-preserved c =
-    let fits = few (goal.at.loop-shape-preserved c).Start in
-    let l = c.loop-shape in
+pub loop-old-preserved : goal.loop-old-preserved
+loop-old-preserved c =
+    let fits = good-few (good-book c.args.rowed.now.book) in
+    let l = c.loop-old in
     let sets = coloured (listed l.on) (listed c.drop_suspects.new.off) in
     let dropped = closes-dropped _ fits _ _ c.drop_suspects.ensures.0.gone (of (listed l.on)) l.invariant.0 in
     let (e, f) = c.propagate_dropped.ensures in
     let same = c.drop_suspects.ensures.1 in (
       closes-propagated _ fits sets (sized-coloured _ _) e f dropped,
       (propagated-to _ fits sets (sized-coloured _ _) e f).good.propagated,
-      subst (λ (v : List ℕ). Settled (book_in c.args.book.now) (of (listed v))) (sym same)
+      subst (λ (v : List ℕ). Settled (book_in c.args.rowed.now.book.bytes.now) (of (listed v))) (sym same)
           (dropped-settled _ fits (of (listed l.off)) _ c.drop_suspects.ensures.0.gone),
-      subst (λ (v : List ℕ). Under (book_in c.args.book.now) (of (listed v)) (of (listed c.propagate_dropped.new.off))) (sym same)
+      subst (λ (v : List ℕ). Under (book_in c.args.rowed.now.book.bytes.now) (of (listed v)) (of (listed c.propagate_dropped.new.off))) (sym same)
           (propagated-off _ fits sets (sized-coloured _ _) e f),
     )

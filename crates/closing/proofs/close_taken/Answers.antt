@@ -14,11 +14,11 @@ told b early d x p e t = subst (λ (k : Choice). Ends b early (taken k d) x p) (
 
 pub close_on-requires : goal.close_on-requires
 close_on-requires c =
-    (c.requires.0, c.requires.1, subst (Takes _ (written c.args.d)) c.in-On.is c.requires.2)
+    subst (Takes _ (written c.args.d)) c.in-On.is c.requires
 
 pub close_off-requires : goal.close_off-requires
 close_off-requires c =
-    (c.requires.0, c.requires.1, subst (Takes _ (written c.args.d)) c.in-Off.is c.requires.2)
+    subst (Takes _ (written c.args.d)) c.in-Off.is c.requires
 
 pub returns-in-Nothing : goal.returns-in-Nothing
 returns-in-Nothing c = told _ _ _ _ _ c.in-Nothing.is (at-end c.close.ensures.0 c.close.ensures.1)

@@ -1,5 +1,4 @@
 use mathlib.Core.Path.{◌≡◌}
-use Prim.Native.Nat.{◌-◌, ◌≤◌}
 use Rattle.meaning.specs.Bits.{listed}
 use Rattle.meaning.specs.Written.{of}
 use Rattle.book.specs.Format.{book_in}
@@ -8,7 +7,4 @@ use Rattle.book.proofs.AtomSets.{all_to}
 use Rattle.book.proofs.tables.lost_in.Given as goal
 
 abbrev pub invariant-loop-r : goal.invariant-loop-r
-invariant-loop-r l = (l.r ≤ l.shape.rules) × (l.out ≡ atom_table (all_to (book_in l.book) (of (listed l.set)) l.r))
-
-abbrev pub decreases-loop-r : goal.decreases-loop-r
-decreases-loop-r l = l.shape.rules - l.r
+invariant-loop-r l = l.out ≡ atom_table (all_to (book_in l.book) (of (listed l.set)) l.r)

@@ -3,6 +3,7 @@ use mathlib.Core.Path.{◌∙◌}
 use Rattle.std.proofs.lemmas.Result.{err_from_is_err_and}
 use Rattle.book.specs.Format.{book_in}
 use Rattle.book.proofs.Places.{shape-atoms}
+use Rattle.checker.proofs.PaperChecked.{ends-fit}
 use Rattle.checker.proofs.paper.check_paper.Goals as goal
 
 pub returns-in_err-trailer : goal.returns-in_err-trailer
@@ -12,7 +13,8 @@ returns-in_err-trailer c =
 
 pub check_steps-requires : goal.check_steps-requires
 check_steps-requires c =
-    let (fits, short) = (c.in_ok-trailer.ensures (book_in c.args.book.now) (shape-atoms _ _ c.requires)).fits in (c.requires, fits, short)
+    let (fits, short) = ends-fit (c.read_trailer.ensures (book_in c.args.book.now) (shape-atoms _ _ c.requires)) c.in_ok-trailer.was in
+    (c.requires, fits, short)
 
 pub returns : goal.returns
 returns c = c.check_steps.ensures ∙ (c.in_ok-trailer.ensures _ (shape-atoms _ _ c.requires)).told

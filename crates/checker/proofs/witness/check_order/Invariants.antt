@@ -1,5 +1,3 @@
-use Prim.Native.Nat.{◌-◌}
-use lib.ListN.{length}
 use Rattle.meaning.specs.Bits.{listed}
 use Rattle.book.specs.Format.{book_in}
 use Rattle.checker.proofs.WitnessChecked.{Ordered}
@@ -7,6 +5,3 @@ use Rattle.checker.proofs.witness.check_order.Given as goal
 
 abbrev pub invariant-loop-i : goal.invariant-loop-i
 invariant-loop-i l = Ordered (book_in l.book) l.from l.list l.i (listed l.before) l.headed
-
-abbrev pub decreases-loop-i : goal.decreases-loop-i
-decreases-loop-i l = length l.list - l.i

@@ -7,11 +7,11 @@ use Rattle.closing.proofs.Turns.{marking-mono}
 use Rattle.closing.proofs.marking.sweep.Goals as goal
 
 pub loop-r-init : goal.loop-r-init
-loop-r-init c = (pass-start _, c.requires.1)
+loop-r-init c = (pass-start _, c.requires)
 
 pub loop-r-preserved : goal.loop-r-preserved
 loop-r-preserved c =
-    let e = shape-count _ c.args.shape c.requires.0 in
+    let e = shape-count _ c.args.book.now.shape c.args.book.now.read_as in
     let f = listed-long c.loop-r.marks in (
       pass-turn (marking-mono _ _) c.loop-r.r (omega arith) (omega arith) c.loop-r.invariant.0 c.try_rule-more.ensures.0,
       c.try_rule-more.ensures.1,
@@ -19,5 +19,5 @@ loop-r-preserved c =
 
 pub returns : goal.returns
 returns c =
-    let e = shape-count _ c.args.shape c.requires.0 in
+    let e = shape-count _ c.args.book.now.shape c.args.book.now.read_as in
     (pass-end c.loop-r.r (omega arith) (omega arith) c.loop-r.invariant.0, c.loop-r.invariant.1)

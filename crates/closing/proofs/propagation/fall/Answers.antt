@@ -7,26 +7,11 @@ use Rattle.meaning.specs.Bits.{less, members}
 use Rattle.meaning.proofs.Four.{members-nothing}
 use Rattle.closing.proofs.Falling.{fallen}
 use Rattle.closing.proofs.propagation.fall.Goals as goal
-use Rattle.closing.proofs.propagation.fall.Lts as lts
-use Rattle.closing.proofs.propagation.fall.Tie as tie
-
-abbrev Start : Type 0
-Start = lts.Start tie.the-claims tie.handed_pre tie.handed_post
-
-abbrev After-spread : Type 0
-After-spread = lts.After-spread tie.the-claims tie.handed_pre tie.handed_post
-
-abbrev start : After-spread → Start
-start c = c.before.before.before.before
-
--- ---- the needs
-pub lost_heads-requires : goal.lost_heads-requires
-lost_heads-requires c = (start c.before.before.before.before.before.before.before.before.before.before.before.before.before.before.before).requires
 
 pub returns : goal.returns
 returns c =
     let a = c.args in
-    fallen _ a.rows.now c.requires.1 a.off.now a.nt.now a.nl.now a.cand.now (replicate 4 0)
+    fallen _ a.rowed.now.rows c.args.rowed.now.rowed a.off.now a.nt.now a.nl.now a.cand.now (replicate 4 0)
     c.spread.new.by_neg c.spread-2.new.by_pos c.spread.new.by_pos c.spread-2.new.by_neg
     members-nothing c.spread.ensures.0 c.spread.ensures.1 c.spread-2.ensures.0 c.spread-2.ensures.1
     c.difference-fresh.result.w c.join.new.s (replicate 4 0) c.lost_heads.new.lost

@@ -4,11 +4,7 @@ use borrow.Author.Rules.{rules}
 use Rattle.closing.specs.News.{atom_set}
 use Rattle.closing.proofs.Noting.{note-not, note-put}
 use Rattle.closing.proofs.propagation.note.Goals as goal
-use Rattle.closing.proofs.propagation.note.Lts as lts
-use Rattle.closing.proofs.propagation.note.Tie as tie
-
-abbrev Start : Type 0
-Start = lts.Start tie.the-claims tie.handed_pre tie.handed_post
+use Rattle.closing.proofs.propagation.note.Goals.{Start}
 
 pub returns-then-not-told : goal.returns-then-not-told
 returns-then-not-told c =
@@ -21,4 +17,4 @@ low s = search rules
 
 pub returns : goal.returns
 returns c =
-    note-put c.args.told c.args.a c.put.new.s c.args.set.now c.if-not-told.false (low c.before.before.before) c.put.ensures
+    note-put c.args.told c.args.a c.put.new.s c.args.set.now c.if-not-told.false (low (goal.at.returns c).Start) c.put.ensures

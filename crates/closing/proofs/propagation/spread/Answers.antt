@@ -10,8 +10,8 @@ loop-a-init c =
     let s = c.args in
     let n = c.next_in-a.ensures in (
       (0, n),
-      rows_start s.rows.now 512 (members s.atoms.now) (members s.by_neg.now) _ n,
-      rows_start s.rows.now 256 (members s.atoms.now) (members s.by_pos.now) _ n,
+      rows_start s.rowed.now.rows 512 (members s.atoms.now) (members s.by_neg.now) _ n,
+      rows_start s.rowed.now.rows 256 (members s.atoms.now) (members s.by_pos.now) _ n,
     )
 
 pub loop-a-smaller : goal.loop-a-smaller
@@ -23,14 +23,14 @@ loop-a-preserved c =
     let j = c.join_rows.ensures in
     let (from, n) = c.loop-a.invariant.0 in (
       (_, c.next_in-a-in-loop-a.ensures),
-      rows-turn s.rows.now 512 (members s.atoms.now) (members s.by_neg.now) from c.loop-a.a _ n (omega arith) c.next_in-a-in-loop-a.ensures c.loop-a.invariant.1 j.0,
-      rows-turn s.rows.now 256 (members s.atoms.now) (members s.by_pos.now) from c.loop-a.a _ n (omega arith) c.next_in-a-in-loop-a.ensures c.loop-a.invariant.2 j.1,
+      rows-turn s.rowed.now.rows 512 (members s.atoms.now) (members s.by_neg.now) from c.loop-a.a _ n (omega arith) c.next_in-a-in-loop-a.ensures c.loop-a.invariant.1 j.0,
+      rows-turn s.rowed.now.rows 256 (members s.atoms.now) (members s.by_pos.now) from c.loop-a.a _ n (omega arith) c.next_in-a-in-loop-a.ensures c.loop-a.invariant.2 j.1,
     )
 
 pub returns : goal.returns
 returns c =
     let s = c.args in
     let (from, n) = c.loop-a.invariant.0 in (
-      rows_end s.rows.now 512 (members s.atoms.now) (members s.by_neg.now) from c.loop-a.a n (omega arith) c.loop-a.invariant.1,
-      rows_end s.rows.now 256 (members s.atoms.now) (members s.by_pos.now) from c.loop-a.a n (omega arith) c.loop-a.invariant.2,
+      rows_end s.rowed.now.rows 512 (members s.atoms.now) (members s.by_neg.now) from c.loop-a.a n (omega arith) c.loop-a.invariant.1,
+      rows_end s.rowed.now.rows 256 (members s.atoms.now) (members s.by_pos.now) from c.loop-a.a n (omega arith) c.loop-a.invariant.2,
     )

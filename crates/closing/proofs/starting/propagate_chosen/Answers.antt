@@ -11,11 +11,7 @@ use Rattle.book.proofs.Places.{in-shape}
 use Rattle.closing.specs.declared.choice.Choice.{Choice}
 use Rattle.closing.specs.Taken.{puts, Puts}
 use Rattle.closing.proofs.starting.propagate_chosen.Goals as goal
-use Rattle.closing.proofs.starting.propagate_chosen.Lts as lts
-use Rattle.closing.proofs.starting.propagate_chosen.Tie as tie
-
-abbrev Start : Type 0
-Start = lts.Start tie.the-claims tie.handed_pre tie.handed_post
+use Rattle.closing.proofs.starting.propagate_chosen.Goals.{Start}
 
 abbrev Made : Book → Tables → List Bool → List Bool → Choice → Type 0
 Made b c on off k = (on ≡ (propagate b (puts k c)).on) × (off ≡ (propagate b (puts k c)).off)
@@ -25,18 +21,18 @@ made b c on off e m = subst (Made b c on off) (sym e) m
 
 -- the choice may be taken, as the arm of the match tells it
 allowed : (s : Start) {k : Choice} → s.args.choice ≡ k
-    → Puts (book_in s.args.book.now) (lent (listed s.args.on.now) (listed s.args.off.now)) k
-allowed s e = subst (Puts (book_in s.args.book.now) (lent (listed s.args.on.now) (listed s.args.off.now))) e s.requires.2
+    → Puts (book_in s.args.rowed.now.book.bytes.now) (lent (listed s.args.on.now) (listed s.args.off.now)) k
+allowed s e = subst (Puts (book_in s.args.rowed.now.book.bytes.now) (lent (listed s.args.on.now) (listed s.args.off.now))) e s.requires
 
 pub propagate_on-requires : goal.propagate_on-requires
 propagate_on-requires c =
-    let (h, p) = allowed c.before.before.before.before.before c.in-On.is in
-    (c.requires.0, c.requires.1, in-shape _ _ c.requires.0 _ h, p)
+    let (h, p) = allowed (goal.at.propagate_on-requires c).Start c.in-On.is in
+    (in-shape _ _ c.args.rowed.now.book.read_as _ h, p)
 
 pub propagate_off-requires : goal.propagate_off-requires
 propagate_off-requires c =
-    let (h, p) = allowed c.before.before.before.before.before c.in-Off.is in
-    (c.requires.0, c.requires.1, in-shape _ _ c.requires.0 _ h, p)
+    let (h, p) = allowed (goal.at.propagate_off-requires c).Start c.in-Off.is in
+    (in-shape _ _ c.args.rowed.now.book.read_as _ h, p)
 
 pub returns-in-Nothing : goal.returns-in-Nothing
 returns-in-Nothing c = made _ _ _ _ c.in-Nothing.is c.propagate.ensures

@@ -4,10 +4,10 @@ use Rattle.lparse.proofs.FreeHeads.{head-stays, head_passed, head-here}
 use Rattle.lparse.proofs.free.head_by.Goals as goal
 
 pub returns-then-left-ne0 : goal.returns-then-left-ne0
-returns-then-left-ne0 c = head_passed _ _ c.in-Nothing.is (λ e. omega arith)
+returns-then-left-ne0 c = head_passed _ _ c.in-None.is (λ e. omega arith)
 
-pub returns-in-Atom : goal.returns-in-Atom
-returns-in-Atom c = head-stays _ _ c.in-Atom.is
+pub returns-in-Some : goal.returns-in-Some
+returns-in-Some c = head-stays _ _ c.in-Some.is
 
 pub returns-else-left-ne0 : goal.returns-else-left-ne0
-returns-else-left-ne0 c = head-here _ _ c.in-Nothing.is (omega arith)
+returns-else-left-ne0 c = head-here _ _ c.in-None.is (omega arith)

@@ -4,13 +4,13 @@ use Rattle.lparse.proofs.Names.{found-stays, found-other, found_passed, found_he
 use Rattle.lparse.proofs.named.found_by.Goals as goal
 
 pub returns-then-not-named : goal.returns-then-not-named
-returns-then-not-named c = found-other _ _ _ _ c.in-Nothing.is c.if-not-named.true
+returns-then-not-named c = found-other _ _ _ _ c.in-None.is c.if-not-named.true
 
 pub returns-then-left-ne0 : goal.returns-then-left-ne0
-returns-then-left-ne0 c = found_passed _ _ _ _ c.in-Nothing.is c.if-not-named.false (λ e. omega arith)
+returns-then-left-ne0 c = found_passed _ _ _ _ c.in-None.is c.if-not-named.false (λ e. omega arith)
 
-pub returns-in-At : goal.returns-in-At
-returns-in-At c = found-stays _ _ _ _ c.in-At.is
+pub returns-in-Some : goal.returns-in-Some
+returns-in-Some c = found-stays _ _ _ _ c.in-Some.is
 
 pub returns-else-left-ne0 : goal.returns-else-left-ne0
-returns-else-left-ne0 c = found_here _ _ _ _ c.in-Nothing.is c.if-not-named.false (omega arith)
+returns-else-left-ne0 c = found_here _ _ _ _ c.in-None.is c.if-not-named.false (omega arith)

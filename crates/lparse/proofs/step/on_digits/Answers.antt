@@ -9,17 +9,17 @@ use Rattle.lparse.proofs.step.on_digits.Goals as goal
 pub overflow_cast-n : goal.overflow_cast-n
 overflow_cast-n c =
     let h = up_to (value-bound 4294967295 0 c.args.word.now (omega arith))
-    (sym c.read_digits.ensures ∙ c.in-Value.is) in
+    (sym c.read_digits.ensures ∙ c.in-Some.is) in
     search rules
 
-pub returns-in-Value : goal.returns-in-Value
+pub returns-in-Some : goal.returns-in-Some
 unfolding on_value
-returns-in-Value c =
+returns-in-Some c =
     c.on_number.ensures
     ∙ sym (ap (on_value c.args.role)
-    (sym c.read_digits.ensures ∙ c.in-Value.is))
+    (sym c.read_digits.ensures ∙ c.in-Some.is))
 
-pub returns-in-Nothing : goal.returns-in-Nothing
+pub returns-in-None : goal.returns-in-None
 unfolding on_value
-returns-in-Nothing c =
-    sym (ap (on_value c.args.role) (sym c.read_digits.ensures ∙ c.in-Nothing.is))
+returns-in-None c =
+    sym (ap (on_value c.args.role) (sym c.read_digits.ensures ∙ c.in-None.is))

@@ -1,19 +1,16 @@
 -- `stepped` hands each move to the row of its definition.
-use mathlib.Core.Path.{ap, sym}
+use borrow.Author.Rules.{rules}
 use Rattle.lparse.specs.Reading.{step_of}
 use Rattle.lparse.proofs.step.stepped.Goals as goal
 
-pub returns-in-Goes : goal.returns-in-Goes
+pub returns-in-Ok : goal.returns-in-Ok
 unfolding step_of
-returns-in-Goes c =
-    sym (ap (λ m. step_of m c.args.from c.args.end) c.in-Goes.is)
+returns-in-Ok c = search rules
 
-pub returns-in-Format : goal.returns-in-Format
+pub returns-in-Err-Format : goal.returns-in-Err-Format
 unfolding step_of
-returns-in-Format c =
-    sym (ap (λ m. step_of m c.args.from c.args.end) c.in-Format.is)
+returns-in-Err-Format c = search rules
 
-pub returns-in-Kind : goal.returns-in-Kind
+pub returns-in-Err-Kind : goal.returns-in-Err-Kind
 unfolding step_of
-returns-in-Kind c =
-    sym (ap (λ m. step_of m c.args.from c.args.end) c.in-Kind.is)
+returns-in-Err-Kind c = search rules

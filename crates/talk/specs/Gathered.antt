@@ -3,8 +3,10 @@
 --   Piece            the bytes of the buffer, and how many of them are held
 --   with_byte x p     one byte more, where there is room for it
 --   gather text p    all of a text, byte after byte
+--   gathered line    what a line is as a piece
 use Rattle.std.specs.Prelude.{ℕ, ◌+◌, List, [], ◌∷◌, length, slice_set}
 use Rattle.meaning.specs.Choice.{if_lt}
+use Rattle.talk.specs.declared.line.Line.{Line}
 
 pub record Piece : Type 0 where
   pub bytes : List ℕ
@@ -16,3 +18,6 @@ with_byte x p = if_lt p.held (length p.bytes) (record { bytes = slice_set p.byte
 unfoldable pub gather : List ℕ → Piece → Piece
 gather [] p = p
 gather (x ∷ text) p = gather text (with_byte x p)
+
+abbrev pub gathered : Line → Piece
+gathered line = record { bytes = line.room.now; held = line.held }
