@@ -9,7 +9,7 @@ returns-then-every c = (c.if-every.true ∙ counts-every _ _ _ c.if-every.true _
 
 pub is_new-requires : goal.is_new-requires
 is_new-requires c =
-    (c.requires.0, c.requires.1, c.requires.2, c.requires.3.kept c.if-every.false)
+    (c.requires.0, c.requires.1.kept c.if-every.false)
 
 pub returns-else-every : goal.returns-else-every
 returns-else-every c =

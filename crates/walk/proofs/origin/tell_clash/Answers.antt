@@ -3,12 +3,8 @@ use mathlib.Core.Path.{refl}
 use Rattle.walk.proofs.ToldClash.{told_none, told-still, told-rule, origin-read}
 use Rattle.walk.proofs.origin.tell_clash.Goals as goal
 
--- ---- the needs
 pub returns-then-t-eq255 : goal.returns-then-t-eq255
 returns-then-t-eq255 c = told_none _ _ _ c.if-t-eq255.true
-
-pub close-closed-requires : goal.close-closed-requires
-close-closed-requires c = c.requires
 
 pub returns-in_default : goal.returns-in_default
 returns-in_default c =
