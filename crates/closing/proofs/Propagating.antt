@@ -10,16 +10,16 @@ use Rattle.meaning.specs.declared.AtomNo.{AtomNo}
 use Rattle.meaning.specs.declared.RuleNo.{RuleNo}
 use Rattle.meaning.specs.Sets.{Set, ◌∈◌, ◌∉◌, every_below, some_below}
 use Rattle.meaning.specs.Books.{Atoms, Rules, Book, atom_no, count, InBook}
-use Rattle.meaning.specs.Colours.{Pair}
+use Rattle.meaning.specs.Colours.{Pair, Side, on_side, off_side}
 use Rattle.meaning.specs.Bits.{none, implied, members, listed}
-use Rattle.meaning.specs.Written.{Tables, coloured, lent}
+use Rattle.meaning.specs.Written.{Tables, coloured, colour, lent}
 use Rattle.meaning.specs.Propagation.{propagate}
 use Rattle.meaning.specs.Pending.{Forced, Pending, no_atoms, hit, dropped, newly_lost}
 use Rattle.meaning.proofs.Tests.{or_left, true-and-false, refuted, implies, decided}
 use Rattle.meaning.proofs.Tests.{implied as implied-by}
 use Rattle.meaning.proofs.Sets.{below_at, below_all, below-some, below_one}
 use Rattle.meaning.proofs.Rules.{within_both}
-use Rattle.meaning.proofs.Written.{Sized}
+use Rattle.meaning.proofs.Written.{Sized, sized_on, sized-off}
 use Rattle.meaning.proofs.Four.{members-small}
 use Rattle.meaning.proofs.Listed.{listed-long}
 use Rattle.meaning.proofs.Propagation.{forced-start}
@@ -111,6 +111,10 @@ module _ (w v z : List ℕ) (e : v ≡ w) (n : members z ≡ none) {x : Bool} (f
 pub sized-coloured : (on off : List ℕ) → Sized (coloured (listed on) (listed off))
 sized-coloured on off =
     record { on = listed-long on; off = listed-long off; marks = length-replicate 256 false; levels = length-replicate {A = ℕ} 255 0 }
+
+pub sized-colour : (x : Side) (r : RuleNo) {c : Tables} → Sized c → Sized (colour x r c)
+sized-colour on_side r s = sized_on r s
+sized-colour off_side r s = sized-off r s
 
 pub propagating-end : (b : Book) → count b ≤ 255 → (on₀ off₀ on off : List ℕ) {nt nl : Atoms} {cand : Rules}
     → Propagating b (lent (listed on₀) (listed off₀)) (lent (listed on) (listed off)) nt nl cand

@@ -9,7 +9,7 @@
 ghost use Rattle.std.specs.Prelude.{◌≡◌, true};
 ghost use Rattle.meaning.specs.Bits.{listed};
 ghost use Rattle.meaning.specs.Written.{written, of, chosen, lent, pair};
-ghost use Rattle.meaning.specs.Colours.{on_side, off_side, Under};
+ghost use Rattle.meaning.specs.Colours.{side_of, Under};
 ghost use Rattle.meaning.specs.Computed.{close};
 ghost use Rattle.meaning.specs.Lowest.{lowest_from, in_both, clashed};
 ghost use Rattle.meaning.specs.Propagation.{Propagated};
@@ -21,8 +21,8 @@ ghost use Rattle.closing.specs.Taken.{taken, Ready, Takes};
 
 use book::RowedBook;
 use levels::stamp;
-use meaning::{Bits, Colouring, RuleNo, whole};
-use starting::{propagate, propagate_dropped, propagate_off, propagate_on};
+use meaning::{Bits, Colouring, RuleNo, Side, whole};
+use starting::{propagate, propagate_dropped, propagate_put};
 use unsupported::{drop_suspects, drop_unsupported};
 
 mod choice;
@@ -97,40 +97,21 @@ fn close_taken(rowed: &RowedBook, d: Colouring, choice: Choice, early: bool) -> 
 {
     match choice {
         Choice::Nothing => close(rowed, d),
-        Choice::On(r) => close_on(rowed, d, r, early),
-        Choice::Off(r) => close_off(rowed, d, r, early),
+        Choice::On(r) => close_put(rowed, d, Side::On, r, early),
+        Choice::Off(r) => close_put(rowed, d, Side::Off, r, early),
     }
 }
 
-// The same with the rule put on.
-fn close_on(rowed: &RowedBook, d: Colouring, r: RuleNo, early: bool) -> Closure
+// The same with the rule put on that side.
+fn close_put(rowed: &RowedBook, d: Colouring, side: Side, r: RuleNo, early: bool) -> Closure
     requires { Ready (the_book rowed.now.book) (written d) r }
-    ensures { Ends (the_book rowed.now.book) early (chosen on_side r (written d))
+    ensures { Ends (the_book rowed.now.book) early (chosen (side_of side) r (written d))
         (written result.colours) (picked result.clash) }
 {
     let mut on = d.on.w;
     let mut off = d.off.w;
-    propagate_on(rowed, r, &mut on, &mut off);
-    let c = d.choose_on(r);
-    if close_propagated(rowed, d.off, &mut on, &mut off, early) {
-        return Closure {
-            colours: c,
-            clash: Some(r),
-        };
-    }
-    ended(rowed.book.shape.rules, c, Bits { w: on }, Bits { w: off })
-}
-
-// The same with the rule put off.
-fn close_off(rowed: &RowedBook, d: Colouring, r: RuleNo, early: bool) -> Closure
-    requires { Ready (the_book rowed.now.book) (written d) r }
-    ensures { Ends (the_book rowed.now.book) early (chosen off_side r (written d))
-        (written result.colours) (picked result.clash) }
-{
-    let mut on = d.on.w;
-    let mut off = d.off.w;
-    propagate_off(rowed, r, &mut on, &mut off);
-    let c = d.choose_off(r);
+    propagate_put(rowed, side, r, &mut on, &mut off);
+    let c = d.choose(side, r);
     if close_propagated(rowed, d.off, &mut on, &mut off, early) {
         return Closure {
             colours: c,

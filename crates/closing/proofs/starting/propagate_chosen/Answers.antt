@@ -24,21 +24,21 @@ allowed : (s : Start) {k : Choice} → s.args.choice ≡ k
     → Puts (book_in s.args.rowed.now.book.bytes.now) (lent (listed s.args.on.now) (listed s.args.off.now)) k
 allowed s e = subst (Puts (book_in s.args.rowed.now.book.bytes.now) (lent (listed s.args.on.now) (listed s.args.off.now))) e s.requires
 
-pub propagate_on-requires : goal.propagate_on-requires
-propagate_on-requires c =
-    let (h, p) = allowed (goal.at.propagate_on-requires c).Start c.in-On.is in
+pub propagate_put-requires : goal.propagate_put-requires
+propagate_put-requires c =
+    let (h, p) = allowed (goal.at.propagate_put-requires c).Start c.in-On.is in
     (in-shape _ _ c.args.rowed.now.book.read_as _ h, p)
 
-pub propagate_off-requires : goal.propagate_off-requires
-propagate_off-requires c =
-    let (h, p) = allowed (goal.at.propagate_off-requires c).Start c.in-Off.is in
+pub propagate_put-requires-in-Off : goal.propagate_put-requires-in-Off
+propagate_put-requires-in-Off c =
+    let (h, p) = allowed (goal.at.propagate_put-requires-in-Off c).Start c.in-Off.is in
     (in-shape _ _ c.args.rowed.now.book.read_as _ h, p)
 
 pub returns-in-Nothing : goal.returns-in-Nothing
 returns-in-Nothing c = made _ _ _ _ c.in-Nothing.is c.propagate.ensures
 
 pub returns-in-On : goal.returns-in-On
-returns-in-On c = made _ _ _ _ c.in-On.is c.propagate_on.ensures
+returns-in-On c = made _ _ _ _ c.in-On.is c.propagate_put.ensures
 
 pub returns-in-Off : goal.returns-in-Off
-returns-in-Off c = made _ _ _ _ c.in-Off.is c.propagate_off.ensures
+returns-in-Off c = made _ _ _ _ c.in-Off.is c.propagate_put-in-Off.ensures
