@@ -10,7 +10,6 @@ ghost use Rattle.meaning.specs.Written.{written, nothing, colour_on, colour_off,
 
 use crate::RuleNo;
 use crate::bitset::Bits;
-use crate::lent::put;
 
 // One of a colouring's two sets.
 #[derive(Clone, Copy)]
@@ -54,8 +53,8 @@ impl Colouring {
         ensures { written result ≡ colour (side_of side) r (written self) }
     {
         match side {
-            Side::On => self.on = with_rule(self.on, r),
-            Side::Off => self.off = with_rule(self.off, r),
+            Side::On => self.on.put(r.0),
+            Side::Off => self.off.put(r.0),
         }
         self
     }
@@ -100,13 +99,4 @@ impl Colouring {
     {
         self.choose(Side::Off, r)
     }
-}
-
-// The set with the rule put in.
-fn with_rule(from: Bits, r: RuleNo) -> Bits
-    ensures { listed result.w ≡ set (listed from.w) r.0 true }
-{
-    let mut w = from.w;
-    put(&mut w, r.0);
-    Bits { w }
 }

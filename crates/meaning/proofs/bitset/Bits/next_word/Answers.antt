@@ -1,7 +1,7 @@
 -- The words before word k have no member.
 use native.Mathlib.Omega.{arith}
 use Rattle.meaning.proofs.Next.{passed_none, passed-word, next_word, next-none}
-use Rattle.meaning.proofs.lent.next_word.Goals as goal
+use Rattle.meaning.proofs.bitset.Bits.next_word.Goals as goal
 
 pub loop-k-init : goal.loop-k-init
 loop-k-init c = passed_none _ _ _ (omega arith)
