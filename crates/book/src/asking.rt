@@ -12,34 +12,34 @@ ghost use Rattle.book.specs.RuleRows.{headed_by, lost_by, RuleRows};
 use crate::reader::Shape;
 use crate::rules::{negatives, positives};
 use crate::standing::head_row;
-use meaning::{AtomNo, RuleNo, whole};
+use meaning::{AtomNo, Bits, RuleNo};
 
 // The atom is the head of a rule of the set.
-pub fn is_headed(rows: &[u64; 3072], a: AtomNo, on: &[u64; 4]) -> bool
-    ensures { result ≡ headed_by rows.now on.now a }
+pub fn is_headed(rows: &[u64; 3072], a: AtomNo, on: &Bits) -> bool
+    ensures { result ≡ headed_by rows.now on.now.w a }
 {
-    head_row(rows, a).meets(whole(on))
+    head_row(rows, a).meets(*on)
 }
 
 // All rules of the atom are in the set.
-pub fn is_lost(rows: &[u64; 3072], a: AtomNo, off: &[u64; 4]) -> bool
-    ensures { result ≡ lost_by rows.now off.now a }
+pub fn is_lost(rows: &[u64; 3072], a: AtomNo, off: &Bits) -> bool
+    ensures { result ≡ lost_by rows.now off.now.w a }
 {
-    head_row(rows, a).is_within(whole(off))
+    head_row(rows, a).is_within(*off)
 }
 
 // Every atom of the part is the head of a rule of the set.
-pub fn every_headed(part: &[u8], rows: &[u64; 3072], on: &[u64; 4]) -> bool
+pub fn every_headed(part: &[u8], rows: &[u64; 3072], on: &Bits) -> bool
     ensures { result ≡
-        every (headed_by rows.now on.now) (map atom_no part.now) }
+        every (headed_by rows.now on.now.w) (map atom_no part.now) }
 {
     part.iter().all(|a| is_headed(rows, AtomNo(*a), on))
 }
 
 // Of every atom of the part all rules are in the set.
-fn every_lost(part: &[u8], rows: &[u64; 3072], off: &[u64; 4]) -> bool
+fn every_lost(part: &[u8], rows: &[u64; 3072], off: &Bits) -> bool
     ensures { result ≡
-        every (lost_by rows.now off.now) (map atom_no part.now) }
+        every (lost_by rows.now off.now.w) (map atom_no part.now) }
 {
     part.iter().all(|a| is_lost(rows, AtomNo(*a), off))
 }
@@ -51,13 +51,13 @@ pub fn may_go_on<'a>(
     shape: Shape,
     r: RuleNo,
     rows: &[u64; 3072],
-    on: &'a [u64; 4],
-    off: &'a [u64; 4],
+    on: &'a Bits,
+    off: &'a Bits,
 ) -> bool
     requires { ReadAs book.now shape × (r.0 < shape.rules)
         × RuleRows (book_in book.now) rows.now }
     ensures { result ≡ may_on (book_in book.now)
-        (lent (listed on.now) (listed off.now)) r }
+        (lent (listed on.now.w) (listed off.now.w)) r }
 {
     if !every_headed(positives(book, shape, r), rows, on) {
         return false;

@@ -12,7 +12,7 @@ ghost use Rattle.book.specs.Tables.{atoms_in, Below};
 use crate::number::wide;
 use crate::reader::Shape;
 use crate::rules::{head, negatives, positives};
-use meaning::{AtomNo, Colouring, RuleNo, has};
+use meaning::{AtomNo, Bits, Colouring, RuleNo};
 
 // Every atom of the part is in the table.
 pub fn every_in(part: &[u8], table: &[bool; Colouring::ATOMS]) -> bool
@@ -70,17 +70,17 @@ pub fn is_blocked(book: &[u8], shape: Shape, r: RuleNo, headed: &[bool; Colourin
 }
 
 // The rule goes off: some positive atom has all its rules off.
-pub fn is_starved(book: &[u8], shape: Shape, r: RuleNo, off: &[u64; 4]) -> bool
+pub fn is_starved(book: &[u8], shape: Shape, r: RuleNo, off: &Bits) -> bool
     requires { ReadAs book.now shape × (r.0 < shape.rules) }
     ensures { result ≡
-        some (all_in (book_in book.now) (of (listed off.now)))
+        some (all_in (book_in book.now) (of (listed off.now.w)))
         (rule (book_in book.now) r).pos }
 {
     let body = positives(book, shape, r);
     let mut starved = false;
     'atoms: for a in body {
         for q in 0..shape.rules {
-            if !has(off, q) {
+            if !off.has(q) {
                 if head(book, shape, RuleNo(q)) == AtomNo(*a) {
                     continue 'atoms;
                 }

@@ -16,7 +16,7 @@ use crate::reader::{Shape, read_book};
 use crate::refusal::Refusal;
 use crate::rules::{head, negatives, positives};
 use crate::tables::{heads_of, lost_in};
-use meaning::{AtomNo, Colouring, RuleNo};
+use meaning::{AtomNo, Bits, Colouring, RuleNo};
 
 #[derive(Clone, Copy)]
 pub struct ReadBook<'a> {
@@ -87,28 +87,28 @@ impl<'a> ReadBook<'a> {
     }
 
     // The rule goes off: some positive atom has all its rules off.
-    pub fn is_starved(&self, r: RuleNo, off: &[u64; 4]) -> bool
+    pub fn is_starved(&self, r: RuleNo, off: &Bits) -> bool
         requires { r.0 < self.now.shape.rules }
         ensures { result ≡
-            some (all_in (the_book self.now) (of (listed off.now)))
+            some (all_in (the_book self.now) (of (listed off.now.w)))
             (rule (the_book self.now) r).pos }
     {
         is_starved(self.bytes, self.shape, r, off)
     }
 
     // Writes the heads of the rules of the set over whatever the table held.
-    pub fn heads_of(&self, set: &[u64; 4], out: &mut [bool; Colouring::ATOMS])
+    pub fn heads_of(&self, set: &Bits, out: &mut [bool; Colouring::ATOMS])
         ensures { out.new ≡
-            atom_table (heads (the_book self.now) (of (listed set.now))) }
+            atom_table (heads (the_book self.now) (of (listed set.now.w))) }
     {
         heads_of(self.bytes, self.shape, set, out);
     }
 
     // Writes the atoms all of whose rules are in the set over whatever the table held. An atom with no
     // rule counts.
-    pub fn lost_in(&self, set: &[u64; 4], out: &mut [bool; Colouring::ATOMS])
+    pub fn lost_in(&self, set: &Bits, out: &mut [bool; Colouring::ATOMS])
         ensures { out.new ≡
-            atom_table (all_in (the_book self.now) (of (listed set.now))) }
+            atom_table (all_in (the_book self.now) (of (listed set.now.w))) }
     {
         lost_in(self.bytes, self.shape, set, out);
     }

@@ -55,33 +55,33 @@ impl<'a> RowedBook<'a> {
     }
 
     // The atom is the head of a rule of the set.
-    pub fn is_headed(&self, a: AtomNo, on: &[u64; 4]) -> bool
-        ensures { result ≡ headed_by self.now.rows on.now a }
+    pub fn is_headed(&self, a: AtomNo, on: &Bits) -> bool
+        ensures { result ≡ headed_by self.now.rows on.now.w a }
     {
         is_headed(&self.rows, a, on)
     }
 
     // All rules of the atom are in the set.
-    pub fn is_lost(&self, a: AtomNo, off: &[u64; 4]) -> bool
-        ensures { result ≡ lost_by self.now.rows off.now a }
+    pub fn is_lost(&self, a: AtomNo, off: &Bits) -> bool
+        ensures { result ≡ lost_by self.now.rows off.now.w a }
     {
         is_lost(&self.rows, a, off)
     }
 
     // Every atom of the part is the head of a rule of the set.
-    pub fn every_headed(&self, part: &[u8], on: &[u64; 4]) -> bool
+    pub fn every_headed(&self, part: &[u8], on: &Bits) -> bool
         ensures { result ≡
-            every (headed_by self.now.rows on.now) (map atom_no part.now) }
+            every (headed_by self.now.rows on.now.w) (map atom_no part.now) }
     {
         every_headed(part, &self.rows, on)
     }
 
     // The rule may go on: each positive atom is the head of an on rule, and each negative atom has all
     // its rules off.
-    pub fn may_go_on<'s>(&self, r: RuleNo, on: &'s [u64; 4], off: &'s [u64; 4]) -> bool
+    pub fn may_go_on<'s>(&self, r: RuleNo, on: &'s Bits, off: &'s Bits) -> bool
         requires { r.0 < self.now.book.shape.rules }
         ensures { result ≡ may_on (the_book self.now.book)
-            (lent (listed on.now) (listed off.now)) r }
+            (lent (listed on.now.w) (listed off.now.w)) r }
     {
         may_go_on(self.book.bytes, self.book.shape, r, &self.rows, on, off)
     }

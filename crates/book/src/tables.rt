@@ -10,37 +10,37 @@ ghost use Rattle.book.specs.Tables.{atom_table, said_by};
 use crate::number::wide;
 use crate::reader::Shape;
 use crate::rules::head;
-use meaning::{Colouring, RuleNo, has};
+use meaning::{Bits, Colouring, RuleNo};
 
 // Writes the heads of the rules of the set over whatever the table held.
-pub fn heads_of(book: &[u8], shape: Shape, set: &[u64; 4], out: &mut [bool; Colouring::ATOMS])
+pub fn heads_of(book: &[u8], shape: Shape, set: &Bits, out: &mut [bool; Colouring::ATOMS])
     requires { ReadAs book.now shape }
     ensures { out.new ≡
-        atom_table (heads (book_in book.now) (of (listed set.now))) }
+        atom_table (heads (book_in book.now) (of (listed set.now.w))) }
 {
     fill(book, shape, set, true, out);
 }
 
 // Writes the atoms all of whose rules are in the set over whatever the table held. An atom with no
 // rule counts.
-pub fn lost_in(book: &[u8], shape: Shape, set: &[u64; 4], out: &mut [bool; Colouring::ATOMS])
+pub fn lost_in(book: &[u8], shape: Shape, set: &Bits, out: &mut [bool; Colouring::ATOMS])
     requires { ReadAs book.now shape }
     ensures { out.new ≡
-        atom_table (all_in (book_in book.now) (of (listed set.now))) }
+        atom_table (all_in (book_in book.now) (of (listed set.now.w))) }
 {
     fill(book, shape, set, false, out);
 }
 
 // Writes `said` for each atom that is the head of a rule that is in the set, or, where `said` is false, of
 // one that is not; and the opposite for every other atom.
-fn fill(book: &[u8], shape: Shape, set: &[u64; 4], said: bool, out: &mut [bool; Colouring::ATOMS])
+fn fill(book: &[u8], shape: Shape, set: &Bits, said: bool, out: &mut [bool; Colouring::ATOMS])
     requires { ReadAs book.now shape }
     ensures { out.new ≡
-        atom_table (said_by said (book_in book.now) (of (listed set.now))) }
+        atom_table (said_by said (book_in book.now) (of (listed set.now.w))) }
 {
     *out = [!said; Colouring::ATOMS];
     for r in 0..shape.rules {
-        if has(set, r) == said {
+        if set.has(r) == said {
             let a = wide(head(book, shape, RuleNo(r)).0);
             out[a] = said;
         }

@@ -13,6 +13,6 @@ use Rattle.book.proofs.asking.every_headed.Goals as goal
 pub returns : goal.returns
 returns c =
     let a = c.args in
-    all_from_yields_List (λ (n : ℕ). headed_by a.rows.now a.on.now (atom_no n)) _ _ _ c.all.ensures.ran
+    all_from_yields_List (λ (n : ℕ). headed_by a.rows.now a.on.now.w (atom_no n)) _ _ _ c.all.ensures.ran
     (YieldsList-from_slice a.part.now cc) (λ x b q k. search (rules, tests))
-    ∙ all-every (headed_by a.rows.now a.on.now) a.part.now
+    ∙ all-every (headed_by a.rows.now a.on.now.w) a.part.now

@@ -3,4 +3,4 @@ use Rattle.book.proofs.RuleRows.{lost-asked}
 use Rattle.book.proofs.asking.is_lost.Goals as goal
 
 pub returns : goal.returns
-returns c = lost-asked _ _ _ _ _ c.head_row.ensures c.whole.ensures c.is_within.ensures
+returns c = lost-asked _ _ _ _ c.head_row.ensures c.is_within.ensures

@@ -25,14 +25,14 @@ After-every_lost = lts.After-every_lost tie.the-claims tie.handed_pre tie.handed
 
 -- what the first search says, and from behind the second what that one says
 module _ (c : After-every_headed) where
-  headed : c.every_headed.result ≡ every (heads (book_in c.args.book.now) (of (listed c.args.on.now))) (rule (book_in c.args.book.now) c.args.r).pos
+  headed : c.every_headed.result ≡ every (heads (book_in c.args.book.now) (of (listed c.args.on.now.w))) (rule (book_in c.args.book.now) c.args.r).pos
   headed =
       let n : c.args.shape.atoms < 256 = search rules in
       c.every_headed.ensures ∙ every-part _ _ _ c.positives.ensures
       ∙ every-headed _ _ c.requires.2 _ _ (pos-small _ c.args.shape c.requires.0 n c.args.r c.requires.1)
 
 module _ (c : After-every_lost) where
-  lost : c.every_lost.result ≡ every (all_in (book_in c.args.book.now) (of (listed c.args.off.now))) (rule (book_in c.args.book.now) c.args.r).neg
+  lost : c.every_lost.result ≡ every (all_in (book_in c.args.book.now) (of (listed c.args.off.now.w))) (rule (book_in c.args.book.now) c.args.r).neg
   lost =
       let n : c.args.shape.atoms < 256 = search rules in
       c.every_lost.ensures ∙ every-part _ _ _ c.negatives.ensures

@@ -19,7 +19,7 @@ loop-q-init c = all-at-none _ _ 0 _
 pub atoms-preserved : goal.atoms-preserved
 atoms-preserved c =
     let n = shape-count _ c.args.shape c.requires.0 in
-    let e = not-all-in (book_in c.args.book.now) (of (listed c.args.off.now)) c.loop-q.q _ _ (omega arith)
+    let e = not-all-in (book_in c.args.book.now) (of (listed c.args.off.now.w)) c.loop-q.q _ _ (omega arith)
     c.head.ensures (eqb-true _ _ (sym c.eq.ensures ∙ c.if-eq.true)) (sym c.has.ensures ∙ c.if-not-has.true) in (
       c.atoms.invariant.0 ∙ some_turn _ c.positives-body.result.now c.atoms.a-index (omega arith) ∙ rw e,
       c.atoms.invariant.1,

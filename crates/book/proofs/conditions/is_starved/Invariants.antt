@@ -12,10 +12,10 @@ use Rattle.book.proofs.AtomSets.{all_to}
 use Rattle.book.proofs.conditions.is_starved.Given as goal
 
 abbrev pub invariant-loop-q : goal.invariant-loop-q
-invariant-loop-q l = all_to (book_in l.book) (of (listed l.off)) l.q (atom_no (get_or l.body l.a-index 0)) ≡ true
+invariant-loop-q l = all_to (book_in l.book) (of (listed l.off.w)) l.q (atom_no (get_or l.body l.a-index 0)) ≡ true
 
 abbrev pub invariant-atoms : goal.invariant-atoms
 invariant-atoms l =
-    (some (all_in (book_in l.book) (of (listed l.off))) (map atom_no l.body) ≡ some (all_in (book_in l.book) (of (listed l.off)))
+    (some (all_in (book_in l.book) (of (listed l.off.w))) (map atom_no l.body) ≡ some (all_in (book_in l.book) (of (listed l.off.w)))
     (map atom_no (drop l.a-index l.body)))
     × (l.starved ≡ false)

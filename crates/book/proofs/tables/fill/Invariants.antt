@@ -7,4 +7,4 @@ use Rattle.book.proofs.AtomSets.{said_to}
 use Rattle.book.proofs.tables.fill.Given as goal
 
 abbrev pub invariant-loop-r : goal.invariant-loop-r
-invariant-loop-r l = l.out ≡ atom_table (said_to l.said (book_in l.book) (of (listed l.set)) l.r)
+invariant-loop-r l = l.out ≡ atom_table (said_to l.said (book_in l.book) (of (listed l.set.w)) l.r)
