@@ -28,7 +28,7 @@ fn join_rows(rowed: &RowedBook, a: AtomNo, by_neg: &mut [u64; 4], by_pos: &mut [
     join(by_pos, &rowed.pos_row(a).w);
 }
 
-// The same for each atom of a set.
+// The same for each atom of a set, in one pass: the atoms are not walked once for each kind of row.
 fn spread(rowed: &RowedBook, atoms: &[u64; 4], by_neg: &mut [u64; 4], by_pos: &mut [u64; 4])
     ensures { (members by_neg.new ≡ plus (members by_neg.old)
         (rows_below rowed.now.rows 512 (members atoms.now) 256))

@@ -70,7 +70,8 @@ fn note_doubted(rowed: &RowedBook, r: RuleNo, off: &[u64; 4], atoms: &mut [u64; 
     note(!is_sure(rowed, a, off), a, atoms);
 }
 
-// Writes the heads of the rules of the set that are not sure.
+// Writes the heads of the rules of the set that are not sure. One function for this and `lost_heads`
+// would take the question as a closure, and its promise would speak of answers of closures: no plainer.
 fn doubted_heads(rowed: &RowedBook, fresh: &[u64; 4], off: &[u64; 4], atoms: &mut [u64; 4])
     ensures { atom_set atoms.new ≡ doubted (the_book rowed.now.book)
         (of (listed off.now)) (of (listed fresh.now)) }

@@ -5,13 +5,13 @@ use mathlib.Core.Logic.{⊎_elim}
 use mathlib.Core.Bool.{Bool, true, false, not, ◌||◌, ◌&&◌, or-false}
 use mathlib.Core.List.{List, [], ◌∷◌}
 use Prim.Native.Nat.{ℕ, zero, suc, ◌<◌, ◌≤◌, ◌+◌, ◌-◌, ◌*◌, ◌/◌, ◌%◌, ◌^◌}
-use native.Mathlib.Nat.{le_of_suc-le-suc}
+use native.Mathlib.Nat.{le_of_suc-le-suc, lt_of_le_of_lt}
 use native.Mathlib.Decide.{ℕ_discrete, dec_lt}
 use native.Mathlib.Omega.{arith}
 use lib.Dec.{eqb, ltb}
 use mir.Syntax.{w64}
 use mir.Val.{Fits}
-use lib.Bits.{bit_and, bit_or}
+use lib.Bits.{bit_and, bit_or, and_le_l}
 use lib.ListN.{length, get_or, set, replicate}
 use lib.Seq.{ext_get_or, get_or-set_same, get_or-set_other}
 use borrow.Author.Tests.{eq-eqb, ne_eqb, eqb-true, eqb-false, ltb-true, lt-ltb, le-ltb}
@@ -177,6 +177,9 @@ module _ (w : List ℕ) (u : Words w) where
       rw (z 0 (omega arith), z 1 (omega arith), z 2 (omega arith), z 3 (omega arith)))))))
       (decided (eqb (all w) 0))
 
+over-four : (w : List ℕ) → length w ≡ 4 → (n : ℕ) → 4 ≤ n → get_or w n 0 < 2 ^ 64
+over-four w e n l = let z = get_d-out w n (omega arith) in rw z (omega arith)
+
 -- not some is every not
 pub not-not : (t : Bool) → not (not t) ≡ t
 not-not true = refl
@@ -195,6 +198,30 @@ pub not_some : (n : ℕ) (s t : Set ℕ) → not (some_below n (less s t)) ≡ e
 unfolding some_below every_below
 not_some zero s t = refl
 not_some (suc n) s t = over (s n && not (t n)) (some_below n (less s t)) ∙ ap₂ ◌&&◌ (turn (s n) (t n)) (not_some n s t)
+
+module _ (a b : List ℕ) (u : Words a) (v : Words b) where
+  -- the words that `each` gives are of 64 bits
+  pub words-and : Words (each bit_and a b)
+  unfolding each
+  words-and = record { long = refl; small = four (λ n. get_or (each bit_and a b) n 0 < 2 ^ 64) (small 0) (small 1) (small 2) (small 3) (over-four (each bit_and a b) refl) }
+    where
+      small : (n : ℕ) → bit_and (get_or a n 0) (get_or b n 0) < 2 ^ 64
+      small n = lt_of_le_of_lt (and_le_l (get_or a n 0) (get_or b n 0)) (u.small n)
+
+  pub words-and-not : Words (each and_not a b)
+  unfolding each
+  words-and-not = record { long = refl; small = four (λ n. get_or (each and_not a b) n 0 < 2 ^ 64) (small 0) (small 1) (small 2) (small 3) (over-four (each and_not a b) refl) }
+    where
+      small : (n : ℕ) → and_not (get_or a n 0) (get_or b n 0) < 2 ^ 64
+      small n = lt_of_le_of_lt (and_le_l (get_or a n 0) ((2 ^ 64 - 1) - get_or b n 0)) (u.small n)
+
+  pub meets-some : not (eqb (all (each bit_and a b)) 0) ≡ some_below 256 (both (members a) (members b))
+  meets-some = any-member (each bit_and a b) words-and ∙ ap (some_below 256) (members-and a b u v)
+
+  pub within-every : eqb (all (each and_not a b)) 0 ≡ every_below 256 (implied (members a) (members b))
+  within-every =
+      sym (not-not (eqb (all (each and_not a b)) 0)) ∙ ap not (any-member (each and_not a b) words-and-not ∙ ap (some_below 256) (members-less a b u v))
+      ∙ not_some 256 (members a) (members b)
 
 -- ---- the numbers below n
 
