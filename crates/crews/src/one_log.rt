@@ -20,7 +20,7 @@ fn search(book: &ReadBook, limit: u32) -> Option<bool>
         × (t ≡ found (searched (the_book book.now) limit))) }
 {
     let mut row = [0u8; Colouring::ATOMS];
-    match first(book.bytes, book.shape, limit, &mut row).halt {
+    match first(*book, limit, &mut row).halt {
         Halt::Full => Some(true),
         Halt::Going => Some(false),
         Halt::Limit => None,
