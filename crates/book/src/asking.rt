@@ -33,14 +33,7 @@ pub fn every_headed(part: &[u8], rows: &[u64; 3072], on: &[u64; 4]) -> bool
     ensures { result ≡
         every (headed_by rows.now on.now) (map atom_no part.now) }
 {
-    let mut i = 0;
-    while i < part.len() {
-        if !is_headed(rows, AtomNo(part[i]), on) {
-            return false;
-        }
-        i += 1;
-    }
-    true
+    part.iter().all(|a| is_headed(rows, AtomNo(*a), on))
 }
 
 // Of every atom of the part all rules are in the set.
@@ -48,14 +41,7 @@ fn every_lost(part: &[u8], rows: &[u64; 3072], off: &[u64; 4]) -> bool
     ensures { result ≡
         every (lost_by rows.now off.now) (map atom_no part.now) }
 {
-    let mut i = 0;
-    while i < part.len() {
-        if !is_lost(rows, AtomNo(part[i]), off) {
-            return false;
-        }
-        i += 1;
-    }
-    true
+    part.iter().all(|a| is_lost(rows, AtomNo(*a), off))
 }
 
 // The rule may go on: each positive atom is the head of an on rule, and each negative atom has all

@@ -12,19 +12,17 @@ ghost use Rattle.book.specs.Tables.{atoms_in, Below};
 use crate::number::wide;
 use crate::reader::Shape;
 use crate::rules::{head, negatives, positives};
-use meaning::{Colouring, RuleNo, has};
+use meaning::{AtomNo, Colouring, RuleNo, has};
 
 // Every atom of the part is in the table.
 pub fn every_in(part: &[u8], table: &[bool; Colouring::ATOMS]) -> bool
     requires { Below 255 part.now }
     ensures { result ≡ every (atoms_in table.now) (map atom_no part.now) }
 {
-    let mut i = 0;
-    while i < part.len() {
-        if !table[wide(part[i])] {
+    for a in part {
+        if !table[wide(*a)] {
             return false;
         }
-        i += 1;
     }
     true
 }
@@ -34,12 +32,10 @@ pub fn some_in(part: &[u8], table: &[bool; Colouring::ATOMS]) -> bool
     requires { Below 255 part.now }
     ensures { result ≡ some (atoms_in table.now) (map atom_no part.now) }
 {
-    let mut i = 0;
-    while i < part.len() {
-        if table[wide(part[i])] {
+    for a in part {
+        if table[wide(*a)] {
             return true;
         }
-        i += 1;
     }
     false
 }
@@ -82,18 +78,13 @@ pub fn is_starved(book: &[u8], shape: Shape, r: RuleNo, off: &[u64; 4]) -> bool
 {
     let body = positives(book, shape, r);
     let mut starved = false;
-    let mut i = 0;
-    'atoms: while i < body.len() {
-        let a = body[i];
-        i += 1;
-        let mut q: u8 = 0;
-        while q < shape.rules {
+    'atoms: for a in body {
+        for q in 0..shape.rules {
             if !has(off, q) {
-                if head(book, shape, RuleNo(q)).0 == a {
+                if head(book, shape, RuleNo(q)) == AtomNo(*a) {
                     continue 'atoms;
                 }
             }
-            q += 1;
         }
         starved = true;
         break 'atoms;

@@ -28,10 +28,7 @@ pub fn read_book(book: &[u8]) -> Result<Shape, Refusal>
     if BOOK_BYTES < len {
         return Err(Refusal::Length);
     }
-    if book[len - 2] != BOOK_MARK[0] {
-        return Err(Refusal::Mark(len - 2));
-    }
-    if book[len - 1] != BOOK_MARK[1] {
+    if !book.ends_with(&BOOK_MARK) {
         return Err(Refusal::Mark(len - 2));
     }
     let atoms = book[len - 6];

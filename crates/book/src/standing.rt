@@ -19,10 +19,8 @@ pub fn make_rows(book: &[u8], shape: Shape, rows: &mut [u64; 3072])
     ensures { RuleRows (book_in book.now) rows.new }
 {
     *rows = [0; 3072];
-    let mut r: u8 = 0;
-    while r < shape.rules {
+    for r in 0..shape.rules {
         enter_rule(book, shape, r, rows);
-        r += 1;
     }
 }
 
@@ -76,10 +74,8 @@ fn enter_part(rows: &mut [u64; 3072], first: usize, part: &[u8], r: u8)
         entered r (in_part first part.now) (sets rows.old))
         × (length rows.new ≡ 3072) }
 {
-    let mut i = 0;
-    while i < part.len() {
-        enter(rows, first + wide(part[i]), r);
-        i += 1;
+    for a in part {
+        enter(rows, first + wide(*a), r);
     }
 }
 
@@ -91,5 +87,5 @@ fn enter(rows: &mut [u64; 3072], k: usize, r: u8)
 {
     let n = wide(r);
     let at = k * 4 + n / 64;
-    rows[at] = rows[at] | (1u64 << (n % 64));
+    rows[at] |= 1u64 << (n % 64);
 }

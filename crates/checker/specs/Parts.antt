@@ -3,7 +3,7 @@
 --   stepped s at c x      the step x at byte `at` of the paper s, with the pair c
 --   StepWithin b s from at x   the step's rules are in the book, and it ends before the witness
 --   Leads b k s from at c i d   steps lead from byte `at` with the pair c to byte i with the pair d
---   Ready book shape paper from   what every part asks: a good book, and a witness start within the paper
+--   Ready paper from   what every part asks: a witness start within the paper
 --   Finds b k s from at c x    what checking a step promises
 --   Runs b k s from at c ran   what running the steps of a branch promises
 --   walked w, verdict v   what a branch and a witness come to
@@ -18,8 +18,6 @@ use Rattle.meaning.specs.declared.kind.Claim.{Claim}
 use Rattle.meaning.specs.Written.{written, pair}
 use Rattle.meaning.specs.Told.{Told, refused_at}
 use Rattle.meaning.specs.Paper.{paper_bytes}
-use Rattle.book.specs.declared.reader.Shape.{Shape}
-use Rattle.book.specs.Format.{ReadAs}
 use Rattle.book.specs.Tables.{Below}
 use Rattle.checker.specs.declared.step.Step.{Step}
 use Rattle.checker.specs.declared.step.Step.TheVariants.{On, Off, Unfounded, Stops}
@@ -66,8 +64,7 @@ StepWithin b s from at (Off r) = RuleWithin b from at r
 StepWithin b s from at (Unfounded m) = (at + 2 + m ≤ from) × Below (count b) (take m (drop (at + 2) s))
 StepWithin b s from at (Stops x) = StopWithin b from at x
 
-pub record Ready (book : List ℕ) (shape : Shape) (paper : List ℕ) (from : ℕ) : Type 0 where
-  pub read : ReadAs book shape
+pub record Ready (paper : List ℕ) (from : ℕ) : Type 0 where
   pub within : from ≤ length paper
   pub small : from < 65536
 

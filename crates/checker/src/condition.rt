@@ -7,40 +7,34 @@ ghost use Rattle.meaning.specs.Colours.{heads, all_in, may_on, uncoloured};
 ghost use Rattle.meaning.specs.Claim.{shown, ended};
 ghost use Rattle.meaning.specs.Bits.{listed};
 ghost use Rattle.meaning.specs.Written.{of, lent};
-ghost use Rattle.book.specs.Format.{book_in, ReadAs};
+ghost use Rattle.book.specs.ReadBook.{the_book};
 
-use book::{Shape, goes_on, head, heads_of, is_blocked, lost_in};
+use book::ReadBook;
 use meaning::{AtomNo, Bits, Claim, Colouring, Kind, RuleNo, has, whole};
 
 // 41: each positive atom is the head of an on rule, and for each negative atom all rules with that
 // head are off.
-pub fn may_go_on<'a>(
-    book: &[u8],
-    shape: Shape,
-    r: RuleNo,
-    on: &'a [u64; 4],
-    off: &'a [u64; 4],
-) -> bool
-    requires { ReadAs book.now shape × (r.0 < shape.rules) }
+pub fn may_go_on<'a>(book: &ReadBook, r: RuleNo, on: &'a [u64; 4], off: &'a [u64; 4]) -> bool
+    requires { r.0 < book.now.shape.rules }
     ensures { result ≡
-        may_on (book_in book.now) (lent (listed on.now) (listed off.now)) r }
+        may_on (the_book book.now) (lent (listed on.now) (listed off.now)) r }
 {
     let mut headed = [false; Colouring::ATOMS];
-    heads_of(book, shape, on, &mut headed);
+    book.heads_of(on, &mut headed);
     let mut lost = [false; Colouring::ATOMS];
-    lost_in(book, shape, off, &mut lost);
-    goes_on(book, shape, r, &headed, &lost)
+    book.lost_in(off, &mut lost);
+    book.goes_on(r, &headed, &lost)
 }
 
 // 42: some negative atom is the head of an on rule.
-pub fn may_go_off(book: &[u8], shape: Shape, r: RuleNo, on: &[u64; 4]) -> bool
-    requires { ReadAs book.now shape × (r.0 < shape.rules) }
-    ensures { result ≡ some (heads (book_in book.now) (of (listed on.now)))
-        (rule (book_in book.now) r).neg }
+pub fn may_go_off(book: &ReadBook, r: RuleNo, on: &[u64; 4]) -> bool
+    requires { r.0 < book.now.shape.rules }
+    ensures { result ≡ some (heads (the_book book.now) (of (listed on.now)))
+        (rule (the_book book.now) r).neg }
 {
     let mut headed = [false; Colouring::ATOMS];
-    heads_of(book, shape, on, &mut headed);
-    is_blocked(book, shape, r, &headed)
+    book.heads_of(on, &mut headed);
+    book.is_blocked(r, &headed)
 }
 
 // 53: the rule has no colour.
@@ -60,12 +54,11 @@ pub fn is_clashing<'a>(rules: u8, on: &'a [u64; 4], off: &'a [u64; 4]) -> bool
 }
 
 // The atom is the head of a rule of the set.
-pub fn is_head(book: &[u8], shape: Shape, a: AtomNo, set: &[u64; 4]) -> bool
-    requires { ReadAs book.now shape }
-    ensures { result ≡ heads (book_in book.now) (of (listed set.now)) a }
+pub fn is_head(book: &ReadBook, a: AtomNo, set: &[u64; 4]) -> bool
+    ensures { result ≡ heads (the_book book.now) (of (listed set.now)) a }
 {
-    for r in 0..shape.rules {
-        if has(set, r) && head(book, shape, RuleNo(r)).0 == a.0 {
+    for r in 0..book.shape.rules {
+        if has(set, r) && book.head(RuleNo(r)) == a {
             return true;
         }
     }
@@ -73,47 +66,32 @@ pub fn is_head(book: &[u8], shape: Shape, a: AtomNo, set: &[u64; 4]) -> bool
 }
 
 // All rules with the atom as head are in the set.
-pub fn is_lost(book: &[u8], shape: Shape, a: AtomNo, set: &[u64; 4]) -> bool
-    requires { ReadAs book.now shape }
-    ensures { result ≡ all_in (book_in book.now) (of (listed set.now)) a }
+pub fn is_lost(book: &ReadBook, a: AtomNo, set: &[u64; 4]) -> bool
+    ensures { result ≡ all_in (the_book book.now) (of (listed set.now)) a }
 {
-    let others = Bits::below(shape.rules).difference(whole(set));
-    !is_head(book, shape, a, &others.w)
+    let others = Bits::below(book.shape.rules).difference(whole(set));
+    !is_head(book, a, &others.w)
 }
 
 // The claim is shown: an on rule has the claimed atom as head, or all rules with it as head are off.
 // That the book has no reading is shown by no colouring.
-fn is_shown<'a>(
-    book: &[u8],
-    shape: Shape,
-    claim: Claim,
-    on: &'a [u64; 4],
-    off: &'a [u64; 4],
-) -> bool
-    requires { ReadAs book.now shape }
+fn is_shown<'a>(book: &ReadBook, claim: Claim, on: &'a [u64; 4], off: &'a [u64; 4]) -> bool
     ensures { result ≡
-        shown (book_in book.now) claim (lent (listed on.now) (listed off.now)) }
+        shown (the_book book.now) claim (lent (listed on.now) (listed off.now)) }
 {
     match claim {
         Claim::About(kind, atom) => match kind {
-            Kind::Naming => is_head(book, shape, atom, on),
-            Kind::Clearing => is_lost(book, shape, atom, off),
+            Kind::Naming => is_head(book, atom, on),
+            Kind::Clearing => is_lost(book, atom, off),
         },
         Claim::NoReading => false,
     }
 }
 
 // 45: some rule is in both sets, or the claim is shown.
-pub fn is_ended<'a>(
-    book: &[u8],
-    shape: Shape,
-    claim: Claim,
-    on: &'a [u64; 4],
-    off: &'a [u64; 4],
-) -> bool
-    requires { ReadAs book.now shape }
+pub fn is_ended<'a>(book: &ReadBook, claim: Claim, on: &'a [u64; 4], off: &'a [u64; 4]) -> bool
     ensures { result ≡
-        ended (book_in book.now) claim (lent (listed on.now) (listed off.now)) }
+        ended (the_book book.now) claim (lent (listed on.now) (listed off.now)) }
 {
-    is_clashing(shape.rules, on, off) || is_shown(book, shape, claim, on, off)
+    is_clashing(book.shape.rules, on, off) || is_shown(book, claim, on, off)
 }

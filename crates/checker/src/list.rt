@@ -6,10 +6,10 @@ ghost use Rattle.meaning.specs.Bits.{listed};
 ghost use Rattle.meaning.specs.Colours.{plus, all_in};
 ghost use Rattle.meaning.specs.Paper.{unfounded};
 ghost use Rattle.meaning.specs.Written.{of};
-ghost use Rattle.book.specs.Format.{book_in, ReadAs};
+ghost use Rattle.book.specs.ReadBook.{the_book};
 ghost use Rattle.book.specs.Tables.{Below};
 
-use book::{Shape, is_starved};
+use book::ReadBook;
 use meaning::{Bits, RuleNo, put, whole};
 
 // The list is strictly ascending, and each of its rules is below R.
@@ -41,14 +41,14 @@ pub fn with_rules(set: Bits, list: &[u8]) -> Bits
 }
 
 // Each listed rule has a positive atom all of whose rules are in the set.
-fn each_starves(book: &[u8], shape: Shape, list: &[u8], gone: &[u64; 4]) -> bool
-    requires { ReadAs book.now shape × Below shape.rules list.now }
+fn each_starves(book: &ReadBook, list: &[u8], gone: &[u64; 4]) -> bool
+    requires { Below book.now.shape.rules list.now }
     ensures { result ≡ every (λ r.
-        some (all_in (book_in book.now) (of (listed gone.now)))
-        (rule (book_in book.now) r).pos) (map rule_no list.now) }
+        some (all_in (the_book book.now) (of (listed gone.now)))
+        (rule (the_book book.now) r).pos) (map rule_no list.now) }
 {
     for &n in list {
-        if !is_starved(book, shape, RuleNo(n), gone) {
+        if !book.is_starved(RuleNo(n), gone) {
             return false;
         }
     }
@@ -56,13 +56,12 @@ fn each_starves(book: &[u8], shape: Shape, list: &[u8], gone: &[u64; 4]) -> bool
 }
 
 // 55: each listed rule has a positive atom all of whose rules are off or listed.
-pub fn is_unfounded(book: &[u8], shape: Shape, list: &[u8], off: &[u64; 4]) -> bool
-    requires { ReadAs book.now shape × Below shape.rules list.now }
+pub fn is_unfounded(book: &ReadBook, list: &[u8], off: &[u64; 4]) -> bool
+    requires { Below book.now.shape.rules list.now }
     ensures { result ≡
-        unfounded (book_in book.now) (of (listed off.now))
+        unfounded (the_book book.now) (of (listed off.now))
         (map rule_no list.now) }
 {
     let gone = with_rules(whole(off), list);
-    let w = gone.w;
-    each_starves(book, shape, list, &w)
+    each_starves(book, list, &gone.w)
 }

@@ -11,8 +11,7 @@ use meaning::{Bits, RuleNo, next_in};
 pub fn lowest_in(rules: u8, set: Bits) -> Option<RuleNo>
     ensures { picked result ≡ lowest_from 0 rules (of (listed set.w)) }
 {
-    let w = set.w;
-    let r = next_in(&w, 0);
+    let r = next_in(&set.w, 0);
     if r < rules as usize {
         return Some(RuleNo(r as u8));
     }

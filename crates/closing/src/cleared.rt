@@ -69,8 +69,7 @@ pub fn clear(rowed: &RowedBook, suspects: &[u64; 4], held: &mut [u64; 4])
     ensures { Cleared (the_book rowed.now.book) (of (listed suspects.now))
         (of (listed held.old)) (of (listed held.new)) }
 {
-    let all = whole(suspects);
-    let mut cand = all.w;
+    let mut cand = *suspects;
     loop {
         try_suspects(rowed, suspects, &mut cand, held);
         if whole(&cand).is_within(Bits::empty()) {

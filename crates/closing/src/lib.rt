@@ -9,7 +9,7 @@
 ghost use Rattle.std.specs.Prelude.{◌≡◌, true};
 ghost use Rattle.meaning.specs.Bits.{listed};
 ghost use Rattle.meaning.specs.Written.{written, of, chosen, lent, pair};
-ghost use Rattle.meaning.specs.Colours.{on_side, off_side, Under};
+ghost use Rattle.meaning.specs.Colours.{side_of, Under};
 ghost use Rattle.meaning.specs.Computed.{close};
 ghost use Rattle.meaning.specs.Lowest.{lowest_from, in_both, clashed};
 ghost use Rattle.meaning.specs.Propagation.{Propagated};
@@ -21,8 +21,8 @@ ghost use Rattle.closing.specs.Taken.{taken, Ready, Takes};
 
 use book::RowedBook;
 use levels::stamp;
-use meaning::{Bits, Colouring, RuleNo, whole};
-use starting::{propagate, propagate_dropped, propagate_off, propagate_on};
+use meaning::{Bits, Colouring, RuleNo, Side, whole};
+use starting::{propagate, propagate_dropped, propagate_put};
 use unsupported::{drop_suspects, drop_unsupported};
 
 mod choice;
@@ -56,10 +56,8 @@ pub fn close(rowed: &RowedBook, c: Colouring) -> Closure
         × (picked result.clash ≡ clashed (the_book rowed.now.book)
         (pair (close (the_book rowed.now.book) (written c)))) }
 {
-    let c_on = c.on;
-    let c_off = c.off;
-    let mut on = c_on.w;
-    let mut off = c_off.w;
+    let mut on = c.on.w;
+    let mut off = c.off.w;
     propagate(rowed, &mut on, &mut off);
     let before = off;
     drop_unsupported(&rowed.book, &mut off);
@@ -99,45 +97,22 @@ fn close_taken(rowed: &RowedBook, d: Colouring, choice: Choice, early: bool) -> 
 {
     match choice {
         Choice::Nothing => close(rowed, d),
-        Choice::On(r) => close_on(rowed, d, r, early),
-        Choice::Off(r) => close_off(rowed, d, r, early),
+        Choice::On(r) => close_put(rowed, d, Side::On, r, early),
+        Choice::Off(r) => close_put(rowed, d, Side::Off, r, early),
     }
 }
 
-// The same with the rule put on.
-fn close_on(rowed: &RowedBook, d: Colouring, r: RuleNo, early: bool) -> Closure
+// The same with the rule put on that side.
+fn close_put(rowed: &RowedBook, d: Colouring, side: Side, r: RuleNo, early: bool) -> Closure
     requires { Ready (the_book rowed.now.book) (written d) r }
-    ensures { Ends (the_book rowed.now.book) early (chosen on_side r (written d))
+    ensures { Ends (the_book rowed.now.book) early (chosen (side_of side) r (written d))
         (written result.colours) (picked result.clash) }
 {
-    let d_on = d.on;
-    let d_off = d.off;
-    let mut on = d_on.w;
-    let mut off = d_off.w;
-    propagate_on(rowed, r, &mut on, &mut off);
-    let c = d.choose_on(r);
-    if close_propagated(rowed, d_off, &mut on, &mut off, early) {
-        return Closure {
-            colours: c,
-            clash: Some(r),
-        };
-    }
-    ended(rowed.book.shape.rules, c, Bits { w: on }, Bits { w: off })
-}
-
-// The same with the rule put off.
-fn close_off(rowed: &RowedBook, d: Colouring, r: RuleNo, early: bool) -> Closure
-    requires { Ready (the_book rowed.now.book) (written d) r }
-    ensures { Ends (the_book rowed.now.book) early (chosen off_side r (written d))
-        (written result.colours) (picked result.clash) }
-{
-    let d_on = d.on;
-    let d_off = d.off;
-    let mut on = d_on.w;
-    let mut off = d_off.w;
-    propagate_off(rowed, r, &mut on, &mut off);
-    let c = d.choose_off(r);
-    if close_propagated(rowed, d_off, &mut on, &mut off, early) {
+    let mut on = d.on.w;
+    let mut off = d.off.w;
+    propagate_put(rowed, side, r, &mut on, &mut off);
+    let c = d.choose(side, r);
+    if close_propagated(rowed, d.off, &mut on, &mut off, early) {
         return Closure {
             colours: c,
             clash: Some(r),
@@ -176,8 +151,7 @@ fn close_propagated(
         if is_left(rowed.book.shape.rules, early, on, off) {
             return true;
         }
-        let was = whole(off);
-        let before = was.w;
+        let before = *off;
         if !drop_suspects(rowed, &mut old, off) {
             return false;
         }
@@ -193,9 +167,8 @@ fn ended(rules: u8, c: Colouring, on: Bits, off: Bits) -> Closure
         lowest_from 0 rules (in_both (lent (listed on.w) (listed off.w)))) }
 {
     let new = on.union(off).difference(c.on.union(c.off));
-    let w = new.w;
     let mut levels = c.levels;
-    stamp(rules, &w, c.level, &mut levels);
+    stamp(rules, &new.w, c.level, &mut levels);
     Closure {
         colours: Colouring {
             on,

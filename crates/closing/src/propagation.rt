@@ -24,15 +24,11 @@ fn join_rows(rowed: &RowedBook, a: AtomNo, by_neg: &mut [u64; 4], by_pos: &mut [
         × (members by_pos.new ≡
         plus (members by_pos.old) (sets rowed.now.rows (256 + a.0))) }
 {
-    let neg = rowed.neg_row(a);
-    let n = neg.w;
-    join(by_neg, &n);
-    let pos = rowed.pos_row(a);
-    let p = pos.w;
-    join(by_pos, &p);
+    join(by_neg, &rowed.neg_row(a).w);
+    join(by_pos, &rowed.pos_row(a).w);
 }
 
-// The same for each atom of a set.
+// The same for each atom of a set, in one pass: the atoms are not walked once for each kind of row.
 fn spread(rowed: &RowedBook, atoms: &[u64; 4], by_neg: &mut [u64; 4], by_pos: &mut [u64; 4])
     ensures { (members by_neg.new ≡ plus (members by_neg.old)
         (rows_below rowed.now.rows 512 (members atoms.now) 256))
@@ -101,9 +97,8 @@ fn fall(
     spread(rowed, nl, cand, &mut hit);
     *nt = [0; 4];
     let fresh = whole(&hit).difference(whole(off));
-    let new = fresh.w;
     join(off, &hit);
-    lost_heads(rowed, &new, off, nl);
+    lost_heads(rowed, &fresh.w, off, nl);
 }
 
 // The rule goes on, and its head is new unless it was true.
@@ -144,8 +139,7 @@ fn raise(
         (of (listed cand.new)) (of (listed on.new)) (atom_set nt.new)
         × (members cand.new ≡ none) }
 {
-    let left = whole(cand).difference(whole(on));
-    let todo = left.w;
+    let todo = whole(cand).difference(whole(on)).w;
     *cand = [0; 4];
     let end = rowed.book.shape.rules as usize;
     let mut r = next_in(&todo, 0);

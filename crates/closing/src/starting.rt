@@ -4,8 +4,8 @@
 ghost use Rattle.std.specs.Prelude.{◌≡◌, ◌&&◌, ◌||◌, ◌<◌, ltb};
 ghost use Rattle.meaning.specs.Books.{same_atom};
 ghost use Rattle.meaning.specs.Bits.{listed};
-ghost use Rattle.meaning.specs.Written.{of, lent, coloured, colour_on, colour_off};
-ghost use Rattle.meaning.specs.Colours.{Under};
+ghost use Rattle.meaning.specs.Written.{of, lent, coloured, colour};
+ghost use Rattle.meaning.specs.Colours.{side_of, Under};
 ghost use Rattle.meaning.specs.Propagation.{Propagated, propagate};
 ghost use Rattle.book.specs.ReadBook.{the_book};
 ghost use Rattle.book.specs.RuleRows.{headed_by, lost_by};
@@ -15,7 +15,7 @@ ghost use Rattle.closing.specs.Taken.{puts, Puts};
 use crate::choice::Choice;
 use crate::propagation::{lost_heads, note, propagate_from, rise};
 use book::RowedBook;
-use meaning::{AtomNo, Bits, RuleNo, put, whole};
+use meaning::{AtomNo, Bits, RuleNo, Side, put, whole};
 
 // The atom is put in the one set if it is the head of an on rule, in the other if all its rules are
 // off.
@@ -85,39 +85,39 @@ pub fn propagate_dropped(
         (coloured (listed on.old) (listed off.old))).off) }
 {
     let fresh = whole(off).difference(whole(before));
-    let new = fresh.w;
     let mut nl = [0u64; 4];
-    lost_heads(rowed, &new, off, &mut nl);
+    lost_heads(rowed, &fresh.w, off, &mut nl);
     propagate_from(rowed, Bits::empty(), Bits { w: nl }, Bits::empty(), on, off);
 }
 
-// The same where nothing followed from the sets, and the rule is put on.
-pub fn propagate_on(rowed: &RowedBook, r: RuleNo, on: &mut [u64; 4], off: &mut [u64; 4])
+// The same where nothing followed from the sets, and the rule is put on that side.
+pub fn propagate_put(
+    rowed: &RowedBook,
+    side: Side,
+    r: RuleNo,
+    on: &mut [u64; 4],
+    off: &mut [u64; 4],
+)
     requires { (r.0 < rowed.now.book.shape.rules)
         × Propagated (the_book rowed.now.book) (lent (listed on.old) (listed off.old)) }
     ensures { (listed on.new ≡ (propagate (the_book rowed.now.book)
-        (colour_on r (coloured (listed on.old) (listed off.old)))).on)
+        (colour (side_of side) r (coloured (listed on.old) (listed off.old)))).on)
         × (listed off.new ≡ (propagate (the_book rowed.now.book)
-        (colour_on r (coloured (listed on.old) (listed off.old)))).off) }
+        (colour (side_of side) r (coloured (listed on.old) (listed off.old)))).off) }
 {
-    let mut nt = [0u64; 4];
-    rise(rowed, r, on, &mut nt);
-    propagate_from(rowed, Bits { w: nt }, Bits::empty(), Bits::empty(), on, off);
-}
-
-// The same where the rule is put off.
-pub fn propagate_off(rowed: &RowedBook, r: RuleNo, on: &mut [u64; 4], off: &mut [u64; 4])
-    requires { (r.0 < rowed.now.book.shape.rules)
-        × Propagated (the_book rowed.now.book) (lent (listed on.old) (listed off.old)) }
-    ensures { (listed on.new ≡ (propagate (the_book rowed.now.book)
-        (colour_off r (coloured (listed on.old) (listed off.old)))).on)
-        × (listed off.new ≡ (propagate (the_book rowed.now.book)
-        (colour_off r (coloured (listed on.old) (listed off.old)))).off) }
-{
-    let was = whole(off);
-    let before = was.w;
-    put(off, r.0);
-    propagate_dropped(rowed, &before, on, off);
+    match side {
+        Side::On => {
+            let mut nt = [0u64; 4];
+            rise(rowed, r, on, &mut nt);
+            let newly_true = Bits { w: nt };
+            propagate_from(rowed, newly_true, Bits::empty(), Bits::empty(), on, off);
+        }
+        Side::Off => {
+            let before = *off;
+            put(off, r.0);
+            propagate_dropped(rowed, &before, on, off);
+        }
+    }
 }
 
 // Adds to the two sets, with the choice taken, what follows from them without support, and nothing
@@ -131,7 +131,7 @@ pub fn propagate_chosen(rowed: &RowedBook, choice: Choice, on: &mut [u64; 4], of
 {
     match choice {
         Choice::Nothing => propagate(rowed, on, off),
-        Choice::On(r) => propagate_on(rowed, r, on, off),
-        Choice::Off(r) => propagate_off(rowed, r, on, off),
+        Choice::On(r) => propagate_put(rowed, Side::On, r, on, off),
+        Choice::Off(r) => propagate_put(rowed, Side::Off, r, on, off),
     }
 }

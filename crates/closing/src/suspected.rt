@@ -20,9 +20,7 @@ pub fn join_standing(rowed: &RowedBook, a: AtomNo, set: &mut [u64; 4])
     ensures { members set.new ≡
         plus (members set.old) (sets rowed.now.rows (256 + a.0)) }
 {
-    let pos = rowed.pos_row(a);
-    let p = pos.w;
-    join(set, &p);
+    join(set, &rowed.pos_row(a).w);
 }
 
 // The same for each atom of a set.
@@ -58,8 +56,7 @@ fn is_sure(rowed: &RowedBook, a: AtomNo, off: &[u64; 4]) -> bool
     ensures { result ≡ sure (the_book rowed.now.book) (of (listed off.now)) a }
 {
     let live = rowed.head_row(a).difference(whole(off));
-    let w = live.w;
-    has_free(&rowed.book, &w)
+    has_free(&rowed.book, &live.w)
 }
 
 // The rule's head is put in the set unless it is sure.
@@ -73,7 +70,8 @@ fn note_doubted(rowed: &RowedBook, r: RuleNo, off: &[u64; 4], atoms: &mut [u64; 
     note(!is_sure(rowed, a, off), a, atoms);
 }
 
-// Writes the heads of the rules of the set that are not sure.
+// Writes the heads of the rules of the set that are not sure. One function for this and `lost_heads`
+// would take the question as a closure, and its promise would speak of answers of closures: no plainer.
 fn doubted_heads(rowed: &RowedBook, fresh: &[u64; 4], off: &[u64; 4], atoms: &mut [u64; 4])
     ensures { atom_set atoms.new ≡ doubted (the_book rowed.now.book)
         (of (listed off.now)) (of (listed fresh.now)) }
@@ -98,9 +96,8 @@ fn suspect_more(rowed: &RowedBook, off: &[u64; 4], todo: &mut [u64; 4], suspects
     let fresh = whole(&on_them)
         .difference(whole(off))
         .difference(whole(suspects));
-    let new = fresh.w;
-    join(suspects, &new);
-    doubted_heads(rowed, &new, off, todo);
+    join(suspects, &fresh.w);
+    doubted_heads(rowed, &fresh.w, off, todo);
 }
 
 // Writes the suspects, where `old` was off and more is off now.
@@ -111,9 +108,8 @@ pub fn find_suspects(rowed: &RowedBook, old: &[u64; 4], off: &[u64; 4], suspects
 {
     *suspects = [0; 4];
     let went = whole(off).difference(whole(old));
-    let w = went.w;
     let mut todo = [0u64; 4];
-    doubted_heads(rowed, &w, off, &mut todo);
+    doubted_heads(rowed, &went.w, off, &mut todo);
     loop {
         suspect_more(rowed, off, &mut todo, suspects);
         if whole(&todo).is_within(Bits::empty()) {

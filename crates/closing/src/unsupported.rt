@@ -25,8 +25,7 @@ pub fn drop_unsupported(book: &ReadBook, off: &mut [u64; 4])
     let rest = Bits::below(book.shape.rules)
         .difference(whole(&marks))
         .difference(whole(off));
-    let w = rest.w;
-    join(off, &w);
+    join(off, &rest.w);
 }
 
 // Writes the rules outside the support set of the off rules that are not off. With the `old` ones
@@ -74,8 +73,6 @@ pub fn drop_suspects(rowed: &RowedBook, old: &mut [u64; 4], off: &mut [u64; 4]) 
     let mut rest = [0u64; 4];
     find_unsupported(rowed, old, off, &mut rest);
     let more = put_off(&rest, off);
-    let all = whole(off);
-    let w = all.w;
-    *old = w;
+    *old = *off;
     more
 }

@@ -22,33 +22,21 @@ pub struct Totals {
 fn in_each(sets: u32, count: u32) -> u32
     ensures { result ≡ ifb (at_each sets count) 1 0 }
 {
-    if count == sets {
-        return 1;
-    }
-    0
+    u32::from(count == sets)
 }
 
 // 1 for an atom that stands in some of the sets but not all.
 fn in_some(sets: u32, count: u32) -> u32
     ensures { result ≡ ifb (at_some sets count) 1 0 }
 {
-    if count == 0 {
-        return 0;
-    }
-    if count < sets {
-        return 1;
-    }
-    0
+    u32::from(0 < count && count < sets)
 }
 
 // 1 for an atom that stands in none of the sets.
 fn in_none(sets: u32, count: u32) -> u32
     ensures { result ≡ ifb (at_none sets count) 1 0 }
 {
-    if count == 0 {
-        return 1;
-    }
-    0
+    u32::from(count == 0)
 }
 
 // The totals of one book.
@@ -57,16 +45,13 @@ fn of_book(atoms: u8, sets: u32, counts: &[u32]) -> Totals
     ensures { result ≡ totals_from atoms sets counts.now }
 {
     let mut found = Totals::NOTHING;
-    let mut a: u8 = 0;
-    while a < atoms {
-        let count = counts[a as usize];
+    for count in &counts[..atoms as usize] {
         found = Totals {
-            certain: found.certain + in_each(sets, count),
-            some: found.some + in_some(sets, count),
-            none: found.none + in_none(sets, count),
+            certain: found.certain + in_each(sets, *count),
+            some: found.some + in_some(sets, *count),
+            none: found.none + in_none(sets, *count),
             atoms: found.atoms + 1,
         };
-        a += 1;
     }
     found
 }

@@ -3,7 +3,7 @@
 // What each operation gives is said of the set that the words stand for, a test of all numbers.
 // Every word stands at a fixed place: a set by value that is asked at a variable place goes through
 // memory. What needs such a place is asked of lent words, in the file lent.
-ghost use Rattle.std.specs.Prelude.{◌≡◌, ◌<◌};
+ghost use Rattle.std.specs.Prelude.{◌≡◌, ◌<◌, not};
 ghost use Rattle.meaning.specs.Sets.{every_below, some_below};
 ghost use Rattle.meaning.specs.Bits.{none, below, plus, less, both, implied, bit, members, Lowers, OnesBelow};
 
@@ -66,18 +66,22 @@ impl Bits {
         ensures { result ≡
             every_below 256 (implied (members self.w) (members other.w)) }
     {
-        let a = self.w;
-        let b = other.w;
-        (a[0] & !b[0]) | (a[1] & !b[1]) | (a[2] & !b[2]) | (a[3] & !b[3]) == 0
+        self.difference(other).is_empty()
     }
 
     // Some member is a member of the other.
     pub fn meets(self, other: Bits) -> bool
         ensures { result ≡ some_below 256 (both (members self.w) (members other.w)) }
     {
+        !self.intersection(other).is_empty()
+    }
+
+    // No number is a member.
+    fn is_empty(self) -> bool
+        ensures { not result ≡ some_below 256 (members self.w) }
+    {
         let a = self.w;
-        let b = other.w;
-        (a[0] & b[0]) | (a[1] & b[1]) | (a[2] & b[2]) | (a[3] & b[3]) != 0
+        a[0] | a[1] | a[2] | a[3] == 0
     }
 }
 

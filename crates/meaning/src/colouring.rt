@@ -5,12 +5,19 @@
 // in specs/Written.
 ghost use Rattle.std.specs.Prelude.{◌≡◌, true, ◌<◌, set};
 ghost use Rattle.meaning.specs.Bits.{listed};
-ghost use Rattle.meaning.specs.Colours.{on_side, off_side};
-ghost use Rattle.meaning.specs.Written.{written, nothing, colour_on, colour_off, chosen};
+ghost use Rattle.meaning.specs.Colours.{on_side, off_side, side_of};
+ghost use Rattle.meaning.specs.Written.{written, nothing, colour_on, colour_off, colour, chosen};
 
 use crate::RuleNo;
 use crate::bitset::Bits;
 use crate::lent::put;
+
+// One of a colouring's two sets.
+#[derive(Clone, Copy)]
+pub enum Side {
+    On,
+    Off,
+}
 
 #[derive(Clone, Copy)]
 pub struct Colouring {
@@ -42,48 +49,56 @@ impl Colouring {
         }
     }
 
+    // The colouring with the rule put in on that side.
+    pub fn with(mut self, side: Side, r: RuleNo) -> Colouring
+        ensures { written result ≡ colour (side_of side) r (written self) }
+    {
+        match side {
+            Side::On => self.on = with_rule(self.on, r),
+            Side::Off => self.off = with_rule(self.off, r),
+        }
+        self
+    }
+
+    // The colouring with the rule put in on that side by choice, one level deeper.
+    pub fn choose(self, side: Side, r: RuleNo) -> Colouring
+        requires { (r.0 < 255) × (self.level < 255) }
+        ensures { written result ≡ chosen (side_of side) r (written self) }
+    {
+        let mut deeper = self.with(side, r);
+        deeper.level = self.level + 1;
+        deeper.levels[r.0 as usize] = deeper.level;
+        deeper
+    }
+
     // The colouring with the rule put in on.
-    pub fn with_on(mut self, r: RuleNo) -> Colouring
+    pub fn with_on(self, r: RuleNo) -> Colouring
         ensures { written result ≡ colour_on r (written self) }
     {
-        let on = with_rule(self.on, r);
-        self.on = on;
-        self
+        self.with(Side::On, r)
     }
 
     // The colouring with the rule put in off.
-    pub fn with_off(mut self, r: RuleNo) -> Colouring
+    pub fn with_off(self, r: RuleNo) -> Colouring
         ensures { written result ≡ colour_off r (written self) }
     {
-        let off = with_rule(self.off, r);
-        self.off = off;
-        self
+        self.with(Side::Off, r)
     }
 
     // The colouring with the rule put in on by choice, one level deeper.
-    pub fn choose_on(mut self, r: RuleNo) -> Colouring
+    pub fn choose_on(self, r: RuleNo) -> Colouring
         requires { (r.0 < 255) × (self.level < 255) }
         ensures { written result ≡ chosen on_side r (written self) }
     {
-        let chosen = with_rule(self.on, r);
-        self.on = chosen;
-        let at = r.0 as usize;
-        self.level += 1;
-        self.levels[at] = self.level;
-        self
+        self.choose(Side::On, r)
     }
 
     // The colouring with the rule put in off by choice, one level deeper.
-    pub fn choose_off(mut self, r: RuleNo) -> Colouring
+    pub fn choose_off(self, r: RuleNo) -> Colouring
         requires { (r.0 < 255) × (self.level < 255) }
         ensures { written result ≡ chosen off_side r (written self) }
     {
-        let chosen = with_rule(self.off, r);
-        self.off = chosen;
-        let at = r.0 as usize;
-        self.level += 1;
-        self.levels[at] = self.level;
-        self
+        self.choose(Side::Off, r)
     }
 }
 

@@ -24,10 +24,9 @@ pub fn has(s: &[u64; 4], i: u8) -> bool
 pub fn put(s: &mut [u64; 4], i: u8)
     ensures { listed s.new ≡ set (listed s.old) i true }
 {
-    let _old = whole(s);
     let at = i as usize;
     let j = at / 64;
-    s[j] = s[j] | (1u64 << (at % 64));
+    s[j] |= 1u64 << (at % 64);
 }
 
 // Puts every member of the other set in.
@@ -48,7 +47,6 @@ pub fn next_in(s: &[u64; 4], from: usize) -> usize
     if 256 <= from {
         return 256;
     }
-    let _all = whole(s);
     let k = from / 64;
     let x = s[k] >> (from % 64);
     if x != 0 {
@@ -61,13 +59,11 @@ pub fn next_in(s: &[u64; 4], from: usize) -> usize
 fn next_word(s: &[u64; 4], first: usize) -> usize
     ensures { NextIn (members s.now) (first * 64) result }
 {
-    let mut k = first;
-    while k < 4 {
+    for k in first..4 {
         let x = s[k];
         if x != 0 {
             return k * 64 + trailing(x) as usize;
         }
-        k += 1;
     }
     256
 }

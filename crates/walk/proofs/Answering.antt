@@ -130,9 +130,8 @@ module _ (s : List ℕ) (h : Shape) (e : ReadAs s h) (tries : ℕ) (out : List �
     room-is = f ∙ ap (λ (a : ℕ). if_eq a 0 1 (length out / a)) (sym (shape-atoms s h e))
 
     -- what the walk and resuming ask
-    pub page-room : h.rules < 256 → {c : Tables} → c ≡ nothing → ReadAs s h × Room (book_in s) 0 room start × Shallow (book_in s) c
+    pub page-room : h.rules < 256 → {c : Tables} → c ≡ nothing → Room (book_in s) 0 room start × Shallow (book_in s) c
     page-room n f = (
-      e,
       room-start (book_in s) 0 room tries out (rw room-is (room-some (book_in s) (length out) (rw (shape-atoms s h e) l)))
           (rw room-is (rooms-fit (book_in s) (length out))),
       shallow-start s h e n f,

@@ -4,11 +4,10 @@ use mathlib.Core.Path.{◌≡◌, refl, sym, ◌∙◌, ap, subst, fun_ext}
 use mathlib.Core.Logic.{⊎_elim}
 use mathlib.Core.List.{List, [], ◌∷◌, ◌++◌, Memᴰ}
 use Prim.Native.Nat.{ℕ, ◌+◌, ◌-◌, ◌≤◌, ◌<◌}
-use native.Mathlib.Nat.{zero-add, le_antisymm}
 use native.Mathlib.Omega.{arith}
 use lib.Dec.{eqb}
-use lib.ListN.{length, get_or, take, drop, set, replicate, get_or-append, get_or-eq_default, length-replicate, get_or-replicate}
-use lib.Seq.{paste, length-take-le, get_or-take, get_or-drop, get_or-append-add}
+use lib.ListN.{length, get_or, take, drop, replicate, get_or-append, get_or-eq_default, length-replicate, get_or-replicate}
+use lib.Seq.{length-take-le, get_or-drop, get_or-append-add}
 use Rattle.meaning.specs.Written.{Tables}
 use Rattle.meaning.specs.Books.{Atoms, Book, count}
 use Rattle.meaning.specs.Told.{Told, refused_at, refused, Answered}
@@ -16,7 +15,7 @@ use Rattle.meaning.specs.Buffers.{write_at}
 use Rattle.meaning.specs.Written.{nothing}
 use Rattle.meaning.proofs.Choice.{lt_yes, lt_no, lt-either, eq_yes, eq_no, eq-either}
 use Rattle.meaning.proofs.Tests.{lt-or-le, apart}
-use Rattle.meaning.proofs.Buffers.{write-turn, write_done, write-front}
+use Rattle.meaning.proofs.Buffers.{write-front}
 use Rattle.meaning.proofs.LeastModel.{Proper, Inside, answer-inside}
 use Rattle.std.specs.Prelude.{Result, Ok, Err}
 use Rattle.book.specs.declared.refusal.Refusal.{Refusal}
@@ -43,18 +42,12 @@ use Rattle.walk.proofs.Nodes.{node-sized, reading-node}
 use Rattle.walk.proofs.Descending.{reading-in, down-found}
 use Rattle.walk.proofs.Answering.{any-buffer}
 
--- ---- the bytes, one by one
+-- ---- the bytes
 
-module _ (levels out : List ℕ) (n : ℕ) (long : n ≤ length levels) where
-  pub levels-turn : {i v : ℕ} {w : List ℕ} → n ≤ length out → i < n → v ≡ get_or levels i 0 → w ≡ paste out 0 (take n levels) i
-      → set w i v ≡ paste out 0 (take n levels) (i + 1)
-  levels-turn {i} {v} {w} h k e f =
-      let m = length-take-le n levels long in
-      ap (λ (j : ℕ). set w j v) (sym (zero-add i))
-      ∙ write-turn 0 (take n levels) out (omega arith) (omega arith) (e ∙ sym (get_or-take n levels i 0 k)) f
-
-  pub levels-written : {i : ℕ} {w : List ℕ} → i ≤ n → n ≤ i → w ≡ paste out 0 (take n levels) i → w ≡ write_at 0 (take n levels) out
-  levels-written h k e = write_done 0 (take n levels) out (le_antisymm h k ∙ sym (length-take-le n levels long)) e
+pub levels-written : (levels out : List ℕ) (n : ℕ) → n ≤ length levels → {w : List ℕ} → w ≡ take n levels
+    → w ++ drop n out ≡ write_at 0 (take n levels) out
+levels-written levels out n long e =
+    rw e (sym (write-front (take n levels) out ∙ ap (λ (i : ℕ). take n levels ++ drop i out) (length-take-le n levels long)))
 
 -- ---- the ways of a call
 

@@ -2,17 +2,19 @@
 ghost use Rattle.std.specs.Prelude.{◌≡◌, [], ℕ, ◌-◌, ◌<◌, ◌≤◌, length};
 ghost use Rattle.meaning.specs.Told.{Answered};
 ghost use Rattle.meaning.specs.Written.{nothing};
-ghost use Rattle.book.specs.Format.{book_in, ReadAs};
-ghost use Rattle.book.specs.RuleRows.{RuleRows};
+ghost use Rattle.book.specs.ReadBook.{the_book};
 ghost use Rattle.walk.specs.Events.{events};
+ghost use Rattle.walk.specs.FirstAlike.{counts, counted_by};
+ghost use Rattle.walk.specs.Search.{shown_in};
 ghost use Rattle.walk.specs.Run.{State, run};
 ghost use Rattle.walk.specs.declared.kth.Unfound.TheVariants.{Book};
 ghost use Rattle.walk.specs.Find.{told, told_by, start_of, find_of};
 
 use crate::origin::tell_clash;
 use crate::tally::{Halt, Tally};
-use crate::walk::walk;
-use book::{Refusal, Shape, make_rows, read_book};
+use crate::walk::walk_shown;
+use crate::wanted::Wanted;
+use book::{ReadBook, Refusal, RowedBook};
 use closing::Choice;
 use meaning::{Colouring, RuleNo};
 
@@ -42,69 +44,73 @@ impl From<Refusal> for Unfound {
     }
 }
 
-// Walks to the k-th reading of a good book and writes it, by the rows that are lent.
-pub fn kth_by(
-    book: &[u8],
-    shape: Shape,
-    rows: &[u64; 3072],
+// Walks to the k-th of the readings that count and writes it: every reading counts, or those that no
+// earlier one matches on the mask. The memory holds nothing yet. At the end the rule is told.
+pub fn walk_to(
+    rowed: &RowedBook,
+    every: bool,
+    mask: &[u64; 4],
     k: u32,
     limit: u32,
+    seen: &mut [u64],
     answer: &mut [u8],
 ) -> Tally
-    requires { ReadAs book.now shape × (0 < k) × (shape.atoms ≤ length answer.old)
-        × RuleRows (book_in book.now) rows.now }
+    requires { (0 < k) × (rowed.now.book.shape.atoms ≤ length answer.old) }
     ensures { ◌≡◌ {A = State} (record { tally = result; out = answer.new })
-        (run (book_in book.now) (record { pass = k - 1; room = 1; limit = limit })
-        (start_of answer.old) (events (book_in book.now) nothing)) }
+        (run (the_book rowed.now.book) (record { pass = k - 1; room = 1; limit = limit })
+        (start_of answer.old) (counted_by (the_book rowed.now.book)
+        (counts every (the_book rowed.now.book) (shown_in mask.now))
+        (events (the_book rowed.now.book) nothing))) }
 {
+    let wanted = Wanted {
+        pass: k - 1,
+        room: 1,
+        limit,
+    };
     let mut origin = [0u64; 8];
-    let t = walk(
-        book,
-        shape,
-        rows,
+    let t = walk_shown(
+        rowed,
         Colouring::empty(),
         Choice::Nothing,
-        k - 1,
-        1,
-        limit,
+        every,
+        mask,
+        &wanted,
         Tally::START,
         &mut origin,
+        seen,
         answer,
     );
-    tell_clash(book, shape, rows, &origin, t)
+    tell_clash(rowed, &origin, t)
 }
 
-// The same by rows of its own.
-fn kth(book: &[u8], shape: Shape, k: u32, limit: u32, answer: &mut [u8]) -> Tally
-    requires { ReadAs book.now shape × (0 < k) × (shape.atoms ≤ length answer.old) }
+// The same where every reading counts.
+pub fn kth(rowed: &RowedBook, k: u32, limit: u32, answer: &mut [u8]) -> Tally
+    requires { (0 < k) × (rowed.now.book.shape.atoms ≤ length answer.old) }
     ensures { ◌≡◌ {A = State} (record { tally = result; out = answer.new })
-        (run (book_in book.now) (record { pass = k - 1; room = 1; limit = limit })
-        (start_of answer.old) (events (book_in book.now) nothing)) }
+        (run (the_book rowed.now.book) (record { pass = k - 1; room = 1; limit = limit })
+        (start_of answer.old) (events (the_book rowed.now.book) nothing)) }
 {
-    let mut rows = [0u64; 3072];
-    make_rows(book, shape, &mut rows);
-    kth_by(book, shape, &rows, k, limit, answer)
+    let mask = [0u64; 4];
+    let mut seen = [0u64; 1];
+    walk_to(rowed, true, &mask, k, limit, &mut seen, answer)
 }
 
 // The first reading of a good book, for whoever has read the book already: naming takes its
 // witness from it.
-pub fn first(book: &[u8], shape: Shape, limit: u32, row: &mut [u8; Colouring::ATOMS]) -> Tally
-    requires { ReadAs book.now shape }
+pub fn first(book: ReadBook, limit: u32, row: &mut [u8; Colouring::ATOMS]) -> Tally
     ensures { ◌≡◌ {A = State} (record { tally = result; out = row.new })
-        (run (book_in book.now) (record { pass = 0; room = 1; limit = limit })
-        (start_of row.old) (events (book_in book.now) nothing)) }
+        (run (the_book book.entry) (record { pass = 0; room = 1; limit = limit })
+        (start_of row.old) (events (the_book book.entry) nothing)) }
 {
-    kth(book, shape, 1, limit, row)
+    kth(&RowedBook::of(book), 1, limit, row)
 }
 
 // What a call's tally tells.
 pub fn tell(t: Tally, limit: u32) -> Result<u32, Unfound>
     ensures { told result ≡ told_by t.halt (record { tally = t; out = [] }) limit }
 {
-    let halt = t.halt;
-    let rule = t.clash;
-    match halt {
-        Halt::Going => Err(Unfound::Fewer(t.tries, t.sets, rule)),
+    match t.halt {
+        Halt::Going => Err(Unfound::Fewer(t.tries, t.sets, t.clash)),
         Halt::Full => Ok(t.tries),
         Halt::Limit => Err(Unfound::Stopped(limit)),
     }
@@ -116,12 +122,12 @@ pub fn find(book: &[u8], k: u32, limit: u32, answer: &mut [u8]) -> Result<u32, U
     ensures { ◌≡◌ {A = Answered ℕ} (record { told = told result; buffer = answer.new })
         (find_of book.now k limit answer.old) }
 {
-    let shape = read_book(book)?;
+    let book = ReadBook::read(book)?;
     if k == 0 {
         return Err(Unfound::NoNumber);
     }
-    if answer.len() < shape.atoms as usize {
+    if answer.len() < book.shape.atoms as usize {
         return Err(Unfound::NoRoom);
     }
-    tell(kth(book, shape, k, limit, answer), limit)
+    tell(kth(&RowedBook::of(book), k, limit, answer), limit)
 }

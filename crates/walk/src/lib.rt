@@ -20,6 +20,7 @@ mod selected;
 mod tally;
 mod verdict;
 mod walk;
+mod wanted;
 
 pub use colours::lowest_uncoloured;
 pub use descent::levels;
@@ -30,3 +31,4 @@ pub use pages::page;
 pub use resume::generates;
 pub use selected::find_shown;
 pub use tally::{Halt, Tally};
+pub use wanted::Wanted;

@@ -11,17 +11,14 @@ pub fn is_good_list(list: &[u8], atoms: u8) -> bool
     ensures { result ≡ good_list atoms list.now }
 {
     let mut least: u8 = 0;
-    let mut i = 0;
-    while i < list.len() {
-        let n = list[i];
-        if atoms <= n {
+    for n in list {
+        if atoms <= *n {
             return false;
         }
-        if n < least {
+        if *n < least {
             return false;
         }
-        least = n + 1;
-        i += 1;
+        least = *n + 1;
     }
     true
 }
@@ -31,10 +28,8 @@ pub fn mask_of(list: &[u8]) -> Bits
     ensures { members result.w ≡ in_list list.now }
 {
     let mut mask = [0u64; 4];
-    let mut i = 0;
-    while i < list.len() {
-        put(&mut mask, list[i]);
-        i += 1;
+    for a in list {
+        put(&mut mask, *a);
     }
     Bits { w: mask }
 }

@@ -2,14 +2,15 @@
 ghost use Rattle.std.specs.Prelude.{◌≡◌, [], ◌/◌, Ok};
 ghost use Rattle.meaning.specs.Choice.{if_eq};
 ghost use Rattle.meaning.specs.Told.{success, Answered};
-ghost use Rattle.book.specs.Format.{book_in, ReadAs};
+ghost use Rattle.book.specs.ReadBook.{the_book};
 ghost use Rattle.walk.specs.Page.{PageEnd, told, ended_by, page_in, page_of};
 
 use crate::page_answer::{NoPage, Page};
 use crate::resume::resume;
 use crate::tally::{Halt, Tally};
 use crate::walk::walk;
-use book::{Shape, make_rows, read_book};
+use crate::wanted::Wanted;
+use book::{ReadBook, RowedBook};
 use closing::Choice;
 use meaning::Colouring;
 
@@ -18,17 +19,17 @@ fn rows_in(atoms: u8, bytes: usize) -> usize
     ensures { result ≡ if_eq atoms 0 1 (bytes / atoms) }
 {
     if atoms == 0 {
-        return 1;
+        1
+    } else {
+        bytes / atoms as usize
     }
-    bytes / atoms as usize
 }
 
-// What a call's tally tells.
+// What a call's tally tells. Not one function with the k-th reading's: none of the three answers is shared.
 fn tell(t: Tally) -> Page
     ensures { told (Ok result) ≡ success (ended_by t.halt (record { tally = t; out = [] })) }
 {
-    let halt = t.halt;
-    match halt {
+    match t.halt {
         Halt::Going => Page::Last(t.tries, t.sets),
         Halt::Full => Page::Whole(t.tries),
         Halt::Limit => Page::Cut(t.sets),
@@ -37,38 +38,35 @@ fn tell(t: Tally) -> Page
 
 // The next page of a good book. Nobody is told the rule of a contradictory try, so its origin is left.
 fn page_in(
-    book: &[u8],
-    shape: Shape,
+    book: ReadBook,
     limit: u32,
     tries: u32,
     last: &[u8],
     out: &mut [u8],
 ) -> Result<Page, NoPage>
-    requires { ReadAs book.now shape }
     ensures { ◌≡◌ {A = Answered PageEnd} (record { told = told result; buffer = out.new })
-        (page_in (book_in book.now) limit tries last.now out.old) }
+        (page_in (the_book book.entry) limit tries last.now out.old) }
 {
-    if out.len() < shape.atoms as usize {
+    if out.len() < book.shape.atoms as usize {
         return Err(NoPage::NoRoom);
     }
-    let room = rows_in(shape.atoms, out.len());
+    let wanted = Wanted {
+        pass: 0,
+        room: rows_in(book.shape.atoms, out.len()),
+        limit,
+    };
     let start = Tally {
         tries,
         ..Tally::START
     };
-    let mut rows = [0u64; 3072];
-    make_rows(book, shape, &mut rows);
+    let rowed = RowedBook::of(book);
     let mut origin = [0u64; 8];
     if tries == 0 {
         let t = walk(
-            book,
-            shape,
-            &rows,
+            &rowed,
             Colouring::empty(),
             Choice::Nothing,
-            0,
-            room,
-            limit,
+            &wanted,
             start,
             &mut origin,
             out,
@@ -76,15 +74,11 @@ fn page_in(
         return Ok(tell(t));
     }
     let t = resume(
-        book,
-        shape,
-        &rows,
+        &rowed,
         Colouring::empty(),
         Choice::Nothing,
         last,
-        0,
-        room,
-        limit,
+        &wanted,
         start,
         &mut origin,
         out,
@@ -104,6 +98,5 @@ pub fn page(
     ensures { ◌≡◌ {A = Answered PageEnd} (record { told = told result; buffer = out.new })
         (page_of book.now limit tries last.now out.old) }
 {
-    let shape = read_book(book)?;
-    page_in(book, shape, limit, tries, last, out)
+    page_in(ReadBook::read(book)?, limit, tries, last, out)
 }

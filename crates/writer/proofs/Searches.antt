@@ -23,9 +23,6 @@ pub record NoneBelow (s : Rules) (n : ℕ) : Type 0 where
   pub lower : (r : RuleNo) → r.0 < n → r ∉ s
 
 module _ (s : Rules) where
-  pub none_yet : NoneBelow s 0
-  none_yet = record { lower = λ r h. absurd (omega arith) }
-
   module _ {n : ℕ} (none_before : NoneBelow s n) where
     pub none_more : s (rule_no n) ≡ false → NoneBelow s (n + 1)
     none_more t = record { lower = λ r h. let l : r.0 ≤ n = omega arith in ⊎_elim (here r) (none_before.lower r) (eq-or-lt_of_le l) }

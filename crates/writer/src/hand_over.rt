@@ -9,7 +9,7 @@ ghost use Rattle.writer.specs.Draft.{Stands};
 ghost use Rattle.writer.specs.PaperNeeds.{whole_paper};
 ghost use Rattle.writer.specs.Write.{Handed, told, hand_over};
 
-use crate::answer::Named;
+use crate::answer::Unwritten;
 use crate::draft::write_trailer;
 use crate::witness::write_witness;
 use book::Shape;
@@ -33,33 +33,22 @@ pub fn finish(
     write_trailer(draft, witness.length, claim, witness.count, from)
 }
 
-// Copies the first `n` bytes of the draft to the front of the paper.
-fn copy(draft: &[u8; PAPER_BYTES], n: usize, paper: &mut [u8])
-    requires { (length draft.now ≡ paper_bytes) × (n ≤ paper_bytes) × (n ≤ length paper.old) }
-    ensures { paper.new ≡
-        write_at 0 (take n draft.now) paper.old }
-{
-    let mut i = 0;
-    while i < n {
-        paper[i] = draft[i];
-        i += 1;
-    }
-}
-
-// Hands the paper of the first `n` bytes over, or refuses it as too long for the buffer or for a
-// paper.
-pub fn hand_over(tries: u32, draft: &[u8; PAPER_BYTES], n: usize, paper: &mut [u8]) -> Named
+// Copies the paper of the first `n` bytes to the front of the buffer, or refuses it as too long for
+// the buffer or for a paper.
+pub fn hand_over(
+    tries: u32,
+    draft: &[u8; PAPER_BYTES],
+    n: usize,
+    paper: &mut [u8],
+) -> Result<(u32, usize), Unwritten>
     requires { length draft.now ≡ paper_bytes }
     ensures { (whole : List ℕ) → Stands whole n draft.now →
         ◌≡◌ {A = Answered Handed} (record { told = told result; buffer = paper.new })
         (hand_over tries whole paper.old) }
 {
-    if paper.len() < n {
-        return Named::TooLong;
+    if paper.len() < n || PAPER_BYTES < n {
+        return Err(Unwritten::TooLong);
     }
-    if PAPER_BYTES < n {
-        return Named::TooLong;
-    }
-    copy(draft, n, paper);
-    Named::Paper(tries, n)
+    paper[..n].copy_from_slice(&draft[..n]);
+    Ok((tries, n))
 }

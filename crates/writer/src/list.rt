@@ -29,15 +29,11 @@ fn list_unmarked<'a>(
 {
     *dropped = [0; 4];
     let mut m: u8 = 0;
-    let mut r: u8 = 0;
-    while r < rules {
-        if !has(marks, r) {
-            if !has(off, r) {
-                put(dropped, r);
-                m += 1;
-            }
+    for r in 0..rules {
+        if !has(marks, r) && !has(off, r) {
+            put(dropped, r);
+            m += 1;
         }
-        r += 1;
     }
     m
 }
@@ -70,13 +66,11 @@ pub fn drop_rules(
         draft.old result draft.new }
 {
     let mut n = at;
-    let mut r: u8 = 0;
-    while r < rules {
+    for r in 0..rules {
         if has(dropped, r) {
             put(off, r);
             n = write(draft, n, r);
         }
-        r += 1;
     }
     n
 }

@@ -8,7 +8,6 @@ ghost use Rattle.closing.specs.Picked.{picked};
 ghost use Rattle.writer.specs.Steps.{new_on, new_off};
 
 use book::{Shape, goes_on, is_blocked};
-use closing::Picked;
 use meaning::{Colouring, RuleNo, has};
 
 // 41: the lowest rule that may go on and isn't on.
@@ -18,22 +17,18 @@ pub fn lowest_on<'a>(
     on: &[u64; 4],
     headed: &'a [bool; Colouring::ATOMS],
     lost: &'a [bool; Colouring::ATOMS],
-) -> Picked
+) -> Option<RuleNo>
     requires { ReadAs book.now shape }
     ensures { picked result ≡ lowest (book_in book.now)
         (new_on (book_in book.now) headed.now lost.now
         (listed on.now)) }
 {
-    let mut r: u8 = 0;
-    while r < shape.rules {
-        if !has(on, r) {
-            if goes_on(book, shape, RuleNo(r), headed, lost) {
-                return Picked::Rule(RuleNo(r));
-            }
+    for r in 0..shape.rules {
+        if !has(on, r) && goes_on(book, shape, RuleNo(r), headed, lost) {
+            return Some(RuleNo(r));
         }
-        r += 1;
     }
-    Picked::Nothing
+    None
 }
 
 // 42: the lowest rule with a negative atom that is the head of an on rule, and that isn't off.
@@ -42,19 +37,15 @@ pub fn lowest_off(
     shape: Shape,
     off: &[u64; 4],
     headed: &[bool; Colouring::ATOMS],
-) -> Picked
+) -> Option<RuleNo>
     requires { ReadAs book.now shape }
     ensures { picked result ≡ lowest (book_in book.now)
         (new_off (book_in book.now) headed.now (listed off.now)) }
 {
-    let mut r: u8 = 0;
-    while r < shape.rules {
-        if !has(off, r) {
-            if is_blocked(book, shape, RuleNo(r), headed) {
-                return Picked::Rule(RuleNo(r));
-            }
+    for r in 0..shape.rules {
+        if !has(off, r) && is_blocked(book, shape, RuleNo(r), headed) {
+            return Some(RuleNo(r));
         }
-        r += 1;
     }
-    Picked::Nothing
+    None
 }

@@ -11,7 +11,7 @@ ghost use Rattle.writer.specs.Steps.{Does, tabled};
 use crate::list::list_unsupported;
 use crate::search::{lowest_off, lowest_on};
 use book::{Shape, heads_of, lost_in, wide};
-use closing::{Picked, lowest_clash};
+use closing::lowest_clash;
 use meaning::{Claim, Colouring, Kind, RuleNo, whole};
 use walk::lowest_uncoloured;
 
@@ -42,10 +42,7 @@ fn is_clashing<'a>(book: &[u8], shape: Shape, on: &'a [u64; 4], off: &'a [u64; 4
     ensures { result ≡
         clashing (book_in book.now) (lent (listed on.now) (listed off.now)) }
 {
-    match lowest_clash(shape.rules, whole(on), whole(off)) {
-        Picked::Nothing => false,
-        Picked::Rule(_) => true,
-    }
+    lowest_clash(shape.rules, whole(on), whole(off)).is_some()
 }
 
 // What the tables say of the claimed atom: the head of an on rule, or of off rules only. That the
@@ -95,17 +92,17 @@ pub fn next_step<'a>(
     if is_shown(claim, &headed, &lost) {
         return Step::Stops(Tip::Ended);
     }
-    if let Picked::Rule(r) = lowest_on(book, shape, on, &headed, &lost) {
+    if let Some(r) = lowest_on(book, shape, on, &headed, &lost) {
         return Step::On(r);
     }
-    if let Picked::Rule(r) = lowest_off(book, shape, off, &headed) {
+    if let Some(r) = lowest_off(book, shape, off, &headed) {
         return Step::Off(r);
     }
     let m = list_unsupported(book, shape, off, dropped);
     if m != 0 {
         return Step::Unfounded(m);
     }
-    if let Picked::Rule(r) = lowest_uncoloured(shape.rules, whole(on), whole(off)) {
+    if let Some(r) = lowest_uncoloured(shape.rules, whole(on), whole(off)) {
         return Step::Stops(Tip::Parted(r));
     }
     Step::Stops(Tip::Unsettled)

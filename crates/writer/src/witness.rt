@@ -16,7 +16,6 @@ ghost use Rattle.writer.specs.Steps.{may_list};
 
 use crate::draft::write;
 use book::{Shape, every_in, heads_of, positives};
-use closing::Picked;
 use meaning::{Colouring, PAPER_BYTES, RuleNo, has, put};
 use walk::generates;
 
@@ -42,17 +41,18 @@ fn may_list(
         (generating (book_in book.now) (set_in row.now))
         (listed taken.now) r }
 {
-    if has(taken, r.0) {
-        return false;
-    }
-    if !generates(book, shape, r, row) {
-        return false;
-    }
-    every_in(positives(book, shape, r), headed)
+    !has(taken, r.0)
+        && generates(book, shape, r, row)
+        && every_in(positives(book, shape, r), headed)
 }
 
 // The lowest rule that may be listed next.
-fn next_listed(book: &[u8], shape: Shape, row: &[u8; Colouring::ATOMS], taken: &[u64; 4]) -> Picked
+fn next_listed(
+    book: &[u8],
+    shape: Shape,
+    row: &[u8; Colouring::ATOMS],
+    taken: &[u64; 4],
+) -> Option<RuleNo>
     requires { ReadAs book.now shape }
     ensures { picked result ≡ lowest (book_in book.now)
         (may_list (book_in book.now)
@@ -61,14 +61,12 @@ fn next_listed(book: &[u8], shape: Shape, row: &[u8; Colouring::ATOMS], taken: &
 {
     let mut headed = [false; Colouring::ATOMS];
     heads_of(book, shape, taken, &mut headed);
-    let mut r: u8 = 0;
-    while r < shape.rules {
+    for r in 0..shape.rules {
         if may_list(book, shape, RuleNo(r), row, taken, &headed) {
-            return Picked::Rule(RuleNo(r));
+            return Some(RuleNo(r));
         }
-        r += 1;
     }
-    Picked::Nothing
+    None
 }
 
 // Writes the witness of the row's set behind the steps.
@@ -86,14 +84,15 @@ pub fn write_witness(
 {
     let mut taken = [0u64; 4];
     let mut n = at;
-    let mut count: u8 = 0;
-    while count < shape.rules {
-        let Picked::Rule(r) = next_listed(book, shape, row, &taken) else {
+    for count in 0..shape.rules {
+        let Some(r) = next_listed(book, shape, row, &taken) else {
             return Witness { count, length: n };
         };
         put(&mut taken, r.0);
         n = write(draft, n, r.0);
-        count += 1;
     }
-    Witness { count, length: n }
+    Witness {
+        count: shape.rules,
+        length: n,
+    }
 }

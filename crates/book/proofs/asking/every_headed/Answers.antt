@@ -1,25 +1,18 @@
--- What is asked of the whole part is what is asked of the bytes that are left, turn by turn.
-use mathlib.Core.Path.{refl, sym, ◌∙◌}
-use native.Mathlib.Omega.{arith}
+-- What is asked of each byte of the part, asked of the atoms that they are.
+use mathlib.Core.Path.{◌∙◌}
+use Prim.Native.Nat.{ℕ}
 use borrow.Author.Rules.{rules}
-use Rattle.meaning.proofs.Tests.{not_first}
-use Rattle.book.proofs.Bodies.{every-end, every-turn}
+use Rattle.std.proofs.Common.{tests}
+use Rattle.std.proofs.lemmas.Iterator.{YieldsList-from_slice}
+use Rattle.std.proofs.lemmas.Iterator.Search.{all_from_yields_List}
+use Rattle.meaning.specs.Books.{atom_no}
+use Rattle.book.specs.RuleRows.{headed_by}
+use Rattle.book.proofs.Bodies.{all-every}
 use Rattle.book.proofs.asking.every_headed.Goals as goal
-
-pub loop-i-init : goal.loop-i-init
-loop-i-init c = (search rules, refl)
-
-pub returns-then-not-is_headed : goal.returns-then-not-is_headed
-returns-then-not-is_headed c =
-    sym
-    (c.loop-i.invariant.1 ∙ every-turn _ c.args.part.now c.loop-i.i (omega arith)
-    ∙ not_first _ (sym c.is_headed.ensures ∙ c.if-not-is_headed.true))
-
-pub loop-i-preserved : goal.loop-i-preserved
-loop-i-preserved c =
-    let e = sym c.is_headed.ensures ∙ c.if-not-is_headed.false in
-    (search rules, c.loop-i.invariant.1 ∙ every-turn _ c.args.part.now c.loop-i.i (omega arith) ∙ rw e)
 
 pub returns : goal.returns
 returns c =
-    sym (c.loop-i.invariant.1 ∙ every-end _ c.args.part.now c.loop-i.i (omega arith))
+    let a = c.args in
+    all_from_yields_List (λ (n : ℕ). headed_by a.rows.now a.on.now (atom_no n)) _ _ _ c.all.ensures.ran
+    (YieldsList-from_slice a.part.now cc) (λ x b q k. search (rules, tests))
+    ∙ all-every (headed_by a.rows.now a.on.now) a.part.now

@@ -5,7 +5,7 @@ use Rattle.std.proofs.lemmas.Result.{err_from_is_err_and}
 use Rattle.meaning.proofs.Choice.{lt_yes, lt_no, eq_yes, eq_no}
 use Rattle.book.specs.Checks.{checked}
 use Rattle.book.specs.Format.{body_of, read_of}
-use Rattle.book.proofs.Turns.{told-bad, FrameRead, read-wrong, read-fine}
+use Rattle.book.proofs.Turns.{told-bad, marked, unmarked, FrameRead, read-wrong, read-fine}
 use Rattle.book.proofs.reader.read_book.Goals as goal
 
 pub returns-then-len-lt6 : goal.returns-then-len-lt6
@@ -16,21 +16,17 @@ pub returns-then-len-gt-BOOK_BYTES : goal.returns-then-len-gt-BOOK_BYTES
 unfolding read_of
 returns-then-len-gt-BOOK_BYTES c = told-bad _ _ _ (lt_no _ _ _ _ (omega arith) ∙ lt_yes _ _ _ _ (omega arith))
 
-pub returns-then-book-len : goal.returns-then-book-len
+pub returns-then-not-ends_with : goal.returns-then-not-ends_with
 unfolding read_of
-returns-then-book-len c =
-    told-bad _ _ _ (lt_no _ _ _ _ (omega arith) ∙ lt_no _ _ _ _ (omega arith) ∙ eq_no _ _ _ _ (λ e. omega arith))
-
-pub returns-then-book-len-2 : goal.returns-then-book-len-2
-unfolding read_of
-returns-then-book-len-2 c =
+returns-then-not-ends_with c =
     told-bad _ _ _
-    (lt_no _ _ _ _ (omega arith) ∙ lt_no _ _ _ _ (omega arith) ∙ eq_yes _ _ _ _ (omega arith)
-    ∙ eq_no _ _ _ _ (λ e. omega arith))
+    (lt_no _ _ _ _ (omega arith) ∙ lt_no _ _ _ _ (omega arith)
+    ∙ unmarked c.args.book.now (omega arith) c.ends_with.ensures.value c.if-not-ends_with.true _ _)
 
 pub returns-then-index-count : goal.returns-then-index-count
 unfolding read_of body_of
 returns-then-index-count c =
+    let m = marked c.args.book.now (omega arith) c.ends_with.ensures.value c.if-not-ends_with.false in
     told-bad _ _ _
     (lt_no _ _ _ _ (omega arith) ∙ lt_no _ _ _ _ (omega arith) ∙ eq_yes _ _ _ _ (omega arith)
     ∙ eq_yes _ _ _ _ (omega arith) ∙ eq_no _ _ _ _ (λ e. omega arith))
@@ -39,6 +35,7 @@ returns-then-index-count c =
 
 pub returns-in_err-check_records : goal.returns-in_err-check_records
 returns-in_err-check_records c =
+    let m = marked c.args.book.now (omega arith) c.ends_with.ensures.value c.if-not-ends_with.false in
     let p = err_from_is_err_and c.from_residual.result c.from_residual.ensures.1 in
     let framed : FrameRead c.args.book.now c.wide-count.result c.u16_at-index.result =
     record {
@@ -55,6 +52,7 @@ returns-in_err-check_records c =
 
 pub returns : goal.returns
 returns c =
+    let m = marked c.args.book.now (omega arith) c.ends_with.ensures.value c.if-not-ends_with.false in
     let framed : FrameRead c.args.book.now c.wide-count.result c.u16_at-index.result =
     record {
       count = c.wide-count.ensures.0;

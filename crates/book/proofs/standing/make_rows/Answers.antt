@@ -7,16 +7,14 @@ use Rattle.book.proofs.RowStores.{rows_none, rows_more, rows_end}
 use Rattle.book.proofs.standing.make_rows.Goals as goal
 
 pub loop-r-init : goal.loop-r-init
-loop-r-init c = (omega arith, length-replicate {A = ℕ} 3072 0, rows_none _)
+loop-r-init c = (length-replicate {A = ℕ} 3072 0, rows_none _)
 
 pub enter_rule-requires : goal.enter_rule-requires
-enter_rule-requires c =
-    (c.requires, omega arith, c.loop-r.invariant.1)
+enter_rule-requires c = (c.requires, omega arith, c.loop-r.invariant.0)
 
 pub loop-r-preserved : goal.loop-r-preserved
-loop-r-preserved c =
-    (search rules, c.enter_rule.ensures.1, rows_more _ c.loop-r.r _ _ c.loop-r.invariant.2 c.enter_rule.ensures.0)
+loop-r-preserved c = (c.enter_rule.ensures.1, rows_more _ c.loop-r.r _ _ c.loop-r.invariant.1 c.enter_rule.ensures.0)
 
 pub returns : goal.returns
 returns c =
-    rows_end _ c.args.shape c.requires (search rules) c.loop-r.r _ (omega arith) c.loop-r.invariant.1 c.loop-r.invariant.2
+    rows_end _ c.args.shape c.requires (search rules) c.loop-r.r _ (omega arith) c.loop-r.invariant.0 c.loop-r.invariant.1

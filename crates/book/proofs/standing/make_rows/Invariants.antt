@@ -1,5 +1,4 @@
 use mathlib.Core.Path.{◌≡◌}
-use Prim.Native.Nat.{◌-◌, ◌≤◌}
 use lib.ListN.{length}
 use Rattle.book.specs.Format.{book_in}
 use Rattle.book.specs.RuleRows.{sets}
@@ -7,7 +6,4 @@ use Rattle.book.proofs.RowStores.{rows_to}
 use Rattle.book.proofs.standing.make_rows.Given as goal
 
 abbrev pub invariant-loop-r : goal.invariant-loop-r
-invariant-loop-r l = (l.r ≤ l.shape.rules) × (length l.rows ≡ 3072) × (sets l.rows ≡ rows_to (book_in l.book) l.r)
-
-abbrev pub decreases-loop-r : goal.decreases-loop-r
-decreases-loop-r l = l.shape.rules - l.r
+invariant-loop-r l = (length l.rows ≡ 3072) × (sets l.rows ≡ rows_to (book_in l.book) l.r)

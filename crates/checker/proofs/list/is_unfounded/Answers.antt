@@ -13,7 +13,7 @@ use Rattle.checker.proofs.list.is_unfounded.Goals as goal
 
 pub with_rules-gone-requires : goal.with_rules-gone-requires
 with_rules-gone-requires c =
-    below_more (omega arith) c.requires.1
+    below_more (omega arith) c.requires
 
 pub returns : goal.returns
 returns c =

@@ -15,10 +15,10 @@ use Rattle.checker.proofs.witness.check_witness.Goals.{After-heads_of}
 
 -- the order is right and the tables are made
 tabled : (c : After-heads_of) → let s = c.args in let t = s.trailer in
-    Tabled s.book.now s.shape s.paper.now t.from t.count (take (t.from + t.count - t.from) (drop t.from s.paper.now))
+    Tabled s.book.now.bytes.now s.book.now.shape s.paper.now t.from t.count (take (t.from + t.count - t.from) (drop t.from s.paper.now))
     (listed c.with_rules-all.result.w) c.heads_of.new.out
 tabled c = record {
-  read = c.requires.0;
+  read = c.args.book.now.read_as;
   small = omega arith;
   part = refl;
   order = sym c.in_ok-check_order.ensures;
@@ -35,11 +35,11 @@ returns-in_err-check_order c =
 
 pub with_rules-all-requires : goal.with_rules-all-requires
 with_rules-all-requires c =
-    below_more (omega (arith, shape-count _ _ c.requires.0)) (order_below _ _ _ (sym c.in_ok-check_order.ensures))
+    below_more (omega (arith, shape-count _ _ c.args.book.now.read_as)) (order_below _ _ _ (sym c.in_ok-check_order.ensures))
 
 pub check_unblocked-requires : goal.check_unblocked-requires
 check_unblocked-requires c =
-    (c.requires.0, below_more (omega (arith, shape-count _ _ c.requires.0)) (order_below _ _ _ (sym c.in_ok-check_order.ensures)), search rules)
+    (below_more (omega (arith, shape-count _ _ c.args.book.now.read_as)) (order_below _ _ _ (sym c.in_ok-check_order.ensures)), search rules)
 
 pub returns-in_err-check_unblocked : goal.returns-in_err-check_unblocked
 returns-in_err-check_unblocked c =

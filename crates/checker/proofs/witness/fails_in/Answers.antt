@@ -9,11 +9,11 @@ use Rattle.checker.proofs.witness.fails_in.Goals as goal
 
 pub every_in-requires : goal.every_in-requires
 every_in-requires c =
-    pos-below _ _ c.requires.0 _ c.requires.1 (omega arith) _ c.positives.ensures
+    pos-below _ _ c.args.book.now.read_as _ c.requires (omega arith) _ c.positives.ensures
 
 pub some_in-requires : goal.some_in-requires
 some_in-requires c =
-    neg-below _ _ c.requires.0 _ c.requires.1 (omega arith) _ c.negatives.ensures
+    neg-below _ _ c.args.book.now.read_as _ c.requires (omega arith) _ c.negatives.ensures
 
 pub returns-then-not-every_in : goal.returns-then-not-every_in
 returns-then-not-every_in c =

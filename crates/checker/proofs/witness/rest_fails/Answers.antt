@@ -19,7 +19,7 @@ loop-r-init c = search rules
 
 pub returns-then-not-fails_in : goal.returns-then-not-fails_in
 returns-then-not-fails_in c =
-    sym (rest-stops _ _ (rule_no c.loop-r.r) (shape-in _ _ c.requires (rule_no c.loop-r.r)
+    sym (rest-stops _ _ (rule_no c.loop-r.r) (shape-in _ _ c.args.book.now.read_as (rule_no c.loop-r.r)
     (omega arith))
     (neither (sym c.has.ensures ∙ c.if-not-has.true)
     (sym c.fails_in.ensures ∙ c.if-not-fails_in.true)))
@@ -33,4 +33,4 @@ loop-r-preserved c =
 
 pub returns : goal.returns
 returns c =
-    sym (rest_end _ _ _ (omega (arith, shape-count _ _ c.requires)) c.loop-r.invariant)
+    sym (rest_end _ _ _ (omega (arith, shape-count _ _ c.args.book.now.read_as)) c.loop-r.invariant)

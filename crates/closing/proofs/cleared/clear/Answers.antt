@@ -1,17 +1,13 @@
 -- Pass after pass, until no suspect is to be looked at again (Clearing). A pass that leaves one has added a rule.
-use mathlib.Core.Path.{ap, refl, ◌∙◌}
-use mathlib.Core.List.{List}
-use Prim.Native.Nat.{ℕ}
+use mathlib.Core.Path.{refl, ◌∙◌}
 use Rattle.meaning.specs.Books.{atom_no, rule_no}
-use Rattle.meaning.specs.Bits.{listed}
-use Rattle.meaning.specs.Written.{of}
 use Rattle.closing.proofs.Falling.{at-rule}
 use Rattle.closing.proofs.Propagating.{none_in, one_in}
 use Rattle.closing.proofs.Clearing.{clearing-start, clearing-more, clearing-end, swept-less}
 use Rattle.closing.proofs.cleared.clear.Goals as goal
 
 pub loop-cand-init : goal.loop-cand-init
-loop-cand-init c = clearing-start _ _ _ _ (ap (λ (w : List ℕ). of (listed w)) c.whole-all.ensures)
+loop-cand-init c = clearing-start _ _ _ _ refl
 
 pub returns-then-is_within : goal.returns-then-is_within
 returns-then-is_within c =

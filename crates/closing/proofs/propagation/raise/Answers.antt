@@ -5,7 +5,6 @@ use Rattle.meaning.specs.Books.{rule_no}
 use Rattle.meaning.specs.Bits.{listed}
 use Rattle.meaning.specs.Written.{of}
 use Rattle.meaning.proofs.Four.{members-nothing}
-use Rattle.meaning.proofs.Next.{next-further}
 use Rattle.closing.specs.News.{atom_set}
 use Rattle.closing.proofs.Good.{good-book, good-count, good-in}
 use Rattle.closing.proofs.Raising.{less-listed, onward-start, onward-turn, onward-end, raised-off}
@@ -14,9 +13,6 @@ use Rattle.closing.proofs.propagation.raise.Goals as goal
 pub loop-r-init : goal.loop-r-init
 loop-r-init c =
     ((0, c.next_in-r.ensures), onward-start _ (of (listed c.args.off.now)) (of (listed c.args.on.now)) (atom_set c.args.nt.now) _ _ c.next_in-r.ensures)
-
-pub loop-r-smaller : goal.loop-r-smaller
-loop-r-smaller c = let g = good-book c.args.rowed.now.book in omega (arith, next-further _ _ _ c.next_in-r-in-loop-r.ensures (omega (arith, g.rules)))
 
 pub loop-r-preserved : goal.loop-r-preserved
 loop-r-preserved c =
@@ -28,7 +24,7 @@ loop-r-preserved c =
 
 pub returns : goal.returns
 returns c =
-    let e = less-listed c.difference-left.result.w _ _ c.args.cand.now c.args.on.now c.difference-left.ensures c.whole.ensures
+    let e = less-listed c.difference.result.w _ _ c.args.cand.now c.args.on.now c.difference.ensures c.whole.ensures
     c.whole-2.ensures in (
       raised-off _ (of (listed c.args.off.now)) (of (listed c.args.cand.now)) _ (of (listed c.args.on.now)) (atom_set c.args.nt.now) e
           (onward-end _ (of (listed c.args.off.now)) _ (of (listed c.args.on.now)) (atom_set c.args.nt.now) _ c.loop-r.r c.loop-r.invariant.1

@@ -1,6 +1,5 @@
-use mathlib.Core.Path.{◌≡◌, sym, ap, ◌∙◌}
-use mathlib.Core.List.{List}
-use Prim.Native.Nat.{ℕ, ◌%◌}
+use mathlib.Core.Path.{◌≡◌}
+use Prim.Native.Nat.{◌%◌}
 use native.Mathlib.Omega.{arith}
 use lib.ListN.{length}
 use Rattle.meaning.proofs.Words.{shl_one}
@@ -13,6 +12,5 @@ pub returns : goal.returns
 unfolding stored
 returns c =
     let a = c.args in
-    let long : length c.whole-old.result.w ≡ 4 = search rules in
-    let e : length a.s.now ≡ 4 = sym (ap (λ (l : List ℕ). length l) c.whole-old.ensures) ∙ long in
-    rw (shl_one (a.i % 64) (omega arith)) (listed-put (stored a.s.now a.i) a.s.now a.i (omega arith) (members-put a.s.now a.i e (omega arith)))
+    let long : length a.s.now ≡ 4 = search rules in
+    rw (shl_one (a.i % 64) (omega arith)) (listed-put (stored a.s.now a.i) a.s.now a.i (omega arith) (members-put a.s.now a.i long (omega arith)))

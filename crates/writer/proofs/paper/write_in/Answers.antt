@@ -1,20 +1,9 @@
 -- The claim decides: 13 for an atom that the book doesn't have, then a paper with a witness or one without.
 use mathlib.Core.Path.{refl}
-use Prim.Native.Nat.{◌<◌}
 use native.Mathlib.Omega.{arith}
-use borrow.Author.Rules.{rules}
 use Rattle.book.proofs.Places.{shape-atoms}
 use Rattle.writer.proofs.Answering.{claimed-atom, claimed-nothing, about-no-atom, about-atom, about-nothing}
 use Rattle.writer.proofs.paper.write_in.Goals as goal
-use Rattle.writer.proofs.paper.write_in.Lts as lts
-use Rattle.writer.proofs.paper.write_in.Tie as tie
-
-abbrev Start : Type 0
-Start = lts.Start tie.the-claims tie.handed_pre tie.handed_post
-
--- atoms are counted in a byte
-small : (s : Start) → s.args.shape.atoms < 256
-small s = search rules
 
 pub returns-then-shape-atom : goal.returns-then-shape-atom
 returns-then-shape-atom c =
@@ -22,7 +11,7 @@ returns-then-shape-atom c =
 
 pub write_witnessed-requires : goal.write_witnessed-requires
 write_witnessed-requires c =
-    (c.requires, claimed-atom _ refl (omega (arith, small c.before.before.before.before.before.before.before.before, c.if-shape-atom.false)))
+    (c.requires, claimed-atom _ refl (omega arith))
 
 pub write_unwitnessed-requires : goal.write_unwitnessed-requires
 write_unwitnessed-requires c =

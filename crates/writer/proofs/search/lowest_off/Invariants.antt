@@ -1,4 +1,3 @@
-use Prim.Native.Nat.{◌-◌, ◌≤◌}
 use Rattle.meaning.specs.Bits.{listed}
 use Rattle.book.specs.Format.{book_in}
 use Rattle.writer.specs.Steps.{new_off}
@@ -6,7 +5,4 @@ use Rattle.writer.proofs.Searches.{NoneBelow}
 use Rattle.writer.proofs.search.lowest_off.Given as goal
 
 abbrev pub invariant-loop-r : goal.invariant-loop-r
-invariant-loop-r l = (l.r ≤ l.shape.rules) × NoneBelow (new_off (book_in l.book) l.headed (listed l.off)) l.r
-
-abbrev pub decreases-loop-r : goal.decreases-loop-r
-decreases-loop-r l = l.shape.rules - l.r
+invariant-loop-r l = NoneBelow (new_off (book_in l.book) l.headed (listed l.off)) l.r

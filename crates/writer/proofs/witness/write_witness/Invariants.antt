@@ -1,4 +1,3 @@
-use Prim.Native.Nat.{◌-◌}
 use Rattle.meaning.specs.AnswerSet.{generating}
 use Rattle.meaning.specs.Bits.{listed}
 use Rattle.book.specs.Format.{book_in}
@@ -9,6 +8,3 @@ use Rattle.writer.proofs.witness.write_witness.Given as goal
 abbrev pub invariant-loop-count : goal.invariant-loop-count
 invariant-loop-count l =
     Listing (book_in l.book) (generating (book_in l.book) (set_in l.row)) l.initial.n l.initial.draft l.count (listed l.taken) l.n l.draft
-
-abbrev pub decreases-loop-count : goal.decreases-loop-count
-decreases-loop-count l = l.shape.rules - l.count
