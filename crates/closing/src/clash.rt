@@ -5,13 +5,13 @@ ghost use Rattle.meaning.specs.Written.{of, lent};
 ghost use Rattle.meaning.specs.Lowest.{lowest_from, in_both};
 ghost use Rattle.closing.specs.Picked.{picked};
 
-use meaning::{Bits, RuleNo, next_in};
+use meaning::{Bits, RuleNo};
 
 // The lowest of the first `rules` rules that is in the set.
 pub fn lowest_in(rules: u8, set: Bits) -> Option<RuleNo>
     ensures { picked result ≡ lowest_from 0 rules (of (listed set.w)) }
 {
-    let r = next_in(&set.w, 0);
+    let r = set.next_in(0);
     if r < rules as usize {
         return Some(RuleNo(r as u8));
     }

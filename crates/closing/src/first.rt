@@ -12,7 +12,7 @@ ghost use Rattle.closing.specs.Settle.{settled_byte, settled_row, told, settle_i
 use crate::close;
 use crate::starting::begin;
 use book::{ReadBook, Refusal, RowedBook};
-use meaning::{Colouring, has};
+use meaning::{Bits, Colouring};
 
 // Why nothing was settled.
 #[derive(Clone, Copy)]
@@ -45,13 +45,13 @@ fn settled_byte(holds: bool, fails: bool) -> u8
 }
 
 // Writes the bytes of the first n places from byte `at` on; the other bytes stay.
-fn write_settled(n: u8, holds: &[u64; 4], fails: &[u64; 4], at: usize, out: &mut [u8])
+fn write_settled(n: u8, holds: &Bits, fails: &Bits, at: usize, out: &mut [u8])
     requires { at + n ≤ length out.old }
     ensures { out.new ≡ write_at at
-        (settled_row n (listed holds.now) (listed fails.now)) out.old }
+        (settled_row n (listed holds.now.w) (listed fails.now.w)) out.old }
 {
     for i in 0..n {
-        out[at + i as usize] = settled_byte(has(holds, i), has(fails, i));
+        out[at + i as usize] = settled_byte(holds.has(i), fails.has(i));
     }
 }
 
@@ -66,10 +66,10 @@ fn settle_in(book: ReadBook, out: &mut [u8]) -> Result<(), Unsettled>
     }
     let rowed = RowedBook::of(book);
     let closed = close(&rowed, Colouring::empty());
-    let on = closed.colours.on.w;
-    let off = closed.colours.off.w;
-    let mut holding = [0u64; 4];
-    let mut failing = [0u64; 4];
+    let on = closed.colours.on;
+    let off = closed.colours.off;
+    let mut holding = Bits::EMPTY;
+    let mut failing = Bits::EMPTY;
     begin(&rowed, &on, &off, &mut holding, &mut failing);
     write_settled(book.shape.rules, &on, &off, 0, out);
     write_settled(book.shape.atoms, &holding, &failing, rules, out);

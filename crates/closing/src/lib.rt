@@ -21,7 +21,7 @@ ghost use Rattle.closing.specs.Taken.{taken, Ready, Takes};
 
 use book::RowedBook;
 use levels::stamp;
-use meaning::{Bits, Colouring, RuleNo, Side, whole};
+use meaning::{Bits, Colouring, RuleNo, Side};
 use starting::{propagate, propagate_dropped, propagate_put};
 use unsupported::{drop_suspects, drop_unsupported};
 
@@ -56,15 +56,15 @@ pub fn close(rowed: &RowedBook, c: Colouring) -> Closure
         × (picked result.clash ≡ clashed (the_book rowed.now.book)
         (pair (close (the_book rowed.now.book) (written c)))) }
 {
-    let mut on = c.on.w;
-    let mut off = c.off.w;
+    let mut on = c.on;
+    let mut off = c.off;
     propagate(rowed, &mut on, &mut off);
     let before = off;
     drop_unsupported(&rowed.book, &mut off);
-    let settled = Bits { w: off };
+    let settled = off;
     propagate_dropped(rowed, &before, &mut on, &mut off);
     close_propagated(rowed, settled, &mut on, &mut off, false);
-    ended(rowed.book.shape.rules, c, Bits { w: on }, Bits { w: off })
+    ended(rowed.book.shape.rules, c, on, off)
 }
 
 // The same of d with the choice taken. Where a rule is chosen and d is closed, only what the rule
@@ -108,8 +108,8 @@ fn close_put(rowed: &RowedBook, d: Colouring, side: Side, r: RuleNo, early: bool
     ensures { Ends (the_book rowed.now.book) early (chosen (side_of side) r (written d))
         (written result.colours) (picked result.clash) }
 {
-    let mut on = d.on.w;
-    let mut off = d.off.w;
+    let mut on = d.on;
+    let mut off = d.off;
     propagate_put(rowed, side, r, &mut on, &mut off);
     let c = d.choose(side, r);
     if close_propagated(rowed, d.off, &mut on, &mut off, early) {
@@ -118,15 +118,15 @@ fn close_put(rowed: &RowedBook, d: Colouring, side: Side, r: RuleNo, early: bool
             clash: Some(r),
         };
     }
-    ended(rowed.book.shape.rules, c, Bits { w: on }, Bits { w: off })
+    ended(rowed.book.shape.rules, c, on, off)
 }
 
 // Whether a closing is left at these sets: it may be, and one of the rules is in both.
-fn is_left(rules: u8, early: bool, on: &[u64; 4], off: &[u64; 4]) -> bool
+fn is_left(rules: u8, early: bool, on: &Bits, off: &Bits) -> bool
     ensures { result ≡ left_at early (lowest_from 0 rules
-        (in_both (lent (listed on.now) (listed off.now)))) }
+        (in_both (lent (listed on.now.w) (listed off.now.w)))) }
 {
-    early && lowest_clash(rules, whole(on), whole(off)).is_some()
+    early && lowest_clash(rules, *on, *off).is_some()
 }
 
 // Closes two sets from which nothing follows but by support: the rules that nothing holds up go off,
@@ -135,18 +135,18 @@ fn is_left(rules: u8, early: bool, on: &[u64; 4], off: &[u64; 4]) -> bool
 fn close_propagated(
     rowed: &RowedBook,
     settled: Bits,
-    on: &mut [u64; 4],
-    off: &mut [u64; 4],
+    on: &mut Bits,
+    off: &mut Bits,
     early: bool,
 ) -> bool
-    requires { Propagated (the_book rowed.now.book) (lent (listed on.old) (listed off.old))
+    requires { Propagated (the_book rowed.now.book) (lent (listed on.old.w) (listed off.old.w))
         × AllHeld (the_book rowed.now.book) (of (listed settled.w))
-        × Under (the_book rowed.now.book) (of (listed settled.w)) (of (listed off.old)) }
+        × Under (the_book rowed.now.book) (of (listed settled.w)) (of (listed off.old.w)) }
     ensures { EndsAt (the_book rowed.now.book) early
-        (lent (listed on.old) (listed off.old))
-        (lent (listed on.new) (listed off.new)) result }
+        (lent (listed on.old.w) (listed off.old.w))
+        (lent (listed on.new.w) (listed off.new.w)) result }
 {
-    let mut old = settled.w;
+    let mut old = settled;
     loop {
         if is_left(rowed.book.shape.rules, early, on, off) {
             return true;
@@ -168,7 +168,7 @@ fn ended(rules: u8, c: Colouring, on: Bits, off: Bits) -> Closure
 {
     let new = on.union(off).difference(c.on.union(c.off));
     let mut levels = c.levels;
-    stamp(rules, &new.w, c.level, &mut levels);
+    stamp(rules, &new, c.level, &mut levels);
     Closure {
         colours: Colouring {
             on,

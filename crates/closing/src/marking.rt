@@ -12,35 +12,35 @@ ghost use Rattle.closing.specs.Growing.{Turn, Pass};
 ghost use Rattle.closing.specs.Conditions.{marking};
 
 use book::{ReadBook, every_in};
-use meaning::{Colouring, RuleNo, has, put};
+use meaning::{Bits, Colouring, RuleNo};
 
 // One rule's turn: a rule that is neither marked nor off is marked if its positive atoms are all
 // heads of marked rules. The table of these heads goes with the marks.
 fn try_rule(
     book: &ReadBook,
     r: RuleNo,
-    off: &[u64; 4],
-    marks: &mut [u64; 4],
+    off: &Bits,
+    marks: &mut Bits,
     supported: &mut [bool; Colouring::ATOMS],
     more: bool,
 ) -> bool
     requires { (r.0 < book.now.shape.rules)
-        × (supported.old ≡ atom_table (heads (the_book book.now) (of (listed marks.old)))) }
-    ensures { Turn (marking (the_book book.now) (of (listed off.now))) r
-        (listed marks.old) more (listed marks.new) result
+        × (supported.old ≡ atom_table (heads (the_book book.now) (of (listed marks.old.w)))) }
+    ensures { Turn (marking (the_book book.now) (of (listed off.now.w))) r
+        (listed marks.old.w) more (listed marks.new.w) result
         × (supported.new ≡
-        atom_table (heads (the_book book.now) (of (listed marks.new)))) }
+        atom_table (heads (the_book book.now) (of (listed marks.new.w)))) }
 {
-    if has(marks, r.0) {
+    if marks.has(r.0) {
         return more;
     }
-    if has(off, r.0) {
+    if off.has(r.0) {
         return more;
     }
     if !every_in(book.positives(r), supported) {
         return more;
     }
-    put(marks, r.0);
+    marks.put(r.0);
     let a = book.head(r).0 as usize;
     supported[a] = true;
     true
@@ -49,17 +49,17 @@ fn try_rule(
 // Every rule's turn, in order; whether a rule was marked.
 fn sweep(
     book: &ReadBook,
-    off: &[u64; 4],
-    marks: &mut [u64; 4],
+    off: &Bits,
+    marks: &mut Bits,
     supported: &mut [bool; Colouring::ATOMS],
 ) -> bool
-    requires { supported.old ≡ atom_table (heads (the_book book.now) (of (listed marks.old))) }
+    requires { supported.old ≡ atom_table (heads (the_book book.now) (of (listed marks.old.w))) }
     ensures { Pass (the_book book.now)
-        (marking (the_book book.now) (of (listed off.now)))
+        (marking (the_book book.now) (of (listed off.now.w)))
         (count (the_book book.now))
-        (listed marks.old) (listed marks.new) result
+        (listed marks.old.w) (listed marks.new.w) result
         × (supported.new ≡
-        atom_table (heads (the_book book.now) (of (listed marks.new)))) }
+        atom_table (heads (the_book book.now) (of (listed marks.new.w)))) }
 {
     let mut more = false;
     for r in 0..book.shape.rules {
@@ -70,11 +70,11 @@ fn sweep(
 
 // Writes the smallest set of rules in which is every rule that is not off and whose positive atoms
 // are all heads of its rules, over whatever the marks held.
-pub fn support(book: &ReadBook, off: &[u64; 4], marks: &mut [u64; 4])
-    ensures { listed marks.new ≡
-        support (the_book book.now) (of (listed off.now)) }
+pub fn support(book: &ReadBook, off: &Bits, marks: &mut Bits)
+    ensures { listed marks.new.w ≡
+        support (the_book book.now) (of (listed off.now.w)) }
 {
-    *marks = [0; 4];
+    *marks = Bits::EMPTY;
     let mut supported = [false; Colouring::ATOMS];
     loop {
         if !sweep(book, off, marks, &mut supported) {

@@ -14,111 +14,105 @@ ghost use Rattle.book.specs.RuleRows.{sets};
 ghost use Rattle.closing.specs.News.{atom_set, rows_below, Fallen, Looked, Raised};
 
 use book::RowedBook;
-use meaning::{AtomNo, Bits, RuleNo, join, next_in, put, whole};
+use meaning::{AtomNo, Bits, RuleNo};
 
 // Joins the atom's row of negative places into the one set of rules, its row of positive places into
 // the other.
-fn join_rows(rowed: &RowedBook, a: AtomNo, by_neg: &mut [u64; 4], by_pos: &mut [u64; 4])
-    ensures { (members by_neg.new ≡
-        plus (members by_neg.old) (sets rowed.now.rows (512 + a.0)))
-        × (members by_pos.new ≡
-        plus (members by_pos.old) (sets rowed.now.rows (256 + a.0))) }
+fn join_rows(rowed: &RowedBook, a: AtomNo, by_neg: &mut Bits, by_pos: &mut Bits)
+    ensures { (members by_neg.new.w ≡
+        plus (members by_neg.old.w) (sets rowed.now.rows (512 + a.0)))
+        × (members by_pos.new.w ≡
+        plus (members by_pos.old.w) (sets rowed.now.rows (256 + a.0))) }
 {
-    join(by_neg, &rowed.neg_row(a).w);
-    join(by_pos, &rowed.pos_row(a).w);
+    by_neg.join(rowed.neg_row(a));
+    by_pos.join(rowed.pos_row(a));
 }
 
 // The same for each atom of a set, in one pass: the atoms are not walked once for each kind of row.
-fn spread(rowed: &RowedBook, atoms: &[u64; 4], by_neg: &mut [u64; 4], by_pos: &mut [u64; 4])
-    ensures { (members by_neg.new ≡ plus (members by_neg.old)
-        (rows_below rowed.now.rows 512 (members atoms.now) 256))
-        × (members by_pos.new ≡ plus (members by_pos.old)
-        (rows_below rowed.now.rows 256 (members atoms.now) 256)) }
+fn spread(rowed: &RowedBook, atoms: &Bits, by_neg: &mut Bits, by_pos: &mut Bits)
+    ensures { (members by_neg.new.w ≡ plus (members by_neg.old.w)
+        (rows_below rowed.now.rows 512 (members atoms.now.w) 256))
+        × (members by_pos.new.w ≡ plus (members by_pos.old.w)
+        (rows_below rowed.now.rows 256 (members atoms.now.w) 256)) }
 {
-    let mut a = next_in(atoms, 0);
+    let mut a = atoms.next_in(0);
     while a < 256 {
         join_rows(rowed, AtomNo(a as u8), by_neg, by_pos);
-        a = next_in(atoms, a + 1);
+        a = atoms.next_in(a + 1);
     }
 }
 
 // Puts the atom in the set if so told.
-pub fn note(told: bool, a: AtomNo, set: &mut [u64; 4])
-    ensures { atom_set set.new ≡
-        (λ x. atom_set set.old x || (told && same_atom a x)) }
+pub fn note(told: bool, a: AtomNo, set: &mut Bits)
+    ensures { atom_set set.new.w ≡
+        (λ x. atom_set set.old.w x || (told && same_atom a x)) }
 {
     if !told {
         return;
     }
-    put(set, a.0);
+    set.put(a.0);
 }
 
 // The rule's head is put in the set if all its rules are off.
-pub fn note_lost(rowed: &RowedBook, r: RuleNo, off: &[u64; 4], lost: &mut [u64; 4])
+pub fn note_lost(rowed: &RowedBook, r: RuleNo, off: &Bits, lost: &mut Bits)
     requires { r.0 < rowed.now.book.shape.rules }
-    ensures { atom_set lost.new ≡ (λ a. atom_set lost.old a
+    ensures { atom_set lost.new.w ≡ (λ a. atom_set lost.old.w a
         || (same_atom (rule (the_book rowed.now.book) r).head a
-        && all_in (the_book rowed.now.book) (of (listed off.now)) a)) }
+        && all_in (the_book rowed.now.book) (of (listed off.now.w)) a)) }
 {
     let a = rowed.book.head(r);
     note(rowed.is_lost(a, off), a, lost);
 }
 
 // Writes the heads of the rules of the set all of whose rules are off.
-pub fn lost_heads(rowed: &RowedBook, fresh: &[u64; 4], off: &[u64; 4], lost: &mut [u64; 4])
-    ensures { atom_set lost.new ≡ (λ a.
-        heads (the_book rowed.now.book) (of (listed fresh.now)) a
-        && all_in (the_book rowed.now.book) (of (listed off.now)) a) }
+pub fn lost_heads(rowed: &RowedBook, fresh: &Bits, off: &Bits, lost: &mut Bits)
+    ensures { atom_set lost.new.w ≡ (λ a.
+        heads (the_book rowed.now.book) (of (listed fresh.now.w)) a
+        && all_in (the_book rowed.now.book) (of (listed off.now.w)) a) }
 {
-    *lost = [0; 4];
+    *lost = Bits::EMPTY;
     let end = rowed.book.shape.rules as usize;
-    let mut r = next_in(fresh, 0);
+    let mut r = fresh.next_in(0);
     while r < end {
         note_lost(rowed, RuleNo(r as u8), off, lost);
-        r = next_in(fresh, r + 1);
+        r = fresh.next_in(r + 1);
     }
 }
 
 // The new atoms put off what they block or starve, and call what may go on because of them.
-fn fall(
-    rowed: &RowedBook,
-    off: &mut [u64; 4],
-    nt: &mut [u64; 4],
-    nl: &mut [u64; 4],
-    cand: &mut [u64; 4],
-)
-    ensures { Fallen (the_book rowed.now.book) (of (listed off.old))
-        (atom_set nt.old) (atom_set nl.old) (of (listed cand.old))
-        (of (listed off.new)) (atom_set nt.new) (atom_set nl.new)
-        (of (listed cand.new)) }
+fn fall(rowed: &RowedBook, off: &mut Bits, nt: &mut Bits, nl: &mut Bits, cand: &mut Bits)
+    ensures { Fallen (the_book rowed.now.book) (of (listed off.old.w))
+        (atom_set nt.old.w) (atom_set nl.old.w) (of (listed cand.old.w))
+        (of (listed off.new.w)) (atom_set nt.new.w) (atom_set nl.new.w)
+        (of (listed cand.new.w)) }
 {
-    let mut hit = [0u64; 4];
+    let mut hit = Bits::EMPTY;
     spread(rowed, nt, &mut hit, cand);
     spread(rowed, nl, cand, &mut hit);
-    *nt = [0; 4];
-    let fresh = whole(&hit).difference(whole(off));
-    join(off, &hit);
-    lost_heads(rowed, &fresh.w, off, nl);
+    *nt = Bits::EMPTY;
+    let fresh = hit.difference(*off);
+    off.join(hit);
+    lost_heads(rowed, &fresh, off, nl);
 }
 
 // The rule goes on, and its head is new unless it was true.
-pub fn rise(rowed: &RowedBook, r: RuleNo, on: &mut [u64; 4], nt: &mut [u64; 4])
+pub fn rise(rowed: &RowedBook, r: RuleNo, on: &mut Bits, nt: &mut Bits)
     requires { r.0 < rowed.now.book.shape.rules }
-    ensures { (listed on.new ≡ set (listed on.old) r.0 true)
-        × (atom_set nt.new ≡ newly_true (the_book rowed.now.book) r
-        (of (listed on.old)) (atom_set nt.old)) }
+    ensures { (listed on.new.w ≡ set (listed on.old.w) r.0 true)
+        × (atom_set nt.new.w ≡ newly_true (the_book rowed.now.book) r
+        (of (listed on.old.w)) (atom_set nt.old.w)) }
 {
     let a = rowed.book.head(r);
     note(!rowed.is_headed(a, on), a, nt);
-    put(on, r.0);
+    on.put(r.0);
 }
 
 // A candidate has its look: if it may go on it goes on.
-fn look_at(rowed: &RowedBook, r: RuleNo, off: &[u64; 4], on: &mut [u64; 4], nt: &mut [u64; 4])
+fn look_at(rowed: &RowedBook, r: RuleNo, off: &Bits, on: &mut Bits, nt: &mut Bits)
     requires { r.0 < rowed.now.book.shape.rules }
-    ensures { Looked (the_book rowed.now.book) (of (listed off.now)) r
-        (of (listed on.old)) (atom_set nt.old)
-        (of (listed on.new)) (atom_set nt.new) }
+    ensures { Looked (the_book rowed.now.book) (of (listed off.now.w)) r
+        (of (listed on.old.w)) (atom_set nt.old.w)
+        (of (listed on.new.w)) (atom_set nt.new.w) }
 {
     if !rowed.may_go_on(r, on, off) {
         return;
@@ -127,25 +121,19 @@ fn look_at(rowed: &RowedBook, r: RuleNo, off: &[u64; 4], on: &mut [u64; 4], nt: 
 }
 
 // Every candidate that is not on has its look, in order; none is left.
-fn raise(
-    rowed: &RowedBook,
-    off: &[u64; 4],
-    cand: &mut [u64; 4],
-    on: &mut [u64; 4],
-    nt: &mut [u64; 4],
-)
-    ensures { Raised (the_book rowed.now.book) (of (listed off.now))
-        (of (listed cand.old)) (of (listed on.old)) (atom_set nt.old)
-        (of (listed cand.new)) (of (listed on.new)) (atom_set nt.new)
-        × (members cand.new ≡ none) }
+fn raise(rowed: &RowedBook, off: &Bits, cand: &mut Bits, on: &mut Bits, nt: &mut Bits)
+    ensures { Raised (the_book rowed.now.book) (of (listed off.now.w))
+        (of (listed cand.old.w)) (of (listed on.old.w)) (atom_set nt.old.w)
+        (of (listed cand.new.w)) (of (listed on.new.w)) (atom_set nt.new.w)
+        × (members cand.new.w ≡ none) }
 {
-    let todo = whole(cand).difference(whole(on)).w;
-    *cand = [0; 4];
+    let todo = cand.difference(*on);
+    *cand = Bits::EMPTY;
     let end = rowed.book.shape.rules as usize;
-    let mut r = next_in(&todo, 0);
+    let mut r = todo.next_in(0);
     while r < end {
         look_at(rowed, RuleNo(r as u8), off, on, nt);
-        r = next_in(&todo, r + 1);
+        r = todo.next_in(r + 1);
     }
 }
 
@@ -156,24 +144,24 @@ pub fn propagate_from(
     newly_true: Bits,
     newly_lost: Bits,
     candidates: Bits,
-    on: &mut [u64; 4],
-    off: &mut [u64; 4],
+    on: &mut Bits,
+    off: &mut Bits,
 )
-    requires { Pending (the_book rowed.now.book) (lent (listed on.old) (listed off.old))
+    requires { Pending (the_book rowed.now.book) (lent (listed on.old.w) (listed off.old.w))
         (atom_set newly_true.w) (atom_set newly_lost.w) (of (listed candidates.w)) }
-    ensures { (listed on.new ≡ (propagate (the_book rowed.now.book)
-        (coloured (listed on.old) (listed off.old))).on)
-        × (listed off.new ≡ (propagate (the_book rowed.now.book)
-        (coloured (listed on.old) (listed off.old))).off) }
+    ensures { (listed on.new.w ≡ (propagate (the_book rowed.now.book)
+        (coloured (listed on.old.w) (listed off.old.w))).on)
+        × (listed off.new.w ≡ (propagate (the_book rowed.now.book)
+        (coloured (listed on.old.w) (listed off.old.w))).off) }
 {
-    let mut nt = newly_true.w;
-    let mut nl = newly_lost.w;
-    let mut cand = candidates.w;
+    let mut nt = newly_true;
+    let mut nl = newly_lost;
+    let mut cand = candidates;
     loop {
         fall(rowed, off, &mut nt, &mut nl, &mut cand);
-        if whole(&nl).is_within(Bits::empty()) {
+        if nl.is_within(Bits::empty()) {
             raise(rowed, off, &mut cand, on, &mut nt);
-            if whole(&nt).is_within(Bits::empty()) {
+            if nt.is_within(Bits::empty()) {
                 return;
             }
         }

@@ -22,36 +22,36 @@ use Rattle.closing.proofs.close_propagated.Goals as goal
 -- the closing is left at the start of a turn
 pub returns-then-is_left : goal.returns-then-is_left
 returns-then-is_left c =
-    ends-left _ (shape-count _ _ c.args.rowed.now.book.read_as) (listed c.loop-old.on) (listed c.loop-old.off) c.loop-old.invariant.0 c.is_left.ensures c.if-is_left.true
+    ends-left _ (shape-count _ _ c.args.rowed.now.book.read_as) (listed c.loop-old.on.w) (listed c.loop-old.off.w) c.loop-old.invariant.0 c.is_left.ensures c.if-is_left.true
 
 pub returns-then-not-drop_suspects : goal.returns-then-not-drop_suspects
 returns-then-not-drop_suspects c =
     let l = c.loop-old in
-    ends-closed (closed-to _ (good-few (good-book c.args.rowed.now.book)) (lent (listed c.args.on.now) (listed c.args.off.now)) l.on l.off c.drop_suspects.new.off
+    ends-closed (closed-to _ (good-few (good-book c.args.rowed.now.book)) (lent (listed c.args.on.now.w) (listed c.args.off.now.w)) l.on.w l.off.w c.drop_suspects.new.off
     l.invariant.0 l.invariant.1 c.drop_suspects.ensures.0 c.if-not-drop_suspects.true)
 
 pub loop-old-smaller : goal.loop-old-smaller
 loop-old-smaller c =
     let fits = good-few (good-book c.args.rowed.now.book) in
-    let sets = coloured (listed c.loop-old.on) (listed c.drop_suspects.new.off) in
+    let sets = coloured (listed c.loop-old.on.w) (listed c.drop_suspects.new.off) in
     omega (
       arith,
       propagated-no-more _ fits sets (sized-coloured _ _) c.propagate_dropped.ensures.0 c.propagate_dropped.ensures.1,
-      dropped-less _ fits _ _ c.drop_suspects.ensures.0 (of (listed c.loop-old.on)) c.if-not-drop_suspects.false,
+      dropped-less _ fits _ _ c.drop_suspects.ensures.0 (of (listed c.loop-old.on.w)) c.if-not-drop_suspects.false,
     )
 
 pub loop-old-preserved : goal.loop-old-preserved
 loop-old-preserved c =
     let fits = good-few (good-book c.args.rowed.now.book) in
     let l = c.loop-old in
-    let sets = coloured (listed l.on) (listed c.drop_suspects.new.off) in
-    let dropped = closes-dropped _ fits _ _ c.drop_suspects.ensures.0.gone (of (listed l.on)) l.invariant.0 in
+    let sets = coloured (listed l.on.w) (listed c.drop_suspects.new.off) in
+    let dropped = closes-dropped _ fits _ _ c.drop_suspects.ensures.0.gone (of (listed l.on.w)) l.invariant.0 in
     let (e, f) = c.propagate_dropped.ensures in
     let same = c.drop_suspects.ensures.1 in (
       closes-propagated _ fits sets (sized-coloured _ _) e f dropped,
       (propagated-to _ fits sets (sized-coloured _ _) e f).good.propagated,
       subst (λ (v : List ℕ). Settled (book_in c.args.rowed.now.book.bytes.now) (of (listed v))) (sym same)
-          (dropped-settled _ fits (of (listed l.off)) _ c.drop_suspects.ensures.0.gone),
+          (dropped-settled _ fits (of (listed l.off.w)) _ c.drop_suspects.ensures.0.gone),
       subst (λ (v : List ℕ). Under (book_in c.args.rowed.now.book.bytes.now) (of (listed v)) (of (listed c.propagate_dropped.new.off))) (sym same)
           (propagated-off _ fits sets (sized-coloured _ _) e f),
     )

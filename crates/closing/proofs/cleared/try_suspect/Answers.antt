@@ -33,6 +33,6 @@ returns c =
     let g = good-book c.args.rowed.now.book in
     let a = c.head.result in
     let low = head-low g c.args.r (good-in g c.args.r c.requires) a c.head.ensures in
-    tried-holds _ c.args.rowed.now.rows c.args.rowed.now.rowed c.args.r (omega (arith, g.rules, c.requires)) c.args.held.now c.put.new.s c.args.woken.now c.wake.new.woken
-    a (omega arith) c.head.ensures (headed-by _ c.args.rowed.now.rows c.args.rowed.now.rowed c.args.held.now a (omega arith))
+    tried-holds _ c.args.rowed.now.rows c.args.rowed.now.rowed c.args.r (omega (arith, g.rules, c.requires)) c.args.held.now.w c.put.new.s c.args.woken.now.w c.wake.new.woken
+    a (omega arith) c.head.ensures (headed-by _ c.args.rowed.now.rows c.args.rowed.now.rowed c.args.held.now.w a (omega arith))
     (sym (asked (goal.at.returns c).After-every_headed g) ∙ c.if-not-every_headed.false) c.wake.ensures c.put.ensures

@@ -14,19 +14,19 @@ use Rattle.closing.proofs.cleared.try_suspects.Goals as goal
 
 pub loop-r-init : goal.loop-r-init
 loop-r-init c =
-    ((0, c.next_in-r.ensures), swept-start _ _ _ c.args.cand.now _ c.next_in-r.ensures _ (at-rule (replicate 4 0) members-nothing))
+    ((0, c.next_in-r.ensures), swept-start _ _ _ c.args.cand.now.w _ c.next_in-r.ensures _ (at-rule (replicate 4 0) members-nothing))
 
 pub loop-r-preserved : goal.loop-r-preserved
 loop-r-preserved c =
     let g = good-book c.args.rowed.now.book in
     let (from, n) = c.loop-r.invariant.0 in (
       (_, c.next_in-r-in-loop-r.ensures),
-      swept-next _ (of (listed c.args.suspects.now)) (of (listed c.args.held.now)) c.args.cand.now from c.loop-r.r _ c.loop-r.invariant.1 n (omega (arith, g.rules))
+      swept-next _ (of (listed c.args.suspects.now.w)) (of (listed c.args.held.now.w)) c.args.cand.now.w from c.loop-r.r _ c.loop-r.invariant.1 n (omega (arith, g.rules))
           c.next_in-r-in-loop-r.ensures (good-in g (rule_no c.loop-r.r) (omega arith)) c.try_suspect.ensures,
     )
 
 pub returns : goal.returns
 returns c =
-    swept-end c.loop-r.invariant.1 _ (onward-last c.args.cand.now c.loop-r.r (count (book_in c.args.rowed.now.book.bytes.now)) (omega (arith, good-count (good-book c.args.rowed.now.book), c.loop-r-test.false)))
-    (left_at c.difference-left.result.w c.intersection.result.w c.whole-3.result.w c.whole.result.w c.whole-2.result.w c.loop-r.woken c.args.suspects.now c.loop-r.held
+    swept-end c.loop-r.invariant.1 _ (onward-last c.args.cand.now.w c.loop-r.r (count (book_in c.args.rowed.now.book.bytes.now)) (omega (arith, good-count (good-book c.args.rowed.now.book), c.loop-r-test.false)))
+    (left_at c.difference-left.result.w c.intersection.result.w c.whole-3.result.w c.whole.result.w c.whole-2.result.w c.loop-r.woken c.args.suspects.now.w c.loop-r.held.w
     c.difference-left.ensures c.whole-3.ensures c.intersection.ensures c.whole.ensures c.whole-2.ensures)

@@ -14,7 +14,7 @@ unfolding of
 loop-i-preserved c =
     let a = c.args in (
       length-set c.loop-i.out _ _ ∙ c.loop-i.invariant.0,
-      settled-turn (listed a.holds.now) (listed a.fails.now) a.n a.at a.out.now c.requires (omega arith)
+      settled-turn (listed a.holds.now.w) (listed a.fails.now.w) a.n a.at a.out.now c.requires (omega arith)
           (c.settled_byte.ensures ∙ ap₂ settled_byte c.has.ensures c.has-in-loop-i.ensures) c.loop-i.invariant.1,
     )
 

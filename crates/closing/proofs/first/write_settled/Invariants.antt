@@ -7,4 +7,4 @@ use Rattle.closing.specs.Settle.{settled_row}
 use Rattle.closing.proofs.first.write_settled.Given as goal
 
 abbrev pub invariant-loop-i : goal.invariant-loop-i
-invariant-loop-i l = (length l.out ≡ length l.initial.out) × (l.out ≡ paste l.initial.out l.at (settled_row l.n (listed l.holds) (listed l.fails)) l.i)
+invariant-loop-i l = (length l.out ≡ length l.initial.out) × (l.out ≡ paste l.initial.out l.at (settled_row l.n (listed l.holds.w) (listed l.fails.w)) l.i)

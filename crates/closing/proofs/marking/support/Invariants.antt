@@ -13,8 +13,8 @@ use Rattle.closing.proofs.marking.support.Given as goal
 
 abbrev pub invariant-loop-supported : goal.invariant-loop-supported
 invariant-loop-supported l =
-    Grown (book_in l.book.bytes.now) (marking (book_in l.book.bytes.now) (of (listed l.off))) (replicate 256 false) (listed l.marks)
-    × (l.supported ≡ atom_table (heads (book_in l.book.bytes.now) (of (listed l.marks))))
+    Grown (book_in l.book.bytes.now) (marking (book_in l.book.bytes.now) (of (listed l.off.w))) (replicate 256 false) (listed l.marks.w)
+    × (l.supported ≡ atom_table (heads (book_in l.book.bytes.now) (of (listed l.marks.w))))
 
 abbrev pub decreases-loop-supported : goal.decreases-loop-supported
-decreases-loop-supported l = room (book_in l.book.bytes.now) (listed l.marks)
+decreases-loop-supported l = room (book_in l.book.bytes.now) (listed l.marks.w)

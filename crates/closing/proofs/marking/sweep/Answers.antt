@@ -9,7 +9,7 @@ use Rattle.closing.proofs.marking.sweep.Goals as goal
 pub loop-r-preserved : goal.loop-r-preserved
 loop-r-preserved c =
     let e = shape-count _ c.args.book.now.shape c.args.book.now.read_as in
-    let f = listed-long c.loop-r.marks in (
+    let f = listed-long c.loop-r.marks.w in (
       pass-turn (marking-mono _ _) c.loop-r.r (omega arith) (omega arith) c.loop-r.invariant.0 c.try_rule-more.ensures.0,
       c.try_rule-more.ensures.1,
     )

@@ -10,5 +10,5 @@ use Rattle.closing.proofs.marking.sweep.Given as goal
 
 abbrev pub invariant-loop-r : goal.invariant-loop-r
 invariant-loop-r l =
-    Pass (book_in l.book.bytes.now) (marking (book_in l.book.bytes.now) (of (listed l.off))) l.r (listed l.initial.marks) (listed l.marks) l.more
-    × (l.supported ≡ atom_table (heads (book_in l.book.bytes.now) (of (listed l.marks))))
+    Pass (book_in l.book.bytes.now) (marking (book_in l.book.bytes.now) (of (listed l.off.w))) l.r (listed l.initial.marks.w) (listed l.marks.w) l.more
+    × (l.supported ≡ atom_table (heads (book_in l.book.bytes.now) (of (listed l.marks.w))))

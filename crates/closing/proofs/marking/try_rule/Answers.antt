@@ -44,5 +44,5 @@ returns c =
     let h = c.head-a.ensures in
     let put = c.put.ensures in (
       mark-added _ _ _ _ _ _ put (sym c.has.ensures ∙ c.if-has.false) (sym c.has-2.ensures ∙ c.if-has-2.false) (sym e ∙ c.if-not-every_in.false),
-      headed-set _ _ c.requires.1 c.args.r i (omega (arith, listed-long c.args.marks.now, good-few (good-book c.args.book.now))) _ put _ h (head-low (good-book c.args.book.now) c.args.r i _ h),
+      headed-set _ _ c.requires.1 c.args.r i (omega (arith, listed-long c.args.marks.now.w, good-few (good-book c.args.book.now))) _ put _ h (head-low (good-book c.args.book.now) c.args.r i _ h),
     )

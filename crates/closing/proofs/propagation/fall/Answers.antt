@@ -11,7 +11,7 @@ use Rattle.closing.proofs.propagation.fall.Goals as goal
 pub returns : goal.returns
 returns c =
     let a = c.args in
-    fallen _ a.rowed.now.rows c.args.rowed.now.rowed a.off.now a.nt.now a.nl.now a.cand.now (replicate 4 0)
+    fallen _ a.rowed.now.rows c.args.rowed.now.rowed a.off.now.w a.nt.now.w a.nl.now.w a.cand.now.w (replicate 4 0)
     c.spread.new.by_neg c.spread-2.new.by_pos c.spread.new.by_pos c.spread-2.new.by_neg
     members-nothing c.spread.ensures.0 c.spread.ensures.1 c.spread-2.ensures.0 c.spread-2.ensures.1
     c.difference-fresh.result.w c.join.new.s (replicate 4 0) c.lost_heads.new.lost

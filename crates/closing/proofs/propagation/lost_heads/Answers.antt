@@ -12,17 +12,17 @@ use Rattle.closing.proofs.propagation.lost_heads.Goals as goal
 pub loop-r-init : goal.loop-r-init
 loop-r-init c =
     let s = c.args in
-    ((0, c.next_in-r.ensures), heads-start _ (all_in (book_in s.rowed.now.book.bytes.now) (of (listed s.off.now))) s.fresh.now _ c.next_in-r.ensures no-atoms)
+    ((0, c.next_in-r.ensures), heads-start _ (all_in (book_in s.rowed.now.book.bytes.now) (of (listed s.off.now.w))) s.fresh.now.w _ c.next_in-r.ensures no-atoms)
 
 pub loop-r-preserved : goal.loop-r-preserved
 loop-r-preserved c =
     let g = good-book c.args.rowed.now.book in
     let (from, n) = c.loop-r.invariant.0 in (
       (_, c.next_in-r-in-loop-r.ensures),
-      heads-turn _ (all_in (book_in c.args.rowed.now.book.bytes.now) (of (listed c.args.off.now))) c.args.fresh.now from c.loop-r.r _ n (omega (arith, g.rules)) c.next_in-r-in-loop-r.ensures
+      heads-turn _ (all_in (book_in c.args.rowed.now.book.bytes.now) (of (listed c.args.off.now.w))) c.args.fresh.now.w from c.loop-r.r _ n (omega (arith, g.rules)) c.next_in-r-in-loop-r.ensures
           (good-in g (rule_no c.loop-r.r) (omega arith)) c.loop-r.invariant.1 c.note_lost.ensures,
     )
 
 pub returns : goal.returns
 returns c =
-    heads-end _ (all_in (book_in c.args.rowed.now.book.bytes.now) (of (listed c.args.off.now))) c.args.fresh.now c.loop-r.r (omega (arith, good-count (good-book c.args.rowed.now.book))) c.loop-r.invariant.1
+    heads-end _ (all_in (book_in c.args.rowed.now.book.bytes.now) (of (listed c.args.off.now.w))) c.args.fresh.now.w c.loop-r.r (omega (arith, good-count (good-book c.args.rowed.now.book))) c.loop-r.invariant.1

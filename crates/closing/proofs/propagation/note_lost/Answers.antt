@@ -19,7 +19,7 @@ returns c =
     let g = good-book c.args.rowed.now.book in
     let low = head-low g c.args.r (good-in g c.args.r c.requires) c.head-a.result c.head-a.ensures in
     c.note.ensures
-    ∙ noted (all_in (book_in c.args.rowed.now.book.bytes.now) (of (listed c.args.off.now))) (atom_set c.args.lost.now) c.head-a.result c.is_lost.result
-    (c.is_lost.ensures ∙ lost-by _ c.args.rowed.now.rows c.args.rowed.now.rowed c.args.off.now c.head-a.result (omega arith))
-    ∙ fun_ext (λ a. ap (λ (x : AtomNo). atom_set c.args.lost.now a
-    || (same_atom x a && all_in (book_in c.args.rowed.now.book.bytes.now) (of (listed c.args.off.now)) a)) c.head-a.ensures)
+    ∙ noted (all_in (book_in c.args.rowed.now.book.bytes.now) (of (listed c.args.off.now.w))) (atom_set c.args.lost.now.w) c.head-a.result c.is_lost.result
+    (c.is_lost.ensures ∙ lost-by _ c.args.rowed.now.rows c.args.rowed.now.rowed c.args.off.now.w c.head-a.result (omega arith))
+    ∙ fun_ext (λ a. ap (λ (x : AtomNo). atom_set c.args.lost.now.w a
+    || (same_atom x a && all_in (book_in c.args.rowed.now.book.bytes.now) (of (listed c.args.off.now.w)) a)) c.head-a.ensures)

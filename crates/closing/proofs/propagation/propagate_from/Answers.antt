@@ -21,8 +21,8 @@ fell f = propagating-fall _ _ (of (listed f.loop-off.on)) _ _ _ _ _ _ _ _ f.fall
 pub returns-then-is_within-2 : goal.returns-then-is_within-2
 returns-then-is_within-2 c =
     let at = goal.at.returns-then-is_within-2 c in
-    let rose = propagating-rise _ (lent (listed c.args.on.now) (listed c.args.off.now)) _ _ _ _ _ _ _ _ c.raise.ensures.0 (fell at.After-fall) in
-    propagating-end _ (good-few (good-book c.args.rowed.now.book)) c.args.on.now c.args.off.now c.raise.new.on c.fall.new.off rose
+    let rose = propagating-rise _ (lent (listed c.args.on.now.w) (listed c.args.off.now.w)) _ _ _ _ _ _ _ _ c.raise.ensures.0 (fell at.After-fall) in
+    propagating-end _ (good-few (good-book c.args.rowed.now.book)) c.args.on.now.w c.args.off.now.w c.raise.new.on c.fall.new.off rose
     (none_in c.raise.new.nt c.whole-then-is_within.result.w c.empty-then-is_within.result.w c.whole-then-is_within.ensures c.empty-then-is_within.ensures
     c.is_within-then-is_within.ensures c.if-is_within-2.true)
     (none_in c.fall.new.nl c.whole.result.w c.empty.result.w c.whole.ensures c.empty.ensures
@@ -31,22 +31,22 @@ returns-then-is_within-2 c =
 
 pub loop-off-smaller-else-is_within-2 : goal.loop-off-smaller-else-is_within-2
 loop-off-smaller-else-is_within-2 c =
-    let first = lent (listed c.args.on.now) (listed c.args.off.now) in
+    let first = lent (listed c.args.on.now.w) (listed c.args.off.now.w) in
     let (a, m) = one_in c.raise.new.nt c.whole-then-is_within.result.w c.empty-then-is_within.result.w c.whole-then-is_within.ensures c.empty-then-is_within.ensures
     c.is_within-then-is_within.ensures c.if-is_within-2.false in
     let less = rise-less _ first _ _ _ _ _ _ _ _ c.raise.ensures.0 c.fall.ensures.nt-now (fell (goal.at.loop-off-smaller-else-is_within-2 c).After-fall) a m in
-    let no_more = fall-no-more _ first (of (listed c.loop-off.on)) _ _ _ _ _ _ _ _ c.fall.ensures in
+    let no_more = fall-no-more _ first (of (listed c.loop-off.on.w)) _ _ _ _ _ _ _ _ c.fall.ensures in
     omega (arith, less, no_more)
 
 pub loop-off-preserved-else-is_within-2 : goal.loop-off-preserved-else-is_within-2
 loop-off-preserved-else-is_within-2 c =
-    propagating-rise _ (lent (listed c.args.on.now) (listed c.args.off.now)) _ _ _ _ _ _ _ _ c.raise.ensures.0 (fell (goal.at.loop-off-preserved-else-is_within-2 c).After-fall)
+    propagating-rise _ (lent (listed c.args.on.now.w) (listed c.args.off.now.w)) _ _ _ _ _ _ _ _ c.raise.ensures.0 (fell (goal.at.loop-off-preserved-else-is_within-2 c).After-fall)
 
 pub loop-off-smaller : goal.loop-off-smaller
 loop-off-smaller c =
     let (a, m) = one_in c.fall.new.nl c.whole.result.w c.empty.result.w c.whole.ensures c.empty.ensures
     c.is_within.ensures c.if-is_within.false in
-    fall-less _ (lent (listed c.args.on.now) (listed c.args.off.now)) (of (listed c.loop-off.on)) _ _ _ _ _ _ _ _ c.fall.ensures a m
+    fall-less _ (lent (listed c.args.on.now.w) (listed c.args.off.now.w)) (of (listed c.loop-off.on.w)) _ _ _ _ _ _ _ _ c.fall.ensures a m
 
 pub loop-off-preserved : goal.loop-off-preserved
 loop-off-preserved c = fell (goal.at.loop-off-preserved c).After-fall

@@ -12,22 +12,22 @@ use Rattle.closing.proofs.propagation.raise.Goals as goal
 
 pub loop-r-init : goal.loop-r-init
 loop-r-init c =
-    ((0, c.next_in-r.ensures), onward-start _ (of (listed c.args.off.now)) (of (listed c.args.on.now)) (atom_set c.args.nt.now) _ _ c.next_in-r.ensures)
+    ((0, c.next_in-r.ensures), onward-start _ (of (listed c.args.off.now.w)) (of (listed c.args.on.now.w)) (atom_set c.args.nt.now.w) _ _ c.next_in-r.ensures)
 
 pub loop-r-preserved : goal.loop-r-preserved
 loop-r-preserved c =
     let g = good-book c.args.rowed.now.book in (
       (_, c.next_in-r-in-loop-r.ensures),
-      onward-turn _ (of (listed c.args.off.now)) _ (of (listed c.args.on.now)) (atom_set c.args.nt.now) _ c.loop-r.r _ c.loop-r.invariant.1
+      onward-turn _ (of (listed c.args.off.now.w)) _ (of (listed c.args.on.now.w)) (atom_set c.args.nt.now.w) _ c.loop-r.r _ c.loop-r.invariant.1
           c.next_in-r-in-loop-r.ensures (good-in g (rule_no c.loop-r.r) (omega arith)) c.look_at.ensures,
     )
 
 pub returns : goal.returns
 returns c =
-    let e = less-listed c.difference.result.w _ _ c.args.cand.now c.args.on.now c.difference.ensures c.whole.ensures
+    let e = less-listed c.difference.result.w _ _ c.args.cand.now.w c.args.on.now.w c.difference.ensures c.whole.ensures
     c.whole-2.ensures in (
-      raised-off _ (of (listed c.args.off.now)) (of (listed c.args.cand.now)) _ (of (listed c.args.on.now)) (atom_set c.args.nt.now) e
-          (onward-end _ (of (listed c.args.off.now)) _ (of (listed c.args.on.now)) (atom_set c.args.nt.now) _ c.loop-r.r c.loop-r.invariant.1
+      raised-off _ (of (listed c.args.off.now.w)) (of (listed c.args.cand.now.w)) _ (of (listed c.args.on.now.w)) (atom_set c.args.nt.now.w) e
+          (onward-end _ (of (listed c.args.off.now.w)) _ (of (listed c.args.on.now.w)) (atom_set c.args.nt.now.w) _ c.loop-r.r c.loop-r.invariant.1
           (omega (arith, good-count (good-book c.args.rowed.now.book))) (of (listed (replicate 4 0)))),
       members-nothing,
     )

@@ -14,6 +14,6 @@ returns c =
     let g = good-book c.args.rowed.now.book in
     let low = head-low g c.args.r (good-in g c.args.r c.requires) c.head-a.result c.head-a.ensures in (
       c.put.ensures,
-      noted-true _ c.args.r (of (listed c.args.on.now)) (atom_set c.args.nt.now) c.head-a.result c.is_headed.result c.head-a.ensures
-          (c.is_headed.ensures ∙ headed-by _ c.args.rowed.now.rows c.args.rowed.now.rowed c.args.on.now c.head-a.result (omega arith)) c.note.ensures,
+      noted-true _ c.args.r (of (listed c.args.on.now.w)) (atom_set c.args.nt.now.w) c.head-a.result c.is_headed.result c.head-a.ensures
+          (c.is_headed.ensures ∙ headed-by _ c.args.rowed.now.rows c.args.rowed.now.rowed c.args.on.now.w c.head-a.result (omega arith)) c.note.ensures,
     )

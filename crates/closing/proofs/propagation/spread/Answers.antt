@@ -9,8 +9,8 @@ loop-a-init c =
     let s = c.args in
     let n = c.next_in-a.ensures in (
       (0, n),
-      rows_start s.rowed.now.rows 512 (members s.atoms.now) (members s.by_neg.now) _ n,
-      rows_start s.rowed.now.rows 256 (members s.atoms.now) (members s.by_pos.now) _ n,
+      rows_start s.rowed.now.rows 512 (members s.atoms.now.w) (members s.by_neg.now.w) _ n,
+      rows_start s.rowed.now.rows 256 (members s.atoms.now.w) (members s.by_pos.now.w) _ n,
     )
 
 pub loop-a-preserved : goal.loop-a-preserved
@@ -19,6 +19,6 @@ loop-a-preserved c =
     let j = c.join_rows.ensures in
     let (from, n) = c.loop-a.invariant.0 in (
       (_, c.next_in-a-in-loop-a.ensures),
-      rows-turn s.rowed.now.rows 512 (members s.atoms.now) (members s.by_neg.now) from c.loop-a.a _ n (omega arith) c.next_in-a-in-loop-a.ensures c.loop-a.invariant.1 j.0,
-      rows-turn s.rowed.now.rows 256 (members s.atoms.now) (members s.by_pos.now) from c.loop-a.a _ n (omega arith) c.next_in-a-in-loop-a.ensures c.loop-a.invariant.2 j.1,
+      rows-turn s.rowed.now.rows 512 (members s.atoms.now.w) (members s.by_neg.now.w) from c.loop-a.a _ n (omega arith) c.next_in-a-in-loop-a.ensures c.loop-a.invariant.1 j.0,
+      rows-turn s.rowed.now.rows 256 (members s.atoms.now.w) (members s.by_pos.now.w) from c.loop-a.a _ n (omega arith) c.next_in-a-in-loop-a.ensures c.loop-a.invariant.2 j.1,
     )

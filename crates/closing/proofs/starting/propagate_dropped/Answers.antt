@@ -4,6 +4,6 @@ use Rattle.closing.proofs.starting.propagate_dropped.Goals as goal
 
 pub propagate_from-requires : goal.propagate_from-requires
 propagate_from-requires c =
-    dropped-pending _ c.empty.result.w c.empty-2.result.w c.empty.ensures c.empty-2.ensures c.args.on.now c.args.before.now c.args.off.now
+    dropped-pending _ c.empty.result.w c.empty-2.result.w c.empty.ensures c.empty-2.ensures c.args.on.now.w c.args.before.now.w c.args.off.now.w
     c.difference-fresh.result.w c.lost_heads.new.lost c.whole.result.w c.whole-2.result.w c.requires.0 c.requires.1
     c.difference-fresh.ensures c.whole.ensures c.whole-2.ensures c.lost_heads.ensures

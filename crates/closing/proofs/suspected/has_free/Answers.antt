@@ -8,22 +8,22 @@ use Rattle.closing.proofs.suspected.has_free.Goals as goal
 
 pub loop-r-init : goal.loop-r-init
 loop-r-init c =
-    ((0, c.next_in-r.ensures), free-start (book_in c.args.book.now.bytes.now) c.args.set.now _ c.next_in-r.ensures)
+    ((0, c.next_in-r.ensures), free-start (book_in c.args.book.now.bytes.now) c.args.set.now.w _ c.next_in-r.ensures)
 
 pub returns-then-positives-eq0 : goal.returns-then-positives-eq0
 returns-then-positives-eq0 c =
     let g = good-book c.args.book.now in
     let (from, n) = c.loop-r.invariant.0 in
-    free_one (book_in c.args.book.now.bytes.now) c.args.set.now from c.loop-r.r n (good-in g (rule_no c.loop-r.r) (omega arith)) (omega (arith, g.rules))
+    free_one (book_in c.args.book.now.bytes.now) c.args.set.now.w from c.loop-r.r n (good-in g (rule_no c.loop-r.r) (omega arith)) (omega (arith, g.rules))
     (free-yes _ _ c.positives.ensures c.if-positives-eq0.true)
 
 pub loop-r-preserved : goal.loop-r-preserved
 loop-r-preserved c = (
   (_, c.next_in-r-in-loop-r.ensures),
-  free-turn (book_in c.args.book.now.bytes.now) c.args.set.now c.loop-r.r _ c.next_in-r-in-loop-r.ensures (free-no _ _ c.positives.ensures c.if-positives-eq0.false)
+  free-turn (book_in c.args.book.now.bytes.now) c.args.set.now.w c.loop-r.r _ c.next_in-r-in-loop-r.ensures (free-no _ _ c.positives.ensures c.if-positives-eq0.false)
       c.loop-r.invariant.1,
 )
 
 pub returns : goal.returns
 returns c =
-    free-none (book_in c.args.book.now.bytes.now) c.args.set.now c.loop-r.r (omega (arith, good-count (good-book c.args.book.now))) c.loop-r.invariant.1
+    free-none (book_in c.args.book.now.bytes.now) c.args.set.now.w c.loop-r.r (omega (arith, good-count (good-book c.args.book.now))) c.loop-r.invariant.1

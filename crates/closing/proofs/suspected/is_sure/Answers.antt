@@ -5,5 +5,5 @@ use Rattle.closing.proofs.suspected.is_sure.Goals as goal
 
 pub returns : goal.returns
 returns c =
-    sure-asked _ c.args.rowed.now.rows c.args.rowed.now.rowed c.args.a (search rules) c.args.off.now c.difference-live.result.w c.head_row.result.w c.whole.result.w
+    sure-asked _ c.args.rowed.now.rows c.args.rowed.now.rowed c.args.a (search rules) c.args.off.now.w c.difference-live.result.w c.head_row.result.w c.whole.result.w
     c.difference-live.ensures c.head_row.ensures c.whole.ensures c.has_free.ensures

@@ -8,13 +8,13 @@ pub loop-a-init : goal.loop-a-init
 loop-a-init c =
     let s = c.args in
     let n = c.next_in-a.ensures in
-    ((0, n), rows_start s.rowed.now.rows 256 (members s.atoms.now) (members s.set.now) _ n)
+    ((0, n), rows_start s.rowed.now.rows 256 (members s.atoms.now.w) (members s.set.now.w) _ n)
 
 pub loop-a-preserved : goal.loop-a-preserved
 loop-a-preserved c =
     let s = c.args in
     let (from, n) = c.loop-a.invariant.0 in (
       (_, c.next_in-a-in-loop-a.ensures),
-      rows-turn s.rowed.now.rows 256 (members s.atoms.now) (members s.set.now) from c.loop-a.a _ n (omega arith) c.next_in-a-in-loop-a.ensures c.loop-a.invariant.1
+      rows-turn s.rowed.now.rows 256 (members s.atoms.now.w) (members s.set.now.w) from c.loop-a.a _ n (omega arith) c.next_in-a-in-loop-a.ensures c.loop-a.invariant.1
           c.join_standing.ensures,
     )

@@ -7,7 +7,7 @@ use Rattle.closing.proofs.suspected.suspect_more.Goals as goal
 pub returns : goal.returns
 returns c =
     let a = c.args in
-    suspected _ a.rowed.now.rows c.args.rowed.now.rowed a.off.now a.todo.now a.suspects.now (replicate 4 0) c.join_all_standing.new.set
+    suspected _ a.rowed.now.rows c.args.rowed.now.rowed a.off.now.w a.todo.now.w a.suspects.now.w (replicate 4 0) c.join_all_standing.new.set
     c.difference.result.w c.difference-fresh.result.w c.whole.result.w c.whole-2.result.w
     c.whole-3.result.w members-nothing c.join_all_standing.ensures
     c.difference.ensures c.whole.ensures c.whole-2.ensures c.difference-fresh.ensures c.whole-3.ensures

@@ -4,4 +4,4 @@ use Rattle.closing.proofs.unsupported.put_off.Goals as goal
 
 pub returns : goal.returns
 returns c =
-    (c.join.ensures, some_in c.args.rest.now c.whole.result.w c.empty.result.w c.whole.ensures c.empty.ensures c.is_within.ensures)
+    (c.join.ensures, some_in c.args.rest.now.w c.whole.result.w c.empty.result.w c.whole.ensures c.empty.ensures c.is_within.ensures)
