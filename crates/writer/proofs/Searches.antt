@@ -16,7 +16,8 @@ use Rattle.meaning.specs.Engine.{less}
 use Rattle.meaning.proofs.Tests.{both, not_first, not-second}
 use Rattle.meaning.proofs.Lowest.{none-lowest, one-lowest}
 use Rattle.book.specs.Tables.{atoms_in}
-use Rattle.writer.specs.Steps.{new_on, new_off}
+use Rattle.writer.specs.Steps.{new_on, new_off, may_by, new_by}
+use Rattle.meaning.specs.Colours.{Side, on_side, off_side}
 
 -- no rule below n is in s
 pub record NoneBelow (s : Rules) (n : ℕ) : Type 0 where
@@ -52,13 +53,8 @@ module _ {s t : Rules} {l : List Bool} (sifts : Sifts s t l) {r : ℕ} where
   pub sifts-in : of l (rule_no r) ≡ true → s (rule_no r) ≡ false
   sifts-in o = sifts.is _ ∙ not-second (t (rule_no r)) (ap not o)
 
--- 41
-pub new-on-sifts : (b : Book) (headed lost on : List Bool)
-    → Sifts (new_on b headed lost on) (λ r. every (atoms_in headed) (rule b r).pos && every (atoms_in lost) (rule b r).neg) on
-unfolding new_on
-new-on-sifts b headed lost on = record { is = λ r. refl }
-
--- 42
-pub new-off-sifts : (b : Book) (headed off : List Bool) → Sifts (new_off b headed off) (λ r. some (atoms_in headed) (rule b r).neg) off
-unfolding new_off
-new-off-sifts b headed off = record { is = λ r. refl }
+-- 41 and 42
+pub new-sifts : (x : Side) (b : Book) (headed lost set : List Bool) → Sifts (new_by x b headed lost set) (may_by x b headed lost) set
+unfolding new_by may_by new_on new_off
+new-sifts on_side b headed lost on = record { is = λ r. refl }
+new-sifts off_side b headed lost off = record { is = λ r. refl }

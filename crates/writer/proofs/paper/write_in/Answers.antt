@@ -7,19 +7,19 @@ use Rattle.writer.proofs.paper.write_in.Goals as goal
 
 pub returns-then-shape-atom : goal.returns-then-shape-atom
 returns-then-shape-atom c =
-    about-no-atom _ _ _ _ c.in-About.is (omega (arith, shape-atoms _ _ c.requires, c.if-shape-atom.true))
+    about-no-atom _ _ _ _ c.in-About.is (omega (arith, shape-atoms _ _ c.args.book.now.read_as, c.if-shape-atom.true))
 
 pub write_witnessed-requires : goal.write_witnessed-requires
 write_witnessed-requires c =
-    (c.requires, claimed-atom _ refl (omega arith))
+    claimed-atom _ refl (omega arith)
 
 pub write_unwitnessed-requires : goal.write_unwitnessed-requires
 write_unwitnessed-requires c =
-    (c.requires, claimed-nothing _ c.in-NoReading.is)
+    claimed-nothing _ c.in-NoReading.is
 
 pub returns-else-shape-atom : goal.returns-else-shape-atom
 returns-else-shape-atom c =
-    about-atom _ _ _ _ c.in-About.is (omega (arith, shape-atoms _ _ c.requires, c.if-shape-atom.false))
+    about-atom _ _ _ _ c.in-About.is (omega (arith, shape-atoms _ _ c.args.book.now.read_as, c.if-shape-atom.false))
     c.write_witnessed.ensures
 
 pub returns-in-NoReading : goal.returns-in-NoReading

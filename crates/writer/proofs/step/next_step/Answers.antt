@@ -22,31 +22,31 @@ use Rattle.writer.proofs.step.next_step.Goals as goal
 use Rattle.writer.proofs.step.next_step.Goals.{Else-is_shown, After-lowest_on, After-lowest_off, After-lowest_uncoloured}
 
 -- 45 isn't allowed
-quiet : (c : Else-is_shown) → ended (book_in c.args.book.now) c.args.claim (lent (listed c.args.on.now) (listed c.args.off.now)) ≡ false
+quiet : (c : Else-is_shown) → ended (book_in c.args.book.now.bytes.now) c.args.claim (lent (listed c.args.on.now) (listed c.args.off.now)) ≡ false
 quiet c =
-    not-ended _ _ _ _ _ _ c.heads_of.ensures c.lost_in.ensures c.requires.1
+    not-ended _ _ _ _ _ _ c.heads_of.ensures c.lost_in.ensures c.requires
     c.is_shown.ensures (sym c.is_clashing.ensures ∙ c.if-is_clashing.false) c.if-is_shown.false
 
 -- what the searches for 41, 42 and 53 find
-for-41 : (c : After-lowest_on) → picked c.lowest_on.result ≡ lowest (book_in c.args.book.now)
-    (less (may_on (book_in c.args.book.now) (lent (listed c.args.on.now) (listed c.args.off.now))) (of (listed c.args.on.now)))
-for-41 c = c.lowest_on.ensures ∙ new-on-lowest _ _ c.requires.0 (omega arith) _ _ _ c.heads_of.ensures _ c.lost_in.ensures
+for-41 : (c : After-lowest_on) → picked c.lowest_on.result ≡ lowest (book_in c.args.book.now.bytes.now)
+    (less (may_on (book_in c.args.book.now.bytes.now) (lent (listed c.args.on.now) (listed c.args.off.now))) (of (listed c.args.on.now)))
+for-41 c = c.lowest_on.ensures ∙ new-on-lowest _ _ c.args.book.now.read_as (omega arith) _ _ _ c.heads_of.ensures _ c.lost_in.ensures
 
-for-42 : (c : After-lowest_off) → picked c.lowest_off.result ≡ lowest (book_in c.args.book.now)
-    (less (blocked (book_in c.args.book.now) (lent (listed c.args.on.now) (listed c.args.off.now))) (of (listed c.args.off.now)))
-for-42 c = c.lowest_off.ensures ∙ new-off-lowest _ _ c.requires.0 (omega arith) (listed c.args.on.now) _ _ c.heads_of.ensures
+for-42 : (c : After-lowest_off) → picked c.lowest_off.result ≡ lowest (book_in c.args.book.now.bytes.now)
+    (less (blocked (book_in c.args.book.now.bytes.now) (lent (listed c.args.on.now) (listed c.args.off.now))) (of (listed c.args.off.now)))
+for-42 c = c.lowest_off.ensures ∙ new-off-lowest _ _ c.args.book.now.read_as (omega arith) (listed c.args.on.now) _ _ c.heads_of.ensures
 
 for-53 : (c : After-lowest_uncoloured) → picked c.lowest_uncoloured.result
-    ≡ lowest (book_in c.args.book.now) (uncoloured (lent (listed c.args.on.now) (listed c.args.off.now)))
-for-53 c = lowest-in _ (shape-count _ _ c.requires.0) _ (c.lowest_uncoloured.ensures
-    ∙ ap₂ (λ (a b : List ℕ). lowest_from 0 c.args.shape.rules (uncoloured (lent (listed a) (listed b)))) c.whole.ensures c.whole-2.ensures)
+    ≡ lowest (book_in c.args.book.now.bytes.now) (uncoloured (lent (listed c.args.on.now) (listed c.args.off.now)))
+for-53 c = lowest-in _ (shape-count _ _ c.args.book.now.read_as) _ (c.lowest_uncoloured.ensures
+    ∙ ap₂ (λ (a b : List ℕ). lowest_from 0 c.args.book.now.shape.rules (uncoloured (lent (listed a) (listed b)))) c.whole.ensures c.whole-2.ensures)
 
 pub returns-then-is_clashing : goal.returns-then-is_clashing
 returns-then-is_clashing c = does-next (next-end _ _ _ (ended-clash _ _ _ _ (sym c.is_clashing.ensures ∙ c.if-is_clashing.true))) does-end
 
 pub returns-then-is_shown : goal.returns-then-is_shown
 returns-then-is_shown c =
-    let shown = ended-shown _ _ _ _ _ _ c.heads_of.ensures c.lost_in.ensures c.requires.1 c.is_shown.ensures c.if-is_shown.true in
+    let shown = ended-shown _ _ _ _ _ _ c.heads_of.ensures c.lost_in.ensures c.requires c.is_shown.ensures c.if-is_shown.true in
     does-next (next-end _ _ _ shown) does-end
 
 pub returns-in-Some : goal.returns-in-Some
