@@ -1,22 +1,19 @@
 -- The heads of a text's choices (specs/FreeHeads): the turns of the search, and that it gives the head whose helper has that number.
 use mathlib.Core.Path.{◌≡◌, refl, ap, sym, ◌∙◌}
-use mathlib.Core.Bool.{Bool, true, false}
 use mathlib.Core.List.{List, [], ◌∷◌, ◌++◌}
 use Prim.Native.Nat.{ℕ, zero, suc, ◌-◌, ◌<◌}
 use native.Mathlib.Omega.{arith}
 use lib.ListN.{length, get_or}
 use Rattle.std.specs.Prelude.{Option, Some, None, Ok, Err}
 use Rattle.meaning.specs.Choice.{ifb, if_eq}
-use Rattle.meaning.proofs.Choice.{b-yes, b-no, b-either, lt-either, eq_yes, eq_no, eq-either}
+use Rattle.meaning.proofs.Choice.{b-either, lt-either, eq_yes, eq_no, eq-either}
 use Rattle.imported.specs.declared.TextAtom.{TextAtom}
 use Rattle.imported.specs.Making.{free_heads, free_count, free_head}
 use Rattle.lparse.specs.declared.due.Role.{Role}
 use Rattle.lparse.specs.declared.due.Role.TheVariants.{Kind, Head, HeadCount, Heads, Literals, Negatives, Negative, Positive, Table, Plus, Minus, Models}
 use Rattle.lparse.specs.declared.due.Due.{Due}
 use Rattle.lparse.specs.declared.due.Due.TheVariants.{Number, Name, PlusWord, MinusWord, End}
-use Rattle.lparse.specs.declared.due.Standing.{Standing}
 use Rattle.lparse.specs.declared.due.Said.{Said}
-use Rattle.lparse.specs.declared.due.Said.TheVariants.{Nothing as Silent, Choice as Chooses, Atom}
 use Rattle.lparse.specs.declared.due.Misplaced.TheVariants.{Format, Kind as OtherKind}
 use Rattle.lparse.specs.declared.step.Taken.{Taken}
 use Rattle.lparse.specs.declared.step.Unread.{Unread}
@@ -145,49 +142,6 @@ free-start s j = go (text_in s) (heard-at-fits s 0 (Number Kind))
     go : (h : Heard) → ((p : Part) → h ≡ says p → Fits (Number Kind) p) → head_heard h j ≡ found_from None j h
     go (says p) f = shut p (f p refl)
     go (wrong i at) f = refl
-
--- ---- the functions of one word
-
-module _ (a : TextAtom) (standing : Standing) {said : Said} (e : said ≡ Atom a standing) {b : Bool} (f : b ≡ is_free standing) where
-  pub said-free : b ≡ true → Some a ≡ head_said said
-  unfolding head_said
-  said-free g = rw (e, ← f) (sym (b-yes _ _ _ g))
-
-  pub said-bound : b ≡ false → None ≡ head_said said
-  unfolding head_said
-  said-bound g = rw (e, ← f) (sym (b-no _ _ _ g))
-
-module _ {said : Said} where
-  pub head-silent : said ≡ Silent → None ≡ head_said said
-  unfolding head_said
-  head-silent e = rw e
-
-  pub head-choice : said ≡ Chooses → None ≡ head_said said
-  unfolding head_said
-  head-choice e = rw e
-
-module _ (here : Option TextAtom) (left : ℕ) {found : Option TextAtom} where
-  pub head-stays : {a : TextAtom} → found ≡ Some a → found ≡ head_by found here left
-  unfolding head_by
-  head-stays e = rw e
-
-  module _ (e : found ≡ None) where
-    pub head_passed : (left ≡ 0 → ⊥) → None ≡ head_by found here left
-    unfolding head_by
-    head_passed h = rw e (sym (eq_no _ _ _ _ h))
-
-    pub head-here : left ≡ 0 → here ≡ head_by found here left
-    unfolding head_by
-    head-here h = rw e (sym (eq_yes _ _ _ _ h))
-
-module _ (left : ℕ) {here : Option TextAtom} where
-  pub behind-none : here ≡ None → left ≡ left_behind left here
-  unfolding left_behind
-  behind-none e = rw e
-
-  pub behind-one : {a : TextAtom} → here ≡ Some a → {n : ℕ} → n ≡ left - 1 → n ≡ left_behind left here
-  unfolding left_behind
-  behind-one e f = rw e f
 
 -- ---- what the search gives, of a text in the format
 

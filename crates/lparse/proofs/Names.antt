@@ -7,12 +7,11 @@ use mathlib.Core.List.{List, [], ◌∷◌, Memᴰ}
 use Prim.Native.Nat.{ℕ, suc, ◌+◌, ◌-◌, ◌<◌, ◌≤◌}
 use native.Mathlib.Omega.{arith}
 use native.Mathlib.Numerals.{add-one}
-use lib.Dec.{eqb}
 use lib.ListN.{length, get_or, drop, length-drop, drop_of_length-le}
 use lib.Seq.{drop-cons, length-take-le}
 use Rattle.std.specs.Prelude.{Option, Some, None, Ok, Err}
 use Rattle.meaning.specs.Choice.{ifb, if_eq}
-use Rattle.meaning.proofs.Choice.{b-yes, b-no, eq_yes, eq_no, eq-either}
+use Rattle.meaning.proofs.Choice.{eq_yes, eq_no, eq-either}
 use Rattle.imported.specs.declared.TextAtom.{TextAtom}
 use Rattle.imported.specs.Text.{same_text, Text}
 use Rattle.imported.specs.Making.{mentioned, distinct, number}
@@ -127,53 +126,6 @@ module _ (w : Word) (a : TextAtom) (from end : ℕ) (place : w.place ≡ from) (
   named-turn Silent (wrong i at) found left = refl
   named-turn Chooses (wrong i at) found left = refl
   named-turn (Atom c standing) (wrong i at) found left = refl
-
--- ---- the functions of one word
-
-module _ (a c : TextAtom) (standing : Standing) {said : Said} (e : said ≡ Atom c standing) {b : Bool} (f : b ≡ in_table standing) where
-  pub named-elsewhere : b ≡ false → false ≡ is_named said a
-  unfolding is_named
-  named-elsewhere g = rw (e, ← f) (sym (b-no _ _ _ g))
-
-  pub named_table : b ≡ true → eqb a.0 c.0 ≡ is_named said a
-  unfolding is_named same_text
-  named_table g = rw (e, ← f) (sym (b-yes _ _ _ g))
-
-module _ (a : TextAtom) {said : Said} where
-  pub named-silent : said ≡ Silent → false ≡ is_named said a
-  unfolding is_named
-  named-silent e = rw e
-
-  pub named-choice : said ≡ Chooses → false ≡ is_named said a
-  unfolding is_named
-  named-choice e = rw e
-
-module _ (named : Bool) (left from end : ℕ) {found : Option (ℕ × ℕ)} where
-  pub found-stays : {i j : ℕ} → found ≡ Some (i, j) → found ≡ found_by found named left from end
-  unfolding found_by
-  found-stays e = rw e
-
-  module _ (e : found ≡ None) where
-    pub found-other : named ≡ false → None ≡ found_by found named left from end
-    unfolding found_by
-    found-other g = rw e (sym (b-no _ _ _ g))
-
-    pub found_passed : named ≡ true → (left ≡ 0 → ⊥) → None ≡ found_by found named left from end
-    unfolding found_by
-    found_passed g h = rw e (sym (b-yes _ _ _ g ∙ eq_no _ _ _ _ h))
-
-    pub found_here : named ≡ true → left ≡ 0 → Some (from, end) ≡ found_by found named left from end
-    unfolding found_by
-    found_here g h = rw e (sym (b-yes _ _ _ g ∙ eq_yes _ _ _ _ h))
-
-module _ (left : ℕ) {named : Bool} where
-  pub left-same : named ≡ false → left ≡ left_by left named
-  unfolding left_by
-  left-same g = sym (b-no _ _ _ g)
-
-  pub left_less : named ≡ true → {n : ℕ} → n ≡ left - 1 → n ≡ left_by left named
-  unfolding left_by
-  left_less g e = e ∙ sym (b-yes _ _ _ g)
 
 -- ---- the search for a name
 

@@ -80,45 +80,44 @@ pub enum Misplaced {
 }
 
 // What is due where so many negatives and positives are left.
+#[tactic(auto, unfolding(crate::specs::Reading::body_of, meaning::specs::Choice::ifb, meaning::specs::Choice::if_eq))]
 fn body(negatives: u32, positives: u32) -> Role
     ensures { result ≡ body_of negatives positives }
 {
-    if negatives == 0 {
-        if positives == 0 {
-            return Role::Kind;
-        }
-        return Role::Positive(positives - 1);
+    match (negatives, positives) {
+        (0, 0) => Role::Kind,
+        (0, _) => Role::Positive(positives - 1),
+        _ => Role::Negative(negatives - 1, positives),
     }
-    Role::Negative(negatives - 1, positives)
 }
 
 // What is due where so many heads of a choice are left.
+#[tactic(auto, unfolding(crate::specs::Reading::heads_of, meaning::specs::Choice::ifb, meaning::specs::Choice::if_eq))]
 fn heads(left: u32) -> Role
     ensures { result ≡ heads_of left }
 {
     if left == 0 {
-        return Role::Literals;
+        Role::Literals
+    } else {
+        Role::Heads(left - 1)
     }
-    Role::Heads(left - 1)
 }
 
 // A rule's type: 0 closes the rules, 1 opens a basic rule, 3 a choice.
+#[tactic(auto, unfolding(crate::specs::Reading::on_kind, meaning::specs::Choice::ifb, meaning::specs::Choice::if_eq))]
 fn on_kind(n: u32) -> Result<(Due, Said), Misplaced>
     ensures { result ≡ on_kind n }
 {
-    if n == 0 {
-        return Ok((Due::Number(Role::Table), Said::Nothing));
+    match n {
+        0 => Ok((Due::Number(Role::Table), Said::Nothing)),
+        1 => Ok((Due::Number(Role::Head), Said::Nothing)),
+        3 => Ok((Due::Number(Role::HeadCount), Said::Choice)),
+        _ => Err(Misplaced::Kind),
     }
-    if n == 1 {
-        return Ok((Due::Number(Role::Head), Said::Nothing));
-    }
-    if n == 3 {
-        return Ok((Due::Number(Role::HeadCount), Said::Choice));
-    }
-    Err(Misplaced::Kind)
 }
 
 // An atom, and so not 0, of a rule.
+#[tactic(auto, unfolding(crate::specs::Reading::on_atom, meaning::specs::Choice::ifb, meaning::specs::Choice::if_eq))]
 fn on_atom(n: u32, next: Role, standing: Standing) -> Result<(Due, Said), Misplaced>
     ensures { result ≡ on_atom n next standing }
 {
@@ -129,6 +128,7 @@ fn on_atom(n: u32, next: Role, standing: Standing) -> Result<(Due, Said), Mispla
 }
 
 // An atom, or the 0 that ends the list.
+#[tactic(auto, unfolding(crate::specs::Reading::on_listed, meaning::specs::Choice::ifb, meaning::specs::Choice::if_eq))]
 fn on_listed(n: u32, end: Due, next: Due, said: Said) -> Result<(Due, Said), Misplaced>
     ensures { result ≡ on_listed n end next said }
 {
@@ -139,6 +139,7 @@ fn on_listed(n: u32, end: Due, next: Due, said: Said) -> Result<(Due, Said), Mis
 }
 
 // The number of a choice's heads, and so not 0. No room is kept for them: they are read one by one.
+#[tactic(auto, unfolding(crate::specs::Reading::on_head_count, meaning::specs::Choice::ifb, meaning::specs::Choice::if_eq))]
 fn on_head_count(n: u32) -> Result<(Due, Said), Misplaced>
     ensures { result ≡ on_head_count n }
 {
@@ -149,6 +150,7 @@ fn on_head_count(n: u32) -> Result<(Due, Said), Misplaced>
 }
 
 // The number of negatives, of so many literals.
+#[tactic(auto, unfolding(crate::specs::Reading::on_negatives, meaning::specs::Choice::ifb, meaning::specs::Choice::if_lt))]
 fn on_negatives(n: u32, literals: u32) -> Result<(Due, Said), Misplaced>
     ensures { result ≡ on_negatives n literals }
 {
@@ -159,6 +161,7 @@ fn on_negatives(n: u32, literals: u32) -> Result<(Due, Said), Misplaced>
 }
 
 // What a number does where it is due.
+#[tactic(auto, unfolding(crate::specs::Reading::on_number))]
 pub fn on_number(role: Role, n: u32) -> Result<(Due, Said), Misplaced>
     ensures { result ≡ on_number role n }
 {

@@ -1,7 +1,6 @@
 // The heads of a text's choices, one by one: whose helper is it?
 ghost use Rattle.std.specs.Prelude.{◌≡◌};
 ghost use Rattle.lparse.specs.FreeHeads.{
-  is_free,
   head_said,
   head_by,
   left_behind,
@@ -12,53 +11,30 @@ use crate::due::{Due, Role, Said, Standing};
 use crate::step::take_word;
 use imported::TextAtom;
 
-// The atom is a head of a choice.
-fn is_free(standing: Standing) -> bool
-    ensures { result ≡ is_free standing }
-{
-    match standing {
-        Standing::Head => false,
-        Standing::Free => true,
-        Standing::Negative => false,
-        Standing::Positive => false,
-        Standing::Table => false,
-        Standing::Plus => false,
-        Standing::Minus => false,
-    }
-}
-
 // The head of a choice that a word says.
+#[tactic(auto, unfolding(crate::specs::FreeHeads::head_said, crate::specs::FreeHeads::is_free, meaning::specs::Choice::ifb))]
 fn head_said(said: Said) -> Option<TextAtom>
     ensures { result ≡ head_said said }
 {
     match said {
-        Said::Nothing => None,
-        Said::Choice => None,
-        Said::Atom(a, standing) => {
-            if is_free(standing) {
-                return Some(a);
-            }
-            None
-        }
+        Said::Atom(a, Standing::Free) => Some(a),
+        _ => None,
     }
 }
 
 // The head found, with the one that a word says, where `left` heads are passed over yet.
+#[tactic(auto, unfolding(crate::specs::FreeHeads::head_by, meaning::specs::Choice::ifb, meaning::specs::Choice::if_eq))]
 fn head_by(found: Option<TextAtom>, here: Option<TextAtom>, left: usize) -> Option<TextAtom>
     ensures { result ≡ head_by found here left }
 {
     match found {
-        Some(_) => found,
-        None => {
-            if left != 0 {
-                return None;
-            }
-            here
-        }
+        None if left == 0 => here,
+        _ => found,
     }
 }
 
 // How many heads are passed over yet behind the word.
+#[tactic(auto, unfolding(crate::specs::FreeHeads::left_behind))]
 fn left_behind(left: usize, here: Option<TextAtom>) -> usize
     ensures { result ≡ left_behind left here }
 {

@@ -3,7 +3,6 @@ ghost use Rattle.std.specs.Prelude.{◌≡◌};
 ghost use Rattle.lparse.specs.Names.{
   whose_of,
   name_of,
-  in_table,
   is_named,
   found_by,
   left_by,
@@ -27,38 +26,19 @@ pub fn atom_at(seen: &[u32], n: usize) -> Option<TextAtom>
     None
 }
 
-// The atom stands in the table.
-fn in_table(standing: Standing) -> bool
-    ensures { result ≡ in_table standing }
-{
-    match standing {
-        Standing::Head => false,
-        Standing::Free => false,
-        Standing::Negative => false,
-        Standing::Positive => false,
-        Standing::Table => true,
-        Standing::Plus => false,
-        Standing::Minus => false,
-    }
-}
-
 // The word is a name of the atom.
+#[tactic(auto, unfolding(crate::specs::Names::is_named, crate::specs::Names::in_table, imported::specs::Text::same_text, meaning::specs::Choice::ifb))]
 fn is_named(said: Said, a: TextAtom) -> bool
     ensures { result ≡ is_named said a }
 {
     match said {
-        Said::Nothing => false,
-        Said::Choice => false,
-        Said::Atom(c, standing) => {
-            if !in_table(standing) {
-                return false;
-            }
-            a.0 == c.0
-        }
+        Said::Atom(c, Standing::Table) => a.0 == c.0,
+        _ => false,
     }
 }
 
 // The name found, with the word from `from` to `end`, where `left` names are passed over yet.
+#[tactic(auto, unfolding(crate::specs::Names::found_by, meaning::specs::Choice::ifb, meaning::specs::Choice::if_eq))]
 fn found_by(
     found: Option<(usize, usize)>,
     named: bool,
@@ -69,20 +49,13 @@ fn found_by(
     ensures { result ≡ found_by found named left from end }
 {
     match found {
-        Some(_) => found,
-        None => {
-            if !named {
-                return None;
-            }
-            if left != 0 {
-                return None;
-            }
-            Some((from, end))
-        }
+        None if named && left == 0 => Some((from, end)),
+        _ => found,
     }
 }
 
 // How many names are passed over yet behind the word.
+#[tactic(auto, unfolding(crate::specs::Names::left_by, meaning::specs::Choice::ifb))]
 fn left_by(left: usize, named: bool) -> usize
     ensures { result ≡ left_by left named }
 {

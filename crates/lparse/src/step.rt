@@ -27,19 +27,15 @@ pub enum Unread {
 }
 
 // The word is B and that sign.
+#[tactic(auto, unfolding(crate::specs::Reading::signed, meaning::specs::Choice::ifb, meaning::specs::Choice::if_eq))]
 fn is_signed(word: &[u8], sign: u8) -> bool
     ensures { result ≡ signed word.now sign }
 {
-    if word.len() != 2 {
-        return false;
-    }
-    if word[0] != b'B' {
-        return false;
-    }
-    word[1] == sign
+    word.len() == 2 && word[0] == b'B' && word[1] == sign
 }
 
 // The word is due as B+ or B-, and this role behind it.
+#[tactic(auto, unfolding(crate::specs::Reading::on_sign, meaning::specs::Choice::ifb))]
 fn on_sign(word: &[u8], sign: u8, next: Role) -> Result<(Due, Said), Misplaced>
     ensures { result ≡ on_sign word.now sign next }
 {
@@ -50,6 +46,7 @@ fn on_sign(word: &[u8], sign: u8, next: Role) -> Result<(Due, Said), Misplaced>
 }
 
 // The word is due as a number.
+#[tactic(auto, unfolding(crate::specs::Reading::on_value))]
 fn on_digits(word: &[u8], role: Role) -> Result<(Due, Said), Misplaced>
     ensures { result ≡ on_digits role word.now }
 {
@@ -60,12 +57,13 @@ fn on_digits(word: &[u8], role: Role) -> Result<(Due, Said), Misplaced>
 }
 
 // What a word does where something is due.
+#[tactic(auto, unfolding(crate::specs::Reading::move_of))]
 fn on_word(word: &[u8], due: Due) -> Result<(Due, Said), Misplaced>
     ensures { result ≡ move_of due word.now }
 {
     match due {
         Due::Number(role) => on_digits(word, role),
-        Due::Name(a) => { Ok((Due::Number(Role::Table), Said::Atom(a, Standing::Table))) }
+        Due::Name(a) => Ok((Due::Number(Role::Table), Said::Atom(a, Standing::Table))),
         Due::PlusWord => on_sign(word, b'+', Role::Plus),
         Due::MinusWord => on_sign(word, b'-', Role::Minus),
         Due::End => Err(Misplaced::Format),
@@ -73,19 +71,18 @@ fn on_word(word: &[u8], due: Due) -> Result<(Due, Said), Misplaced>
 }
 
 // What is found where there is no word: only at the end nothing is missing.
+#[tactic(auto, unfolding(crate::specs::Reading::at_end, crate::specs::Reading::whole, meaning::specs::Choice::ifb))]
 fn at_end(due: Due, length: usize) -> Result<Option<Taken>, Unread>
     ensures { result ≡ at_end due length }
 {
     match due {
         Due::End => Ok(None),
-        Due::Number(_) => Err(Unread::Format(length)),
-        Due::Name(_) => Err(Unread::Format(length)),
-        Due::PlusWord => Err(Unread::Format(length)),
-        Due::MinusWord => Err(Unread::Format(length)),
+        _ => Err(Unread::Format(length)),
     }
 }
 
 // What the move of a word says in all, with the word's first byte and its end.
+#[tactic(auto, unfolding(crate::specs::Reading::step_of))]
 fn stepped(
     m: Result<(Due, Said), Misplaced>,
     from: usize,

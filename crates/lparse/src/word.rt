@@ -11,56 +11,32 @@ pub enum Quote {
 }
 
 // Spaces and line ends part words.
+#[tactic(auto, unfolding(crate::specs::Words::parting, meaning::specs::Choice::ifb, meaning::specs::Choice::if_eq))]
 fn parts(x: u8) -> bool
     ensures { result ≡ parting x }
 {
-    if x == b'\n' {
-        return true;
-    }
-    if x == b' ' {
-        return true;
-    }
-    false
+    x == b'\n' || x == b' '
 }
 
 // The byte does not belong to the word any more: a line end, or a space outside quotes.
+#[tactic(auto, unfolding(crate::specs::Words::ends, crate::specs::Words::outside, meaning::specs::Choice::ifb, meaning::specs::Choice::if_eq))]
 fn ends_word(q: Quote, x: u8) -> bool
     ensures { result ≡ ends q x }
 {
-    if x == b'\n' {
-        return true;
-    }
-    if x != b' ' {
-        return false;
-    }
-    match q {
-        Quote::Outside => true,
-        Quote::Inside => false,
-        Quote::Behind => false,
-    }
+    x == b'\n' || x == b' ' && matches!(q, Quote::Outside)
 }
 
 // What the byte, which belongs to the word, leaves behind.
+#[tactic(auto, unfolding(crate::specs::Words::turned, meaning::specs::Choice::ifb, meaning::specs::Choice::if_eq))]
 fn turn(q: Quote, x: u8) -> Quote
     ensures { result ≡ turned q x }
 {
-    match q {
-        Quote::Outside => {
-            if x == b'"' {
-                return Quote::Inside;
-            }
-            Quote::Outside
-        }
-        Quote::Inside => {
-            if x == b'"' {
-                return Quote::Outside;
-            }
-            if x == b'\\' {
-                return Quote::Behind;
-            }
-            Quote::Inside
-        }
-        Quote::Behind => Quote::Inside,
+    match (q, x) {
+        (Quote::Outside, b'"') => Quote::Inside,
+        (Quote::Inside, b'"') => Quote::Outside,
+        (Quote::Inside, b'\\') => Quote::Behind,
+        (Quote::Behind, _) => Quote::Inside,
+        _ => q,
     }
 }
 

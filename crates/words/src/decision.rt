@@ -26,6 +26,7 @@ pub enum Misplaced {
 }
 
 // The atom stands in the rule, if there is room for it.
+#[tactic(auto, unfolding(crate::specs::Reading::stands, meaning::specs::Choice::ifb))]
 fn stand(
     rule: Open,
     standing: Standing,
@@ -43,6 +44,7 @@ fn stand(
 }
 
 // A name in a rule: `a` is its number among so many names, or how many there are.
+#[tactic(auto, unfolding(crate::specs::Reading::named, meaning::specs::Choice::ifb, meaning::specs::Choice::if_lt))]
 fn name_atom(
     rule: Open,
     standing: Standing,
@@ -68,6 +70,7 @@ fn name_atom(
 }
 
 // A name in an `atoms:` line.
+#[tactic(auto, unfolding(crate::specs::Reading::noted, meaning::specs::Choice::ifb, meaning::specs::Choice::if_lt))]
 fn list_name(due: Due, count: usize, a: usize) -> Result<(Due, Act), Misplaced>
     ensures { result ≡ noted due count a }
 {
@@ -81,6 +84,7 @@ fn list_name(due: Due, count: usize, a: usize) -> Result<(Due, Act), Misplaced>
 }
 
 // `atoms:` stands before the first rule.
+#[tactic(auto, unfolding(crate::specs::Reading::begun, meaning::specs::Choice::ifb, meaning::specs::Choice::if_eq))]
 fn begin_list(due: Due, rules: usize) -> Result<(Due, Act), Misplaced>
     ensures { result ≡ begun due rules }
 {
@@ -90,6 +94,7 @@ fn begin_list(due: Due, rules: usize) -> Result<(Due, Act), Misplaced>
     Err(Misplaced::Form)
 }
 
+#[tactic(auto, unfolding(crate::specs::Reading::on_said))]
 fn on_said(
     said: Said,
     due: Due,
@@ -111,6 +116,7 @@ fn on_said(
 }
 
 // What is due behind the word, and what is done with it.
+#[tactic(auto, unfolding(crate::specs::Reading::decided))]
 pub fn decide(
     m: Option<(Due, Said)>,
     rule: Open,

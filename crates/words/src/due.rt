@@ -88,6 +88,7 @@ fn on_unless(due: Due) -> Option<(Due, Said)>
     only_at(due, Due::AfterAtom, Due::Exception, Said::Nothing)
 }
 
+#[tactic(auto, unfolding(crate::specs::Moves::on_name))]
 fn on_name(due: Due) -> Option<(Due, Said)>
     ensures { result ≡ on_name due }
 {
@@ -95,17 +96,16 @@ fn on_name(due: Due) -> Option<(Due, Said)>
         Due::Line => Some((Due::AfterHead, Said::Atom(Standing::Head))),
         Due::Remark => Some((Due::Remark, Said::Nothing)),
         Due::Listing => Some((Due::Listing, Said::Listed)),
-        Due::AfterHead => None,
         Due::Literal => Some((Due::AfterAtom, Said::Atom(Standing::Positive))),
         Due::Negative => Some((Due::AfterAtom, Said::Atom(Standing::Negative))),
-        Due::AfterAtom => None,
         Due::Exception => Some((Due::AfterException, Said::Atom(Standing::Negative))),
-        Due::AfterException => None,
+        Due::AfterHead | Due::AfterAtom | Due::AfterException => None,
     }
 }
 
 // What is due behind a word of that kind and what it says, where this is due; none where it cannot
 // stand.
+#[tactic(auto, unfolding(crate::specs::Moves::move_of))]
 pub fn move_of(due: Due, term: Term) -> Option<(Due, Said)>
     ensures { result ≡ move_of due term }
 {
@@ -123,18 +123,13 @@ pub fn move_of(due: Due, term: Term) -> Option<(Due, Said)>
 }
 
 // What the end of a line ends where this is due.
+#[tactic(auto, unfolding(crate::specs::Moves::ended_of))]
 pub fn end_line(due: Due) -> Ended
     ensures { result ≡ ended_of due }
 {
     match due {
-        Due::Line => Ended::Nothing,
-        Due::Remark => Ended::Nothing,
-        Due::Listing => Ended::Nothing,
-        Due::AfterHead => Ended::Rule,
-        Due::Literal => Ended::Missing,
-        Due::Negative => Ended::Missing,
-        Due::AfterAtom => Ended::Rule,
-        Due::Exception => Ended::Missing,
-        Due::AfterException => Ended::Rule,
+        Due::Line | Due::Remark | Due::Listing => Ended::Nothing,
+        Due::AfterHead | Due::AfterAtom | Due::AfterException => Ended::Rule,
+        Due::Literal | Due::Negative | Due::Exception => Ended::Missing,
     }
 }

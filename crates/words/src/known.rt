@@ -14,16 +14,11 @@ pub struct Known {
 }
 
 // The word stands in the text from one place to the other, if these are places of it.
+#[tactic(auto, unfolding(crate::specs::Names::is_between, meaning::specs::Choice::ifb, meaning::specs::Choice::if_lt))]
 fn stands_between<'a>(text: &'a [u8], from: usize, to: usize, word: &'a [u8]) -> bool
     ensures { result ≡ is_between text.now from to word.now }
 {
-    if text.len() < to {
-        return false;
-    }
-    if to < from {
-        return false;
-    }
-    is_same(&text[from..to], word)
+    from <= to && to <= text.len() && is_same(&text[from..to], word)
 }
 
 // The first of the first n places at which the word stands in the text; n where there is none.
@@ -46,16 +41,6 @@ pub fn number_of<'a>(
     n
 }
 
-// The places with one more behind them.
-fn stored(places: [usize; 255], n: usize, place: usize) -> [usize; 255]
-    requires { n < 255 }
-    ensures { result ≡ set places n place }
-{
-    let mut more = places;
-    more[n] = place;
-    more
-}
-
 // One name more.
 pub fn note(names: Known, from: usize, to: usize) -> Known
     requires { names.count < 255 }
@@ -65,14 +50,11 @@ pub fn note(names: Known, from: usize, to: usize) -> Known
       to = set names.to names.count to;
     } }
 {
-    let n = names.count;
-    let starts = names.from;
-    let ends = names.to;
-    Known {
-        count: n + 1,
-        from: stored(starts, n, from),
-        to: stored(ends, n, to),
-    }
+    let mut more = names;
+    more.from[names.count] = from;
+    more.to[names.count] = to;
+    more.count += 1;
+    more
 }
 
 // Whose name the word is, by the places that making the book gave for so many atoms.

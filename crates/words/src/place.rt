@@ -2,33 +2,27 @@
 ghost use Rattle.std.specs.Prelude.{◌≡◌};
 ghost use Rattle.words.specs.Lines.{one_more, line_behind, column_behind, line_in, column_in};
 
+#[tactic(auto, unfolding(crate::specs::Lines::one_more, meaning::specs::Choice::ifb, meaning::specs::Choice::if_lt))]
 fn one_more(n: usize) -> usize
     ensures { result ≡ one_more n }
 {
-    if n < 18446744073709551615 {
-        return n + 1;
-    }
-    n
+    n.saturating_add(1)
 }
 
 // The line behind the byte, on line n.
+#[tactic(auto, unfolding(crate::specs::Lines::line_behind, meaning::specs::Choice::ifb, meaning::specs::Choice::if_eq))]
 fn line_behind(n: usize, x: u8) -> usize
     ensures { result ≡ line_behind n x }
 {
-    if x == b'\n' {
-        return one_more(n);
-    }
-    n
+    if x == b'\n' { one_more(n) } else { n }
 }
 
 // The column behind the byte, in column n.
+#[tactic(auto, unfolding(crate::specs::Lines::column_behind, meaning::specs::Choice::ifb, meaning::specs::Choice::if_eq))]
 fn column_behind(n: usize, x: u8) -> usize
     ensures { result ≡ column_behind n x }
 {
-    if x == b'\n' {
-        return 1;
-    }
-    one_more(n)
+    if x == b'\n' { 1 } else { one_more(n) }
 }
 
 // The line of a place, counted from 1.

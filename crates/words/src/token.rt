@@ -13,26 +13,19 @@ pub enum Token {
 }
 
 // Spaces, tabs and the byte that some editors write before a line's end part words.
+#[tactic(auto, unfolding(crate::specs::Words::blank, meaning::specs::Choice::if_eq, meaning::specs::Choice::ifb))]
 fn is_blank(x: u8) -> bool
     ensures { result ≡ blank x }
 {
-    if x == b' ' {
-        return true;
-    }
-    if x == b'\t' {
-        return true;
-    }
-    x == b'\r'
+    matches!(x, b' ' | b'\t' | b'\r')
 }
 
 // The byte does not belong to a word.
+#[tactic(auto, unfolding(crate::specs::Words::parting, meaning::specs::Choice::ifb))]
 fn is_parting(x: u8) -> bool
     ensures { result ≡ parting x }
 {
-    if is_blank(x) {
-        return true;
-    }
-    x == b'\n'
+    is_blank(x) || x == b'\n'
 }
 
 // Where the next word or line's end is, from `at` on; the length where there is none.
