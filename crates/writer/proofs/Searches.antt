@@ -2,20 +2,19 @@
 -- whether one rule is: for 41 and 42 it is, if it passes a test and isn't in an array yet.
 use mathlib.Core.Path.{◌≡◌, refl, sym, ◌∙◌, ap}
 use mathlib.Core.Logic.{⊎_elim}
-use mathlib.Core.Bool.{Bool, true, false, not, ◌&&◌}
+use mathlib.Core.Bool.{Bool, true, false, not}
 use mathlib.Core.List.{List}
 use Prim.Native.Nat.{ℕ, ◌+◌, ◌≤◌, ◌<◌}
 use native.Mathlib.Nat.{eq-or-lt_of_le}
 use native.Mathlib.Omega.{arith}
 use Rattle.meaning.specs.declared.RuleNo.{RuleNo}
-use Rattle.meaning.specs.Sets.{◌∉◌, every, some}
-use Rattle.meaning.specs.Books.{Rules, rule_no, Book, count, rule}
+use Rattle.meaning.specs.Sets.{◌∉◌}
+use Rattle.meaning.specs.Books.{Rules, rule_no, Book, count}
 use Rattle.meaning.specs.Lowest.{lowest, none, one}
 use Rattle.meaning.specs.Written.{of}
 use Rattle.meaning.specs.Engine.{less}
 use Rattle.meaning.proofs.Tests.{both, not_first, not-second}
 use Rattle.meaning.proofs.Lowest.{none-lowest, one-lowest}
-use Rattle.book.specs.Tables.{atoms_in}
 use Rattle.writer.specs.Steps.{new_on, new_off, may_by, new_by}
 use Rattle.meaning.specs.Colours.{Side, on_side, off_side}
 

@@ -11,8 +11,7 @@ use crate::list::drop_rules;
 use crate::step::{Step, Tip, next_step};
 use book::ReadBook;
 use meaning::{
-    Claim, Colouring, PAPER_BYTES, STEP_END, STEP_OFF, STEP_ON, STEP_SPLIT, STEP_UNFOUNDED,
-    put,
+    Claim, Colouring, PAPER_BYTES, STEP_END, STEP_OFF, STEP_ON, STEP_SPLIT, STEP_UNFOUNDED, put,
 };
 
 // What a branch ends by, with the colouring there and the draft's length behind it.
@@ -62,7 +61,13 @@ pub fn write_branch(
             Step::Unfounded(m) => {
                 let coded = write(draft, n, STEP_UNFOUNDED);
                 let counted = write(draft, coded, m);
-                n = drop_rules(book.shape.rules, &dropped, &mut colours.off.w, draft, counted);
+                n = drop_rules(
+                    book.shape.rules,
+                    &dropped,
+                    &mut colours.off.w,
+                    draft,
+                    counted,
+                );
             }
             Step::Stops(tip) => {
                 return Written {

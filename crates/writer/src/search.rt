@@ -1,6 +1,6 @@
 // The lowest rule that a step is written for. Tables of atoms are made for the step, so that a
 // search asks of an atom in one step.
-ghost use Rattle.std.specs.Prelude.{◌≡◌};
+ghost use Rattle.std.specs.Prelude.{◌≡◌, ◌<◌};
 ghost use Rattle.meaning.specs.Bits.{listed};
 ghost use Rattle.meaning.specs.Colours.{side_of};
 ghost use Rattle.meaning.specs.Lowest.{lowest};

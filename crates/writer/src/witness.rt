@@ -40,17 +40,11 @@ fn may_list(
         (generating (the_book book.now) (set_in row.now))
         (listed taken.now) r }
 {
-    !has(taken, r.0)
-        && generates(book, r, row)
-        && every_in(book.positives(r), headed)
+    !has(taken, r.0) && generates(book, r, row) && every_in(book.positives(r), headed)
 }
 
 // The lowest rule that may be listed next.
-fn next_listed(
-    book: &ReadBook,
-    row: &[u8; Colouring::ATOMS],
-    taken: &[u64; 4],
-) -> Option<RuleNo>
+fn next_listed(book: &ReadBook, row: &[u8; Colouring::ATOMS], taken: &[u64; 4]) -> Option<RuleNo>
     ensures { picked result ≡ lowest (the_book book.now)
         (may_list (the_book book.now)
         (generating (the_book book.now) (set_in row.now))
