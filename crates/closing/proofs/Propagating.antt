@@ -1,5 +1,5 @@
--- Propagation by what is new, as the loop of `propagate_from` goes through it (src/propagation.rt): the start, the two steps, the measure
--- and the end. What is reached lies within every propagated pair above the start, and what is pending is in the three sets.
+-- Propagation by what is new, as the loop of `propagate_from` goes through it (src/propagation.rt): the two steps, the measure and the
+-- end. What is reached lies within every propagated pair above the start, and what is pending is in the three sets.
 use mathlib.Core.Path.{◌≡◌, refl, sym, ap, subst, ◌∙◌}
 use mathlib.Core.Logic.{⊎_elim}
 use mathlib.Core.Bool.{Bool, true, false, ◌||◌, or-false}
@@ -22,7 +22,6 @@ use Rattle.meaning.proofs.Rules.{within_both}
 use Rattle.meaning.proofs.Written.{Sized, sized_on, sized-off}
 use Rattle.meaning.proofs.Four.{members-small}
 use Rattle.meaning.proofs.Listed.{listed-long}
-use Rattle.meaning.proofs.Propagation.{forced-start}
 use Rattle.meaning.proofs.Propagate.{propagation-computed}
 use Rattle.meaning.proofs.Pending.{pending-drop, forced-drop, pending-propagation}
 use Rattle.meaning.proofs.Remaining.{remaining, remaining-more, remaining-on, remaining-drop}
@@ -33,11 +32,6 @@ pub record Propagating (b : Book) (start c : Pair) (nt nl : Atoms) (cand : Rules
   pub pending : Pending b c nt nl cand
   pub on-outside : (r : RuleNo) → count b ≤ r.0 → c.on r ≡ start.on r
   pub off-outside : (r : RuleNo) → count b ≤ r.0 → c.off r ≡ start.off r
-
--- ---- the start, with what is handed in
-
-pub propagating-start : (b : Book) (c : Pair) {nt nl : Atoms} {cand : Rules} → Pending b c nt nl cand → Propagating b c c nt nl cand
-propagating-start b c p = record { forced = forced-start b c; pending = p; on-outside = λ r l. refl; off-outside = λ r l. refl }
 
 -- ---- step 1
 

@@ -22,7 +22,7 @@ use Rattle.meaning.specs.Buffers.{write_at}
 use Rattle.meaning.specs.Written.{of, nothing}
 use Rattle.meaning.specs.Computed.{close}
 use Rattle.meaning.proofs.Choice.{lt_yes, lt_no}
-use Rattle.meaning.proofs.Buffers.{write-length, write-turn, write_done, write-next, write-front}
+use Rattle.meaning.proofs.Buffers.{write-turn, write_done, write-next, write-front}
 use Rattle.book.specs.declared.refusal.Refusal.{Refusal}
 use Rattle.book.specs.declared.reader.Shape.{Shape}
 use Rattle.book.specs.Numbers.{number_of, place_of, told as book_told}
@@ -70,12 +70,6 @@ module _ (holds fails : List Bool) (n at : ℕ) (out : List ℕ) where
   pub settled-written : {i : ℕ} {w : List ℕ} → i ≤ n → n ≤ i → w ≡ paste out at (settled_row n holds fails) i
       → w ≡ write_at at (settled_row n holds fails) out
   settled-written h k e = write_done at (settled_row n holds fails) out (le_antisymm h k ∙ sym (settled-length 0 n _ _)) e
-
--- the buffer keeps its length
-pub settled-kept : (n : ℕ) (holds fails : List Bool) (out u : List ℕ) → n ≤ length out → u ≡ write_at 0 (settled_row n holds fails) out
-    → length u ≡ length out
-settled-kept n holds fails out u h e =
-    ap length e ∙ write-length 0 (settled_row n holds fails) out (omega (arith, settled-length 0 n (λ j. get_or holds j false) (λ j. get_or fails j false)))
 
 -- ---- both rows
 

@@ -13,38 +13,22 @@ use Rattle.book.specs.Format.{book_in}
 use Rattle.book.proofs.Places.{shape-count}
 use Rattle.closing.proofs.Good.{good-book, good-few}
 use Rattle.closing.proofs.Propagating.{sized-coloured}
-use Rattle.closing.proofs.Closed.{closes-start, propagated-to, closes-propagated, propagated-no-more, dropped-above}
+use Rattle.closing.proofs.Closed.{propagated-to, closes-propagated, propagated-no-more}
 use Rattle.closing.proofs.Closed.{closes-dropped, dropped-settled, dropped-less, propagated-off, closed-to}
 use Rattle.closing.proofs.Leaving.{ends-left, ends-closed}
 use Rattle.closing.proofs.close_propagated.Goals as goal
 
 -- ---- the needs
-pub loop-old-init : goal.loop-old-init
-loop-old-init c = (closes-start _ _, c.requires.0, c.requires.1, c.requires.2)
-
 -- the closing is left at the start of a turn
 pub returns-then-is_left : goal.returns-then-is_left
 returns-then-is_left c =
     ends-left _ (shape-count _ _ c.args.rowed.now.book.read_as) (listed c.loop-old.on) (listed c.loop-old.off) c.loop-old.invariant.0 c.is_left.ensures c.if-is_left.true
-
-pub drop_suspects-requires : goal.drop_suspects-requires
-drop_suspects-requires c =
-    (c.loop-old.invariant.2, c.loop-old.invariant.3)
 
 pub returns-then-not-drop_suspects : goal.returns-then-not-drop_suspects
 returns-then-not-drop_suspects c =
     let l = c.loop-old in
     ends-closed (closed-to _ (good-few (good-book c.args.rowed.now.book)) (lent (listed c.args.on.now) (listed c.args.off.now)) l.on l.off c.drop_suspects.new.off
     l.invariant.0 l.invariant.1 c.drop_suspects.ensures.0 c.if-not-drop_suspects.true)
-
-pub propagate_dropped-requires : goal.propagate_dropped-requires
-propagate_dropped-requires c =
-    let l = c.loop-old in
-    let off = c.drop_suspects.new.off in
-    let above = dropped-above _ (good-few (good-book c.args.rowed.now.book)) (of (listed l.off)) (of (listed off)) c.drop_suspects.ensures.0.gone in (
-      l.invariant.1,
-      above,
-    )
 
 pub loop-old-smaller : goal.loop-old-smaller
 loop-old-smaller c =

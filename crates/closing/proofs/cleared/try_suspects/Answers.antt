@@ -5,7 +5,6 @@ use Rattle.meaning.specs.Books.{count, rule_no}
 use Rattle.meaning.specs.Bits.{listed}
 use Rattle.meaning.specs.Written.{of}
 use Rattle.meaning.proofs.Four.{members-nothing}
-use Rattle.meaning.proofs.Next.{next-further}
 use Rattle.book.specs.Format.{book_in}
 use Rattle.closing.proofs.Good.{good-book, good-count, good-in}
 use Rattle.closing.proofs.Falling.{at-rule}
@@ -16,9 +15,6 @@ use Rattle.closing.proofs.cleared.try_suspects.Goals as goal
 pub loop-r-init : goal.loop-r-init
 loop-r-init c =
     ((0, c.next_in-r.ensures), swept-start _ _ _ c.args.cand.now _ c.next_in-r.ensures _ (at-rule (replicate 4 0) members-nothing))
-
-pub loop-r-smaller : goal.loop-r-smaller
-loop-r-smaller c = let g = good-book c.args.rowed.now.book in omega (arith, next-further _ _ _ c.next_in-r-in-loop-r.ensures (omega (arith, g.rules)))
 
 pub loop-r-preserved : goal.loop-r-preserved
 loop-r-preserved c =

@@ -1,22 +1,10 @@
 -- What a good book settles: no room, or the rules' row and behind it the atoms' row, by the tables of the first closing.
-use native.Mathlib.Omega.{arith}
-use Rattle.meaning.specs.Bits.{listed}
-use Rattle.closing.proofs.Settling.{settled-kept, settle-no-room, settle-told}
+use Rattle.closing.proofs.Settling.{settle-no-room, settle-told}
 use Rattle.closing.proofs.first.settle_in.Goals as goal
 
--- ---- the needs
 pub returns-then-out-rules : goal.returns-then-out-rules
 returns-then-out-rules c =
     settle-no-room _ _ c.args.book.read_as _ c.if-out-rules.true
-
-pub write_settled-requires : goal.write_settled-requires
-write_settled-requires c = omega (arith, c.if-out-rules.false)
-
-pub write_settled-requires-2 : goal.write_settled-requires-2
-write_settled-requires-2 c =
-    let room = c.if-out-rules.false in
-    let d = c.close-closed.result.colours in
-    omega (arith, room, settled-kept c.args.book.shape.rules (listed d.on.w) (listed d.off.w) c.args.out.now _ (omega (arith, room)) c.write_settled.ensures)
 
 pub returns : goal.returns
 returns c =

@@ -3,20 +3,12 @@ use mathlib.Core.Path.{◌∙◌}
 use Prim.Native.Nat.{◌<◌}
 use native.Mathlib.Omega.{arith}
 use lib.ListN.{length-set}
-use Rattle.meaning.proofs.Next.{next-further}
 use Rattle.closing.proofs.Stamping.{stamp-start, stamp-turn, stamp-end}
 use Rattle.closing.proofs.levels.stamp.Goals as goal
 
 pub loop-r-init : goal.loop-r-init
 loop-r-init c =
     ((0, c.next_in-r.ensures), c.requires, stamp-start c.args.rules c.args.level c.args.new.now c.args.levels.now _ c.next_in-r.ensures)
-
--- a turn of the loop: the rule is one of the first, and has a level
-pub bounds-levels-r : goal.bounds-levels-r
-bounds-levels-r c = omega (arith, c.ranges.rules.fits)
-
-pub loop-r-smaller : goal.loop-r-smaller
-loop-r-smaller c = omega (arith, next-further _ _ _ c.next_in-r-in-loop-r.ensures (omega (arith, c.ranges.rules.fits)), c.ranges.rules.fits)
 
 pub loop-r-preserved : goal.loop-r-preserved
 loop-r-preserved c =

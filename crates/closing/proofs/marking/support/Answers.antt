@@ -12,9 +12,6 @@ use Rattle.closing.proofs.marking.support.Goals as goal
 pub loop-supported-init : goal.loop-supported-init
 loop-supported-init c = let e = listed-empty (replicate {A = ℕ} 4 0) members-nothing in (grown-none _ _ e, headed-none _ _ e)
 
-pub sweep-requires : goal.sweep-requires
-sweep-requires c = c.loop-supported.invariant.1
-
 pub returns-then-not-sweep : goal.returns-then-not-sweep
 returns-then-not-sweep c =
     let g = good-book c.args.book.now in

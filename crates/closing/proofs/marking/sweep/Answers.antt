@@ -2,12 +2,9 @@
 use native.Mathlib.Omega.{arith}
 use Rattle.meaning.proofs.Listed.{listed-long}
 use Rattle.book.proofs.Places.{shape-count}
-use Rattle.closing.proofs.Growing.{pass-start, pass-turn, pass-end}
+use Rattle.closing.proofs.Growing.{pass-turn, pass-end}
 use Rattle.closing.proofs.Turns.{marking-mono}
 use Rattle.closing.proofs.marking.sweep.Goals as goal
-
-pub loop-r-init : goal.loop-r-init
-loop-r-init c = (pass-start _, c.requires)
 
 pub loop-r-preserved : goal.loop-r-preserved
 loop-r-preserved c =

@@ -4,7 +4,6 @@ use Rattle.meaning.specs.Books.{rule_no}
 use Rattle.meaning.specs.Bits.{listed}
 use Rattle.meaning.specs.Written.{of}
 use Rattle.meaning.specs.Colours.{all_in}
-use Rattle.meaning.proofs.Next.{next-further}
 use Rattle.book.specs.Format.{book_in}
 use Rattle.closing.proofs.Good.{good-book, good-count, good-in}
 use Rattle.closing.proofs.Noting.{no-atoms, heads-start, heads-turn, heads-end}
@@ -14,9 +13,6 @@ pub loop-r-init : goal.loop-r-init
 loop-r-init c =
     let s = c.args in
     ((0, c.next_in-r.ensures), heads-start _ (all_in (book_in s.rowed.now.book.bytes.now) (of (listed s.off.now))) s.fresh.now _ c.next_in-r.ensures no-atoms)
-
-pub loop-r-smaller : goal.loop-r-smaller
-loop-r-smaller c = let g = good-book c.args.rowed.now.book in omega (arith, next-further _ _ _ c.next_in-r-in-loop-r.ensures (omega (arith, g.rules)))
 
 pub loop-r-preserved : goal.loop-r-preserved
 loop-r-preserved c =

@@ -7,7 +7,7 @@ use Rattle.book.specs.Format.{book_in}
 use Rattle.closing.specs.News.{atom_set}
 use Rattle.closing.proofs.Good.{good-book, good-few}
 use Rattle.closing.proofs.Falling.{at-rule, hit-inside}
-use Rattle.closing.proofs.Propagating.{Propagating, propagating-start, propagating-fall, fall-no-more, fall-less, propagating-rise}
+use Rattle.closing.proofs.Propagating.{Propagating, propagating-fall, fall-no-more, fall-less, propagating-rise}
 use Rattle.closing.proofs.Propagating.{rise-less, none_in, one_in, propagating-end}
 use Rattle.closing.proofs.propagation.propagate_from.Goals as goal
 use Rattle.closing.proofs.propagation.propagate_from.Goals.{After-fall}
@@ -18,9 +18,6 @@ fell : (f : After-fall) → Propagating (book_in f.args.rowed.now.book.bytes.now
 fell f = propagating-fall _ _ (of (listed f.loop-off.on)) _ _ _ _ _ _ _ _ f.fall.ensures (hit-inside _ _ _) f.loop-off.invariant
 
 -- ---- the needs
-pub loop-off-init : goal.loop-off-init
-loop-off-init c = propagating-start _ _ c.requires
-
 pub returns-then-is_within-2 : goal.returns-then-is_within-2
 returns-then-is_within-2 c =
     let at = goal.at.returns-then-is_within-2 c in

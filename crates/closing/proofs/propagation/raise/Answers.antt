@@ -5,7 +5,6 @@ use Rattle.meaning.specs.Books.{rule_no}
 use Rattle.meaning.specs.Bits.{listed}
 use Rattle.meaning.specs.Written.{of}
 use Rattle.meaning.proofs.Four.{members-nothing}
-use Rattle.meaning.proofs.Next.{next-further}
 use Rattle.closing.specs.News.{atom_set}
 use Rattle.closing.proofs.Good.{good-book, good-count, good-in}
 use Rattle.closing.proofs.Raising.{less-listed, onward-start, onward-turn, onward-end, raised-off}
@@ -14,9 +13,6 @@ use Rattle.closing.proofs.propagation.raise.Goals as goal
 pub loop-r-init : goal.loop-r-init
 loop-r-init c =
     ((0, c.next_in-r.ensures), onward-start _ (of (listed c.args.off.now)) (of (listed c.args.on.now)) (atom_set c.args.nt.now) _ _ c.next_in-r.ensures)
-
-pub loop-r-smaller : goal.loop-r-smaller
-loop-r-smaller c = let g = good-book c.args.rowed.now.book in omega (arith, next-further _ _ _ c.next_in-r-in-loop-r.ensures (omega (arith, g.rules)))
 
 pub loop-r-preserved : goal.loop-r-preserved
 loop-r-preserved c =

@@ -5,7 +5,6 @@ use Rattle.meaning.specs.Books.{rule_no}
 use Rattle.meaning.specs.Bits.{listed}
 use Rattle.meaning.specs.Written.{of}
 use Rattle.meaning.specs.Suspects.{sure, doubted}
-use Rattle.meaning.proofs.Next.{next-further}
 use Rattle.book.specs.Format.{book_in}
 use Rattle.closing.proofs.Good.{good-book, good-count, good-in}
 use Rattle.closing.proofs.Noting.{no-atoms, heads-start, heads-turn, heads-end}
@@ -15,9 +14,6 @@ pub loop-r-init : goal.loop-r-init
 loop-r-init c =
     let s = c.args in
     ((0, c.next_in-r.ensures), heads-start _ (λ a. not (sure (book_in s.rowed.now.book.bytes.now) (of (listed s.off.now)) a)) s.fresh.now _ c.next_in-r.ensures no-atoms)
-
-pub loop-r-smaller : goal.loop-r-smaller
-loop-r-smaller c = let g = good-book c.args.rowed.now.book in omega (arith, next-further _ _ _ c.next_in-r-in-loop-r.ensures (omega (arith, g.rules)))
 
 pub loop-r-preserved : goal.loop-r-preserved
 loop-r-preserved c =

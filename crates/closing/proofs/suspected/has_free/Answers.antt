@@ -1,7 +1,6 @@
 -- No member of the set below the one at which the search stands is free.
 use native.Mathlib.Omega.{arith}
 use Rattle.meaning.specs.Books.{rule_no}
-use Rattle.meaning.proofs.Next.{next-further}
 use Rattle.book.specs.Format.{book_in}
 use Rattle.closing.proofs.Good.{good-book, good-count, good-in}
 use Rattle.closing.proofs.Suspecting.{free-yes, free-no, free-start, free-turn, free-none, free_one}
@@ -17,9 +16,6 @@ returns-then-positives-eq0 c =
     let (from, n) = c.loop-r.invariant.0 in
     free_one (book_in c.args.book.now.bytes.now) c.args.set.now from c.loop-r.r n (good-in g (rule_no c.loop-r.r) (omega arith)) (omega (arith, g.rules))
     (free-yes _ _ c.positives.ensures c.if-positives-eq0.true)
-
-pub loop-r-smaller : goal.loop-r-smaller
-loop-r-smaller c = let g = good-book c.args.book.now in omega (arith, next-further _ _ _ c.next_in-r-in-loop-r.ensures (omega (arith, g.rules)))
 
 pub loop-r-preserved : goal.loop-r-preserved
 loop-r-preserved c = (

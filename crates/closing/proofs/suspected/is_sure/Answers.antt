@@ -1,15 +1,9 @@
 -- The live rules of the atom's row are asked for a free one.
-use Prim.Native.Nat.{◌<◌}
 use borrow.Author.Rules.{rules}
 use Rattle.closing.proofs.Suspecting.{sure-asked}
 use Rattle.closing.proofs.suspected.is_sure.Goals as goal
-use Rattle.closing.proofs.suspected.is_sure.Goals.{Start}
-
--- an atom's number is a byte
-low : (s : Start) → s.args.a.0 < 256
-low s = search rules
 
 pub returns : goal.returns
 returns c =
-    sure-asked _ c.args.rowed.now.rows c.args.rowed.now.rowed c.args.a (low (goal.at.returns c).Start) c.args.off.now c.difference-live.result.w c.head_row.result.w c.whole.result.w
+    sure-asked _ c.args.rowed.now.rows c.args.rowed.now.rowed c.args.a (search rules) c.args.off.now c.difference-live.result.w c.head_row.result.w c.whole.result.w
     c.difference-live.ensures c.head_row.ensures c.whole.ensures c.has_free.ensures
