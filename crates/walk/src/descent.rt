@@ -11,7 +11,7 @@ ghost use Rattle.walk.specs.Page.{set_in};
 ghost use Rattle.walk.specs.Levels.{choice_of, down, levels_in, levels_of};
 
 use crate::colours::lowest_uncoloured;
-use crate::kth::{Unfound, kth_by, tell};
+use crate::kth::{Unfound, kth, tell};
 use crate::resume::generates;
 use crate::tally::Halt;
 use book::{ReadBook, RowedBook};
@@ -74,7 +74,7 @@ fn levels_in(book: ReadBook, k: u32, limit: u32, out: &mut [u8]) -> Result<u32, 
     }
     let rowed = RowedBook::of(book);
     let mut row = [0u8; Colouring::ATOMS];
-    let t = kth_by(&rowed, k, limit, &mut row);
+    let t = kth(&rowed, k, limit, &mut row);
     let Halt::Full = t.halt else {
         return tell(t, limit);
     };

@@ -4,13 +4,15 @@ ghost use Rattle.meaning.specs.Told.{Answered};
 ghost use Rattle.meaning.specs.Written.{nothing};
 ghost use Rattle.book.specs.ReadBook.{the_book};
 ghost use Rattle.walk.specs.Events.{events};
+ghost use Rattle.walk.specs.FirstAlike.{counts, counted_by};
+ghost use Rattle.walk.specs.Search.{shown_in};
 ghost use Rattle.walk.specs.Run.{State, run};
 ghost use Rattle.walk.specs.declared.kth.Unfound.TheVariants.{Book};
 ghost use Rattle.walk.specs.Find.{told, told_by, start_of, find_of};
 
 use crate::origin::tell_clash;
 use crate::tally::{Halt, Tally};
-use crate::walk::walk;
+use crate::walk::walk_shown;
 use crate::wanted::Wanted;
 use book::{ReadBook, Refusal, RowedBook};
 use closing::Choice;
@@ -42,12 +44,23 @@ impl From<Refusal> for Unfound {
     }
 }
 
-// Walks to the k-th reading of a good book and writes it, by the rows that are lent.
-pub fn kth_by(rowed: &RowedBook, k: u32, limit: u32, answer: &mut [u8]) -> Tally
+// Walks to the k-th of the readings that count and writes it: every reading counts, or those that no
+// earlier one matches on the mask. The memory holds nothing yet. At the end the rule is told.
+pub fn walk_to(
+    rowed: &RowedBook,
+    every: bool,
+    mask: &[u64; 4],
+    k: u32,
+    limit: u32,
+    seen: &mut [u64],
+    answer: &mut [u8],
+) -> Tally
     requires { (0 < k) × (rowed.now.book.shape.atoms ≤ length answer.old) }
     ensures { ◌≡◌ {A = State} (record { tally = result; out = answer.new })
         (run (the_book rowed.now.book) (record { pass = k - 1; room = 1; limit = limit })
-        (start_of answer.old) (events (the_book rowed.now.book) nothing)) }
+        (start_of answer.old) (counted_by (the_book rowed.now.book)
+        (counts every (the_book rowed.now.book) (shown_in mask.now))
+        (events (the_book rowed.now.book) nothing))) }
 {
     let wanted = Wanted {
         pass: k - 1,
@@ -55,26 +68,31 @@ pub fn kth_by(rowed: &RowedBook, k: u32, limit: u32, answer: &mut [u8]) -> Tally
         limit,
     };
     let mut origin = [0u64; 8];
-    let t = walk(
+    let t = walk_shown(
         rowed,
         Colouring::empty(),
         Choice::Nothing,
+        every,
+        mask,
         &wanted,
         Tally::START,
         &mut origin,
+        seen,
         answer,
     );
     tell_clash(rowed, &origin, t)
 }
 
-// The same by rows of its own.
-fn kth(book: ReadBook, k: u32, limit: u32, answer: &mut [u8]) -> Tally
-    requires { (0 < k) × (book.shape.atoms ≤ length answer.old) }
+// The same where every reading counts.
+pub fn kth(rowed: &RowedBook, k: u32, limit: u32, answer: &mut [u8]) -> Tally
+    requires { (0 < k) × (rowed.now.book.shape.atoms ≤ length answer.old) }
     ensures { ◌≡◌ {A = State} (record { tally = result; out = answer.new })
-        (run (the_book book.entry) (record { pass = k - 1; room = 1; limit = limit })
-        (start_of answer.old) (events (the_book book.entry) nothing)) }
+        (run (the_book rowed.now.book) (record { pass = k - 1; room = 1; limit = limit })
+        (start_of answer.old) (events (the_book rowed.now.book) nothing)) }
 {
-    kth_by(&RowedBook::of(book), k, limit, answer)
+    let mask = [0u64; 4];
+    let mut seen = [0u64; 1];
+    walk_to(rowed, true, &mask, k, limit, &mut seen, answer)
 }
 
 // The first reading of a good book, for whoever has read the book already: naming takes its
@@ -84,7 +102,7 @@ pub fn first(book: ReadBook, limit: u32, row: &mut [u8; Colouring::ATOMS]) -> Ta
         (run (the_book book.entry) (record { pass = 0; room = 1; limit = limit })
         (start_of row.old) (events (the_book book.entry) nothing)) }
 {
-    kth(book, 1, limit, row)
+    kth(&RowedBook::of(book), 1, limit, row)
 }
 
 // What a call's tally tells.
@@ -111,5 +129,5 @@ pub fn find(book: &[u8], k: u32, limit: u32, answer: &mut [u8]) -> Result<u32, U
     if answer.len() < book.shape.atoms as usize {
         return Err(Unfound::NoRoom);
     }
-    tell(kth(book, k, limit, answer), limit)
+    tell(kth(&RowedBook::of(book), k, limit, answer), limit)
 }

@@ -25,7 +25,7 @@ fn rows_in(atoms: u8, bytes: usize) -> usize
     }
 }
 
-// What a call's tally tells.
+// What a call's tally tells. Not one function with the k-th reading's: none of the three answers is shared.
 fn tell(t: Tally) -> Page
     ensures { told (Ok result) ≡ success (ended_by t.halt (record { tally = t; out = [] })) }
 {

@@ -5,7 +5,7 @@ ghost use Rattle.meaning.specs.Bits.{members};
 ghost use Rattle.walk.specs.Search.{part_of, with_heads, lost_in};
 
 use book::RowedBook;
-use meaning::{AtomNo, Bits, join, next_in, put};
+use meaning::{AtomNo, Bits, next_in, put};
 
 // Of the atoms in the mask, those that are heads of on rules.
 pub fn shown_part(rowed: &RowedBook, mask: &[u64; 4], on: Bits) -> Bits

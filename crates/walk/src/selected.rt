@@ -8,15 +8,10 @@ ghost use Rattle.walk.specs.Find.{told, start_of};
 ghost use Rattle.walk.specs.Shown.{shown_events};
 ghost use Rattle.walk.specs.FindShown.{good_list, find_shown_of};
 
-use crate::kth::{Unfound, tell};
+use crate::kth::{Unfound, tell, walk_to};
 use crate::list::{is_good_list, mask_of};
-use crate::origin::tell_clash;
 use crate::tally::Tally;
-use crate::walk::walk_shown;
-use crate::wanted::Wanted;
 use book::{ReadBook, RowedBook};
-use closing::Choice;
-use meaning::Colouring;
 
 // Walks to the k-th reading of a good book and writes it. A list of all atoms needs no search: no
 // two readings match on it. The memory has room for 256 readings.
@@ -30,28 +25,9 @@ fn kth_shown(book: ReadBook, k: u32, limit: u32, shown: &[u8], answer: &mut [u8]
 {
     let rowed = RowedBook::of(book);
     let mask = mask_of(shown);
-    let w = mask.w;
     let every = shown.len() == book.shape.atoms as usize;
-    let wanted = Wanted {
-        pass: k - 1,
-        room: 1,
-        limit,
-    };
-    let mut origin = [0u64; 8];
     let mut seen = [0u64; 2048];
-    let t = walk_shown(
-        &rowed,
-        Colouring::empty(),
-        Choice::Nothing,
-        every,
-        &w,
-        &wanted,
-        Tally::START,
-        &mut origin,
-        &mut seen,
-        answer,
-    );
-    tell_clash(&rowed, &origin, t)
+    walk_to(&rowed, every, &mask.w, k, limit, &mut seen, answer)
 }
 
 // Writes the k-th reading's row to the front of the answer buffer, or says why not. Readings that

@@ -2,7 +2,6 @@
 use mathlib.Core.Path.{refl, sym, ◌∙◌, ap}
 use mathlib.Core.List.{List}
 use Prim.Native.Nat.{ℕ}
-use borrow.Author.Rules.{rules}
 use Rattle.meaning.specs.Bits.{less, members}
 use Rattle.closing.proofs.Good.{good-book, good-few}
 use Rattle.walk.proofs.Searching.{this-told, not-this}

@@ -12,10 +12,10 @@ returns-then-out-book c =
 
 pub returns-in_default : goal.returns-in_default
 returns-in_default c =
-    levels-other _ _ c.args.book.read_as _ _ _ c.if-k-eq0.false c.if-out-book.false (rw c.of-rowed.ensures at c.kth_by-t.ensures) c.tell.ensures
+    levels-other _ _ c.args.book.read_as _ _ _ c.if-k-eq0.false c.if-out-book.false (rw c.of-rowed.ensures at c.kth-t.ensures) c.tell.ensures
     c.in_default.not-Full
 
 pub returns : goal.returns
 returns c =
-    levels-full _ _ c.args.book.read_as _ _ _ c.if-k-eq0.false c.if-out-book.false (rw c.of-rowed.ensures at c.kth_by-t.ensures) c.tell-2.ensures
+    levels-full _ _ c.args.book.read_as _ _ _ c.if-k-eq0.false c.if-out-book.false (rw c.of-rowed.ensures at c.kth-t.ensures) c.tell-2.ensures
     c.in-Full.is (rw c.of-rowed.ensures at c.descend-d.ensures) c.write_levels.ensures

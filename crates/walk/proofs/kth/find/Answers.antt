@@ -19,9 +19,9 @@ returns-then-answer-book c =
     find-no-room _ _ (rw c.in_ok-book.ensures.bytes at c.in_ok-book.book.read_as) _ _ _ _ c.if-k-eq0.false c.if-answer-book.true
 
 pub kth-requires : goal.kth-requires
-kth-requires c = let z = c.if-k-eq0.false in (omega arith, c.if-answer-book.false)
+kth-requires c = let z = c.if-k-eq0.false in (omega arith, rw c.of.ensures c.if-answer-book.false)
 
 pub returns : goal.returns
 returns c =
     find-walked _ _ (rw c.in_ok-book.ensures.bytes at c.in_ok-book.book.read_as) _ _ _ _ c.if-k-eq0.false c.if-answer-book.false
-    (rw c.in_ok-book.ensures.bytes at c.kth.ensures) c.tell.ensures
+    (rw c.in_ok-book.ensures.bytes at (rw c.of.ensures at c.kth.ensures)) c.tell.ensures
