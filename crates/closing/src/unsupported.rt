@@ -47,9 +47,7 @@ fn find_unsupported(rowed: &RowedBook, old: &Bits, off: &Bits, rest: &mut Bits)
         .difference(suspects);
     let mut held = others;
     clear(rowed, &suspects, &mut held);
-    let left = suspects.difference(held);
-    let w = left;
-    *rest = w;
+    *rest = suspects.difference(held);
 }
 
 // Puts the rules off; whether there was one.

@@ -29,10 +29,10 @@ propagate_dropped-requires c =
 pub close_propagated-requires : goal.close_propagated-requires
 close_propagated-requires c =
     let fits = good-few (good-book c.args.rowed.now.book) in
-    let less-them = coloured (listed c.propagate.new.on) (listed c.drop_unsupported.new.off) in
+    let less-them = coloured (listed c.propagate.new.on.w) (listed c.drop_unsupported.new.off.w) in
     let (e, f) = c.propagate_dropped.ensures in (
       (propagated-to _ fits less-them (sized-coloured _ _) e f).good.propagated,
-      dropped-settled _ fits (of (listed c.propagate.new.off)) _ c.drop_unsupported.ensures,
+      dropped-settled _ fits (of (listed c.propagate.new.off.w)) _ c.drop_unsupported.ensures,
       propagated-off _ fits less-them (sized-coloured _ _) e f,
     )
 
@@ -44,8 +44,8 @@ returns c =
     let (e, f) = c.propagate.ensures in
     let (g, h) = c.propagate_dropped.ensures in
     let propagated = closes-propagated _ fits (coloured (listed c.args.c.on.w) (listed c.args.c.off.w)) (sized-coloured _ _) e f (closes-start _ _) in
-    let dropped = closes-dropped _ fits _ _ c.drop_unsupported.ensures (of (listed c.propagate.new.on)) propagated in
-    let followed = closes-propagated _ fits (coloured (listed c.propagate.new.on) (listed c.drop_unsupported.new.off)) (sized-coloured _ _) g h dropped in
-    let z = closes-end _ fits (written c.args.c) (sized (goal.at.returns c).Start) c.close_propagated.new.on c.close_propagated.new.off
+    let dropped = closes-dropped _ fits _ _ c.drop_unsupported.ensures (of (listed c.propagate.new.on.w)) propagated in
+    let followed = closes-propagated _ fits (coloured (listed c.propagate.new.on.w) (listed c.drop_unsupported.new.off.w)) (sized-coloured _ _) g h dropped in
+    let z = closes-end _ fits (written c.args.c) (sized (goal.at.returns c).Start) c.close_propagated.new.on.w c.close_propagated.new.off.w
     (closed-behind _ followed (never-left c.close_propagated.ensures)) n c.ended.ensures.0 in
     (z, clash-end _ _ n z _ _ (ap pair c.ended.ensures.0) c.ended.ensures.1)

@@ -27,13 +27,13 @@ returns-then-is_left c =
 pub returns-then-not-drop_suspects : goal.returns-then-not-drop_suspects
 returns-then-not-drop_suspects c =
     let l = c.loop-old in
-    ends-closed (closed-to _ (good-few (good-book c.args.rowed.now.book)) (lent (listed c.args.on.now.w) (listed c.args.off.now.w)) l.on.w l.off.w c.drop_suspects.new.off
+    ends-closed (closed-to _ (good-few (good-book c.args.rowed.now.book)) (lent (listed c.args.on.now.w) (listed c.args.off.now.w)) l.on.w l.off.w c.drop_suspects.new.off.w
     l.invariant.0 l.invariant.1 c.drop_suspects.ensures.0 c.if-not-drop_suspects.true)
 
 pub loop-old-smaller : goal.loop-old-smaller
 loop-old-smaller c =
     let fits = good-few (good-book c.args.rowed.now.book) in
-    let sets = coloured (listed c.loop-old.on.w) (listed c.drop_suspects.new.off) in
+    let sets = coloured (listed c.loop-old.on.w) (listed c.drop_suspects.new.off.w) in
     omega (
       arith,
       propagated-no-more _ fits sets (sized-coloured _ _) c.propagate_dropped.ensures.0 c.propagate_dropped.ensures.1,
@@ -44,7 +44,7 @@ pub loop-old-preserved : goal.loop-old-preserved
 loop-old-preserved c =
     let fits = good-few (good-book c.args.rowed.now.book) in
     let l = c.loop-old in
-    let sets = coloured (listed l.on.w) (listed c.drop_suspects.new.off) in
+    let sets = coloured (listed l.on.w) (listed c.drop_suspects.new.off.w) in
     let dropped = closes-dropped _ fits _ _ c.drop_suspects.ensures.0.gone (of (listed l.on.w)) l.invariant.0 in
     let (e, f) = c.propagate_dropped.ensures in
     let same = c.drop_suspects.ensures.1 in (
@@ -52,6 +52,6 @@ loop-old-preserved c =
       (propagated-to _ fits sets (sized-coloured _ _) e f).good.propagated,
       subst (λ (v : List ℕ). Settled (book_in c.args.rowed.now.book.bytes.now) (of (listed v))) (sym same)
           (dropped-settled _ fits (of (listed l.off.w)) _ c.drop_suspects.ensures.0.gone),
-      subst (λ (v : List ℕ). Under (book_in c.args.rowed.now.book.bytes.now) (of (listed v)) (of (listed c.propagate_dropped.new.off))) (sym same)
+      subst (λ (v : List ℕ). Under (book_in c.args.rowed.now.book.bytes.now) (of (listed v)) (of (listed c.propagate_dropped.new.off.w))) (sym same)
           (propagated-off _ fits sets (sized-coloured _ _) e f),
     )

@@ -27,7 +27,7 @@ long s = sized-written s.args.d (search rules)
 -- behind the rest of the way: how the sets end
 ends : (k : After-close_propagated) → count (book_in k.args.rowed.now.book.bytes.now) ≤ 255
     → EndsAt (book_in k.args.rowed.now.book.bytes.now) k.args.early (pair (chosen (side_of k.args.side) k.args.r (written k.args.d)))
-    (lent (listed k.close_propagated.new.on) (listed k.close_propagated.new.off)) k.close_propagated.result
+    (lent (listed k.close_propagated.new.on.w) (listed k.close_propagated.new.off.w)) k.close_propagated.result
 ends k fits =
     let (e, f) = k.propagate_put.ensures in
     let sets = colour (side_of k.args.side) k.args.r (coloured (listed k.args.d.on.w) (listed k.args.d.off.w)) in
@@ -63,8 +63,8 @@ pub returns : goal.returns
 returns c =
     let at = goal.at.returns c in
     let n = shape-count _ _ c.args.rowed.now.book.read_as in
-    let on = c.close_propagated.new.on in
-    let off = c.close_propagated.new.off in
+    let on = c.close_propagated.new.on.w in
+    let off = c.close_propagated.new.off.w in
     let to = c.ended.ensures.0 ∙ ap (λ (t : Tables). ended_at c.args.rowed.now.book.shape.rules t (listed on) (listed off)) c.choose-c.ensures in
     let q = closes-end _ (good-few (good-book c.args.rowed.now.book)) (chosen (side_of c.args.side) c.args.r (written c.args.d)) (sized-chosen (side_of c.args.side) c.args.r (long at.Start)) on off
     ((ends at.After-close_propagated (good-few (good-book c.args.rowed.now.book))).closed c.if-close_propagated.false) n to in

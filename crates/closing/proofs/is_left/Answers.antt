@@ -1,5 +1,5 @@
 -- Not where it may not be left, nor where no rule is in both sets.
-use mathlib.Core.Path.{ap₂, ◌∙◌}
+use mathlib.Core.Path.{ap₂, ◌∙◌, refl}
 use mathlib.Core.List.{List}
 use Prim.Native.Nat.{ℕ}
 use borrow.Author.Rules.{rules}
@@ -12,7 +12,7 @@ use Rattle.closing.proofs.is_left.Goals as goal
 pub returns-then-early : goal.returns-then-early
 returns-then-early c =
     let a = c.args in
-    let found = c.lowest_clash.ensures ∙ ap₂ (λ (on off : List ℕ). lowest_from 0 a.rules (in_both (lent (listed on) (listed off)))) c.whole.ensures c.whole-then-early.ensures in
+    let found = c.lowest_clash.ensures ∙ ap₂ (λ (on off : List ℕ). lowest_from 0 a.rules (in_both (lent (listed on) (listed off)))) refl refl in
     left_told c.if-early.true _ found (search rules)
 
 pub returns-else-early : goal.returns-else-early

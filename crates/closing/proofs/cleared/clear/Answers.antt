@@ -11,15 +11,15 @@ loop-cand-init c = clearing-start _ _ _ _ refl
 
 pub returns-then-is_within : goal.returns-then-is_within
 returns-then-is_within c =
-    let cand = c.try_suspects.new.cand in
+    let cand = c.try_suspects.new.cand.w in
     clearing-end (clearing-more c.loop-cand.invariant c.try_suspects.ensures.0 c.try_suspects.ensures.1) (λ q. at-rule cand refl q
-    ∙ none_in cand c.whole.result.w c.empty.result.w c.whole.ensures c.empty.ensures
+    ∙ none_in cand _ c.empty.result.w refl c.empty.ensures
     c.is_within.ensures c.if-is_within.true (atom_no q.0))
 
 pub loop-cand-smaller : goal.loop-cand-smaller
 loop-cand-smaller c =
-    let cand = c.try_suspects.new.cand in
-    let (a, m) = one_in cand c.whole.result.w c.empty.result.w c.whole.ensures c.empty.ensures
+    let cand = c.try_suspects.new.cand.w in
+    let (a, m) = one_in cand _ c.empty.result.w refl c.empty.ensures
     c.is_within.ensures c.if-is_within.false in
     swept-less c.try_suspects.ensures.0 (rule_no a.0) (at-rule cand refl (rule_no a.0) ∙ m)
 

@@ -9,7 +9,7 @@ use Rattle.closing.proofs.cleared.clear.Given as goal
 
 abbrev pub invariant-loop-cand : goal.invariant-loop-cand
 invariant-loop-cand l =
-    Clearing (book_in l.rowed.book.bytes.now) (of (listed l.suspects.w)) (of (listed l.initial.held.w)) (of (listed l.held.w)) (of (listed l.cand))
+    Clearing (book_in l.rowed.book.bytes.now) (of (listed l.suspects.w)) (of (listed l.initial.held.w)) (of (listed l.held.w)) (of (listed l.cand.w))
 
 abbrev pub decreases-loop-cand : goal.decreases-loop-cand
 decreases-loop-cand l = length (rules_in (book_in l.rowed.book.bytes.now) (live (of (listed l.held.w))))

@@ -18,7 +18,7 @@ use Rattle.closing.proofs.cleared.try_suspect.Goals.{After-every_headed}
 
 -- behind the question to the rows: what they say
 asked : (e : After-every_headed) → Good e.args.rowed.now.book.bytes.now e.args.rowed.now.book.shape
-    → e.every_headed.result ≡ every (heads (book_in e.args.rowed.now.book.bytes.now) (of (listed e.args.held.now))) (rule (book_in e.args.rowed.now.book.bytes.now) e.args.r).pos
+    → e.every_headed.result ≡ every (heads (book_in e.args.rowed.now.book.bytes.now) (of (listed e.args.held.now.w))) (rule (book_in e.args.rowed.now.book.bytes.now) e.args.r).pos
 asked e g =
     e.every_headed.ensures ∙ every-part _ _ _ e.positives.ensures
     ∙ every-headed _ _ e.args.rowed.now.rowed _ _ (pos-small _ e.args.rowed.now.book.shape g.read g.atoms e.args.r e.requires)
@@ -33,6 +33,6 @@ returns c =
     let g = good-book c.args.rowed.now.book in
     let a = c.head.result in
     let low = head-low g c.args.r (good-in g c.args.r c.requires) a c.head.ensures in
-    tried-holds _ c.args.rowed.now.rows c.args.rowed.now.rowed c.args.r (omega (arith, g.rules, c.requires)) c.args.held.now.w c.put.new.s c.args.woken.now.w c.wake.new.woken
+    tried-holds _ c.args.rowed.now.rows c.args.rowed.now.rowed c.args.r (omega (arith, g.rules, c.requires)) c.args.held.now.w c.put.new.self.w c.args.woken.now.w c.wake.new.woken.w
     a (omega arith) c.head.ensures (headed-by _ c.args.rowed.now.rows c.args.rowed.now.rowed c.args.held.now.w a (omega arith))
     (sym (asked (goal.at.returns c).After-every_headed g) ∙ c.if-not-every_headed.false) c.wake.ensures c.put.ensures

@@ -1,4 +1,5 @@
 -- The candidates below the one at which the search stands have had their look.
+use mathlib.Core.Path.{refl}
 use native.Mathlib.Omega.{arith}
 use lib.ListN.{replicate}
 use Rattle.meaning.specs.Books.{count, rule_no}
@@ -28,5 +29,5 @@ loop-r-preserved c =
 pub returns : goal.returns
 returns c =
     swept-end c.loop-r.invariant.1 _ (onward-last c.args.cand.now.w c.loop-r.r (count (book_in c.args.rowed.now.book.bytes.now)) (omega (arith, good-count (good-book c.args.rowed.now.book), c.loop-r-test.false)))
-    (left_at c.difference-left.result.w c.intersection.result.w c.whole-3.result.w c.whole.result.w c.whole-2.result.w c.loop-r.woken c.args.suspects.now.w c.loop-r.held.w
-    c.difference-left.ensures c.whole-3.ensures c.intersection.ensures c.whole.ensures c.whole-2.ensures)
+    (left_at c.difference.result.w c.intersection.result.w _ _ _ c.loop-r.woken.w c.args.suspects.now.w c.loop-r.held.w
+    c.difference.ensures refl c.intersection.ensures refl refl)

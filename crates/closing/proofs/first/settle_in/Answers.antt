@@ -10,5 +10,5 @@ pub returns : goal.returns
 returns c =
     let same = c.of-rowed.ensures in
     settle-told _ _ c.args.book.read_as _ c.args.book.small.0 c.if-out-rules.false c.close-closed.result.colours c.empty.ensures (rw same at c.close-closed.ensures.0)
-    c.of-rowed.result.rows c.begin.new.nt c.begin.new.nl (rw same at c.of-rowed.result.rowed) (rw same at c.begin.ensures.0) (rw same at c.begin.ensures.1)
+    c.of-rowed.result.rows c.begin.new.nt.w c.begin.new.nl.w (rw same at c.of-rowed.result.rowed) (rw same at c.begin.ensures.0) (rw same at c.begin.ensures.1)
     c.write_settled.ensures c.write_settled-2.ensures

@@ -1,5 +1,5 @@
 -- Both joins of rows, the rules that are hit and were not off, and the heads that are lost by them.
-use mathlib.Core.Path.{ap₂, ◌∙◌}
+use mathlib.Core.Path.{ap₂, ◌∙◌, refl}
 use mathlib.Core.List.{List}
 use Prim.Native.Nat.{ℕ}
 use lib.ListN.{replicate}
@@ -12,8 +12,8 @@ pub returns : goal.returns
 returns c =
     let a = c.args in
     fallen _ a.rowed.now.rows c.args.rowed.now.rowed a.off.now.w a.nt.now.w a.nl.now.w a.cand.now.w (replicate 4 0)
-    c.spread.new.by_neg c.spread-2.new.by_pos c.spread.new.by_pos c.spread-2.new.by_neg
+    c.spread.new.by_neg.w c.spread-2.new.by_pos.w c.spread.new.by_pos.w c.spread-2.new.by_neg.w
     members-nothing c.spread.ensures.0 c.spread.ensures.1 c.spread-2.ensures.0 c.spread-2.ensures.1
-    c.difference-fresh.result.w c.join.new.s (replicate 4 0) c.lost_heads.new.lost
-    (c.difference-fresh.ensures ∙ ap₂ (λ (u v : List ℕ). less (members u) (members v)) c.whole.ensures c.whole-2.ensures)
+    c.difference-fresh.result.w c.join.new.self.w (replicate 4 0) c.lost_heads.new.lost.w
+    (c.difference-fresh.ensures ∙ ap₂ (λ (u v : List ℕ). less (members u) (members v)) refl refl)
     c.join.ensures members-nothing c.lost_heads.ensures

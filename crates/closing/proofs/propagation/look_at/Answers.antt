@@ -14,5 +14,5 @@ returns-then-not-may_go_on c = passed (sym c.may_go_on.ensures ∙ c.if-not-may_
 pub returns : goal.returns
 returns c =
     let g = good-book c.args.rowed.now.book in
-    looked-risen _ (of (listed c.args.off.now.w)) c.args.r c.args.on.now.w c.rise.new.on (atom_set c.args.nt.now.w)
+    looked-risen _ (of (listed c.args.off.now.w)) c.args.r c.args.on.now.w c.rise.new.on.w (atom_set c.args.nt.now.w)
     (omega (arith, g.rules, c.requires)) (sym c.may_go_on.ensures ∙ c.if-not-may_go_on.false) c.rise.ensures.0 c.rise.ensures.1

@@ -5,4 +5,4 @@ use Rattle.closing.proofs.propagation.note.Goals as goal
 
 pub returns : goal.returns
 returns c =
-    note-put c.args.told c.args.a c.put.new.s c.args.set.now.w c.if-not-told.false (search rules) c.put.ensures
+    note-put c.args.told c.args.a c.put.new.self.w c.args.set.now.w c.if-not-told.false (search rules) c.put.ensures

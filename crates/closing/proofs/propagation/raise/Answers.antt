@@ -1,4 +1,5 @@
 -- The candidates below the one at which the search stands have had their look.
+use mathlib.Core.Path.{refl}
 use native.Mathlib.Omega.{arith}
 use lib.ListN.{replicate}
 use Rattle.meaning.specs.Books.{rule_no}
@@ -24,8 +25,8 @@ loop-r-preserved c =
 
 pub returns : goal.returns
 returns c =
-    let e = less-listed c.difference.result.w _ _ c.args.cand.now.w c.args.on.now.w c.difference.ensures c.whole.ensures
-    c.whole-2.ensures in (
+    let e = less-listed c.difference-todo.result.w _ _ c.args.cand.now.w c.args.on.now.w c.difference-todo.ensures refl
+    refl in (
       raised-off _ (of (listed c.args.off.now.w)) (of (listed c.args.cand.now.w)) _ (of (listed c.args.on.now.w)) (atom_set c.args.nt.now.w) e
           (onward-end _ (of (listed c.args.off.now.w)) _ (of (listed c.args.on.now.w)) (atom_set c.args.nt.now.w) _ c.loop-r.r c.loop-r.invariant.1
           (omega (arith, good-count (good-book c.args.rowed.now.book))) (of (listed (replicate 4 0)))),

@@ -15,8 +15,8 @@ use Rattle.closing.proofs.suspected.find_suspects.Goals as goal
 pub loop-todo-init : goal.loop-todo-init
 loop-todo-init c =
     let none = at-rule (replicate 4 0) members-nothing in (
-      suspecting-start _ _ _ (λ r h. none r) (c.doubted_heads.ensures ∙ went-off _ c.args.old.now.w c.args.off.now.w c.difference-went.result.w c.whole.result.w c.whole-2.result.w
-          c.difference-went.ensures c.whole.ensures c.whole-2.ensures),
+      suspecting-start _ _ _ (λ r h. none r) (c.doubted_heads.ensures ∙ went-off _ c.args.old.now.w c.args.off.now.w c.difference-went.result.w _ _
+          c.difference-went.ensures refl refl),
       λ r h. none r,
     )
 
@@ -25,20 +25,20 @@ pub returns-then-is_within : goal.returns-then-is_within
 returns-then-is_within c =
     let k = c.suspect_more.ensures in (
       suspecting-end _ _ _
-          (suspecting-more _ _ _ (of (listed c.loop-todo.suspects.w)) (atom_set c.loop-todo.todo) refl k.suspects-now k.todo-now c.loop-todo.invariant.0)
-          (none_in c.suspect_more.new.todo c.whole-in-loop-todo.result.w c.empty.result.w c.whole-in-loop-todo.ensures c.empty.ensures c.is_within.ensures c.if-is_within.true),
-      suspected-inside _ (of (listed c.args.off.now.w)) (of (listed c.loop-todo.suspects.w)) (atom_set c.loop-todo.todo) k c.loop-todo.invariant.1,
+          (suspecting-more _ _ _ (of (listed c.loop-todo.suspects.w)) (atom_set c.loop-todo.todo.w) refl k.suspects-now k.todo-now c.loop-todo.invariant.0)
+          (none_in c.suspect_more.new.todo.w _ c.empty.result.w refl c.empty.ensures c.is_within.ensures c.if-is_within.true),
+      suspected-inside _ (of (listed c.args.off.now.w)) (of (listed c.loop-todo.suspects.w)) (atom_set c.loop-todo.todo.w) k c.loop-todo.invariant.1,
     )
 
 pub loop-todo-smaller : goal.loop-todo-smaller
 loop-todo-smaller c =
     let k = c.suspect_more.ensures in
-    let (a, m) = one_in c.suspect_more.new.todo c.whole-in-loop-todo.result.w c.empty.result.w c.whole-in-loop-todo.ensures c.empty.ensures c.is_within.ensures c.if-is_within.false in
-    suspecting-less _ (of (listed c.args.old.now.w)) (of (listed c.args.off.now.w)) (of (listed c.loop-todo.suspects.w)) (atom_set c.loop-todo.todo) refl k.suspects-now k.todo-now a m
+    let (a, m) = one_in c.suspect_more.new.todo.w _ c.empty.result.w refl c.empty.ensures c.is_within.ensures c.if-is_within.false in
+    suspecting-less _ (of (listed c.args.old.now.w)) (of (listed c.args.off.now.w)) (of (listed c.loop-todo.suspects.w)) (atom_set c.loop-todo.todo.w) refl k.suspects-now k.todo-now a m
 
 pub loop-todo-preserved : goal.loop-todo-preserved
 loop-todo-preserved c =
     let k = c.suspect_more.ensures in (
-      suspecting-more _ _ _ (of (listed c.loop-todo.suspects.w)) (atom_set c.loop-todo.todo) refl k.suspects-now k.todo-now c.loop-todo.invariant.0,
-      suspected-inside _ (of (listed c.args.off.now.w)) (of (listed c.loop-todo.suspects.w)) (atom_set c.loop-todo.todo) k c.loop-todo.invariant.1,
+      suspecting-more _ _ _ (of (listed c.loop-todo.suspects.w)) (atom_set c.loop-todo.todo.w) refl k.suspects-now k.todo-now c.loop-todo.invariant.0,
+      suspected-inside _ (of (listed c.args.off.now.w)) (of (listed c.loop-todo.suspects.w)) (atom_set c.loop-todo.todo.w) k c.loop-todo.invariant.1,
     )

@@ -11,7 +11,7 @@ use Rattle.closing.proofs.suspected.find_suspects.Given as goal
 
 abbrev pub invariant-loop-todo : goal.invariant-loop-todo
 invariant-loop-todo l =
-    Suspecting (book_in l.rowed.book.bytes.now) (of (listed l.old.w)) (of (listed l.off.w)) (of (listed l.suspects.w)) (atom_set l.todo) × Inside (book_in l.rowed.book.bytes.now) (of (listed l.suspects.w))
+    Suspecting (book_in l.rowed.book.bytes.now) (of (listed l.old.w)) (of (listed l.off.w)) (of (listed l.suspects.w)) (atom_set l.todo.w) × Inside (book_in l.rowed.book.bytes.now) (of (listed l.suspects.w))
 
 abbrev pub decreases-loop-todo : goal.decreases-loop-todo
 decreases-loop-todo l = length (rules_in (book_in l.rowed.book.bytes.now) (live (of (listed l.suspects.w))))

@@ -5,6 +5,6 @@ use Rattle.closing.proofs.unsupported.drop_suspects.Goals as goal
 
 pub returns : goal.returns
 returns c = (
-  dropped-by _ c.args.off.now.w c.put_off-more.new.off c.find_unsupported.new.rest c.find_unsupported.ensures c.put_off-more.ensures.0 c.put_off-more.ensures.1,
+  dropped-by _ c.args.off.now.w c.put_off-more.new.off.w c.find_unsupported.new.rest.w c.find_unsupported.ensures c.put_off-more.ensures.0 c.put_off-more.ensures.1,
   refl,
 )
