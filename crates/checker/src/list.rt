@@ -10,7 +10,7 @@ ghost use Rattle.book.specs.ReadBook.{the_book};
 ghost use Rattle.book.specs.Tables.{Below};
 
 use book::ReadBook;
-use meaning::{Bits, RuleNo, put, whole};
+use meaning::{Bits, RuleNo};
 
 // The list is strictly ascending, and each of its rules is below R.
 pub fn is_proper(list: &[u8], rules: u8) -> bool
@@ -33,18 +33,18 @@ pub fn with_rules(set: Bits, list: &[u8]) -> Bits
     ensures { of (listed result.w) ≡
         plus (of (listed set.w)) (map rule_no list.now) }
 {
-    let mut w = set.w;
+    let mut all = set;
     for &n in list {
-        put(&mut w, n);
+        all.put(n);
     }
-    Bits { w }
+    all
 }
 
 // Each listed rule has a positive atom all of whose rules are in the set.
-fn each_starves(book: &ReadBook, list: &[u8], gone: &[u64; 4]) -> bool
+fn each_starves(book: &ReadBook, list: &[u8], gone: &Bits) -> bool
     requires { Below book.now.shape.rules list.now }
     ensures { result ≡ every (λ r.
-        some (all_in (the_book book.now) (of (listed gone.now)))
+        some (all_in (the_book book.now) (of (listed gone.now.w)))
         (rule (the_book book.now) r).pos) (map rule_no list.now) }
 {
     for &n in list {
@@ -56,12 +56,12 @@ fn each_starves(book: &ReadBook, list: &[u8], gone: &[u64; 4]) -> bool
 }
 
 // 55: each listed rule has a positive atom all of whose rules are off or listed.
-pub fn is_unfounded(book: &ReadBook, list: &[u8], off: &[u64; 4]) -> bool
+pub fn is_unfounded(book: &ReadBook, list: &[u8], off: &Bits) -> bool
     requires { Below book.now.shape.rules list.now }
     ensures { result ≡
-        unfounded (the_book book.now) (of (listed off.now))
+        unfounded (the_book book.now) (of (listed off.now.w))
         (map rule_no list.now) }
 {
-    let gone = with_rules(whole(off), list);
-    each_starves(book, list, &gone.w)
+    let gone = with_rules(*off, list);
+    each_starves(book, list, &gone)
 }

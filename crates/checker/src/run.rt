@@ -26,7 +26,7 @@ pub fn run_steps(book: &ReadBook, paper: &[u8], trailer: Trailer, at: usize, c: 
     let mut colours = c;
     let mut i = at;
     loop {
-        match check_step(book, paper, trailer, i, &colours.on.w, &colours.off.w) {
+        match check_step(book, paper, trailer, i, &colours.on, &colours.off) {
             Step::On(r) => {
                 colours = colours.with(Side::On, r);
                 i += 2;

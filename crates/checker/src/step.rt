@@ -10,7 +10,7 @@ use crate::condition::{is_ended, is_uncoloured, may_go_off, may_go_on};
 use crate::list::{is_proper, is_unfounded};
 use crate::trailer::Trailer;
 use book::{ReadBook, wide};
-use meaning::{RuleNo, STEP_END, STEP_OFF, STEP_ON, STEP_SPLIT, STEP_UNFOUNDED};
+use meaning::{Bits, RuleNo, STEP_END, STEP_OFF, STEP_ON, STEP_SPLIT, STEP_UNFOUNDED};
 
 // A step that a branch goes on after, or what it stops by.
 #[derive(Clone, Copy)]
@@ -42,14 +42,14 @@ fn check_rule_step<'a>(
     paper: &[u8],
     trailer: Trailer,
     at: usize,
-    on: &'a [u64; 4],
-    off: &'a [u64; 4],
+    on: &'a Bits,
+    off: &'a Bits,
 ) -> Step
     requires { Ready paper.now trailer.from × (at < trailer.from)
         × (get_or paper.now at 0 ≡ code_unfounded → ⊥) × (get_or paper.now at 0 ≡ code_end → ⊥) }
     ensures { Finds (the_book book.now) trailer.claim
         paper.now trailer.from at
-        (lent (listed on.now) (listed off.now)) result }
+        (lent (listed on.now.w) (listed off.now.w)) result }
 {
     if trailer.from <= at + 1 || book.shape.rules <= paper[at + 1] {
         return Step::Stops(Stop::Form);
@@ -75,13 +75,13 @@ fn check_list_step(
     paper: &[u8],
     trailer: Trailer,
     at: usize,
-    off: &[u64; 4],
+    off: &Bits,
 ) -> Step
     requires { Ready paper.now trailer.from × (at < trailer.from)
         × (get_or paper.now at 0 ≡ code_unfounded) }
     ensures { (on : List Bool) → Finds (the_book book.now)
         trailer.claim paper.now trailer.from at
-        (lent on (listed off.now)) result }
+        (lent on (listed off.now.w)) result }
 {
     if trailer.from <= at + 1 {
         return Step::Stops(Stop::Form);
@@ -110,13 +110,13 @@ pub fn check_step<'a>(
     paper: &[u8],
     trailer: Trailer,
     at: usize,
-    on: &'a [u64; 4],
-    off: &'a [u64; 4],
+    on: &'a Bits,
+    off: &'a Bits,
 ) -> Step
     requires { Ready paper.now trailer.from }
     ensures { Finds (the_book book.now) trailer.claim
         paper.now trailer.from at
-        (lent (listed on.now) (listed off.now)) result }
+        (lent (listed on.now.w) (listed off.now.w)) result }
 {
     if trailer.from <= at {
         return Step::Stops(Stop::Form);

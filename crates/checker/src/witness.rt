@@ -13,7 +13,7 @@ ghost use Rattle.checker.specs.Parts.{verdict};
 use crate::list::with_rules;
 use crate::trailer::Trailer;
 use book::{ReadBook, every_in, some_in, wide};
-use meaning::{Bits, Claim, Colouring, RuleNo, has, put};
+use meaning::{Bits, Claim, Colouring, RuleNo};
 
 // Each byte in turn: its number, repetition and positive atoms. The list starts at byte `from` of
 // the paper.
@@ -22,16 +22,16 @@ fn check_order(book: &ReadBook, list: &[u8], from: usize) -> Result<(), usize>
     ensures { verdict result ≡
         order_of (the_book book.now) from [] list.now }
 {
-    let mut before = [0u64; 4];
+    let mut before = Bits::EMPTY;
     let mut headed = [false; Colouring::ATOMS];
     for (i, &n) in list.iter().enumerate() {
         if book.shape.rules <= n
-            || has(&before, n)
+            || before.has(n)
             || !every_in(book.positives(RuleNo(n)), &headed)
         {
             return Err(from + i);
         }
-        put(&mut before, n);
+        before.put(n);
         headed[wide(book.head(RuleNo(n)).0)] = true;
     }
     Ok(())
@@ -68,13 +68,13 @@ fn fails_in(book: &ReadBook, r: RuleNo, headed: &[bool; Colouring::ATOMS]) -> bo
 }
 
 // Every rule that is not listed fails.
-fn rest_fails(book: &ReadBook, set: &[u64; 4], headed: &[bool; Colouring::ATOMS]) -> bool
+fn rest_fails(book: &ReadBook, set: &Bits, headed: &[bool; Colouring::ATOMS]) -> bool
     ensures { result ≡ every_rule (the_book book.now)
-        (λ r. of (listed set.now) r
+        (λ r. of (listed set.now.w) r
         || fails (atoms_in headed.now) (rule (the_book book.now) r)) }
 {
     for r in 0..book.shape.rules {
-        if !has(set, r) && !fails_in(book, RuleNo(r), headed) {
+        if !set.has(r) && !fails_in(book, RuleNo(r), headed) {
             return false;
         }
     }
@@ -93,9 +93,9 @@ pub fn check_witness(book: &ReadBook, paper: &[u8], trailer: Trailer) -> Result<
     check_order(book, &paper[from..end], from)?;
     let all = with_rules(Bits::empty(), &paper[from..end]);
     let mut headed = [false; Colouring::ATOMS];
-    book.heads_of(&all.w, &mut headed);
+    book.heads_of(&all, &mut headed);
     check_unblocked(book, &paper[from..end], from, &headed)?;
-    if !rest_fails(book, &all.w, &headed) {
+    if !rest_fails(book, &all, &headed) {
         return Err(paper.len() - 6);
     }
     Ok(())

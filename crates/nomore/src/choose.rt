@@ -11,13 +11,13 @@ ghost use Rattle.closing.specs.Picked.{picked};
 ghost use Rattle.nomore.specs.Own.{supported};
 
 use book::RowedBook;
-use meaning::{Bits, RuleNo, next_in};
+use meaning::{Bits, RuleNo};
 
 // Every positive atom of the rule is the head of a rule of the set.
-fn is_supported(rowed: &RowedBook, r: RuleNo, on: &[u64; 4]) -> bool
+fn is_supported(rowed: &RowedBook, r: RuleNo, on: &Bits) -> bool
     requires { r.0 < rowed.now.book.shape.rules }
     ensures { result ≡
-        every (heads (the_book rowed.now.book) (of (listed on.now)))
+        every (heads (the_book rowed.now.book) (of (listed on.now.w)))
         (rule (the_book rowed.now.book) r).pos }
 {
     rowed.every_headed(rowed.book.positives(r), on)
@@ -28,16 +28,14 @@ pub fn lowest_supported(rowed: &RowedBook, on: Bits, off: Bits) -> Option<RuleNo
     ensures { picked result ≡ lowest_from 0 rowed.now.book.shape.rules
         (supported (the_book rowed.now.book) (lent (listed on.w) (listed off.w))) }
 {
-    let left = Bits::below(rowed.book.shape.rules).difference(on.union(off));
-    let free = left.w;
-    let headed = on.w;
-    let mut r = next_in(&free, 0);
+    let free = Bits::below(rowed.book.shape.rules).difference(on.union(off));
+    let mut r = free.next_in(0);
     while r < 256 {
         let q = RuleNo(r as u8);
-        if is_supported(rowed, q, &headed) {
+        if is_supported(rowed, q, &on) {
             return Some(q);
         }
-        r = next_in(&free, r + 1);
+        r = free.next_in(r + 1);
     }
     None
 }

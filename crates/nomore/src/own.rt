@@ -37,15 +37,13 @@ fn grow(rowed: &RowedBook, on: Bits, off: Bits, choice: Choice) -> Grown
         × (picked result.clash ≡ clashed (the_book rowed.now.book)
         (pair (coloured (listed result.on.w) (listed result.off.w)))) }
 {
-    let mut more_on = on.w;
-    let mut more_off = off.w;
+    let mut more_on = on;
+    let mut more_off = off;
     propagate_chosen(rowed, choice, &mut more_on, &mut more_off);
-    let d_on = Bits { w: more_on };
-    let d_off = Bits { w: more_off };
     Grown {
-        on: d_on,
-        off: d_off,
-        clash: lowest_clash(rowed.book.shape.rules, d_on, d_off),
+        on: more_on,
+        off: more_off,
+        clash: lowest_clash(rowed.book.shape.rules, more_on, more_off),
     }
 }
 

@@ -14,22 +14,22 @@ use crate::search::{first_alike, same_rules};
 use crate::verdict::Verdict;
 use book::RowedBook;
 use closing::Choice;
-use meaning::{Bits, Colouring, whole};
+use meaning::{Bits, Colouring};
 
 // The reading whose generating rules are `on` is the first of those that match it: found by a search
 // that starts with every rule off whose head is a shown atom outside the reading.
-fn is_first(rowed: &RowedBook, on: Bits, mask: &[u64; 4], part: Bits) -> bool
+fn is_first(rowed: &RowedBook, on: Bits, mask: &Bits, part: Bits) -> bool
     requires { Generated (the_book rowed.now.book) (listed on.w)
-        × (members part.w ≡ part_of rowed.now.rows mask.now on.w) }
-    ensures { result ≡ fresh (the_book rowed.now.book) (shown_in mask.now)
+        × (members part.w ≡ part_of rowed.now.rows mask.now.w on.w) }
+    ensures { result ≡ fresh (the_book rowed.now.book) (shown_in mask.now.w)
         (heads (the_book rowed.now.book) (of (listed on.w))) }
 {
-    let outside = whole(mask).difference(part);
+    let outside = mask.difference(part);
     let c = Colouring {
-        off: rules_with(rowed, &outside.w),
+        off: rules_with(rowed, &outside),
         ..Colouring::empty()
     };
-    let verdict = first_alike(rowed, c, Choice::Nothing, &part.w, on);
+    let verdict = first_alike(rowed, c, Choice::Nothing, &part, on);
     matches!(verdict, Verdict::This)
 }
 
@@ -37,15 +37,15 @@ fn is_first(rowed: &RowedBook, on: Bits, mask: &[u64; 4], part: Bits) -> bool
 fn is_first_known(
     rowed: &RowedBook,
     on: Bits,
-    mask: &[u64; 4],
+    mask: &Bits,
     part: Bits,
     n: usize,
     seen: &[u64],
 ) -> bool
     requires { Generated (the_book rowed.now.book) (listed on.w)
-        × (members part.w ≡ part_of rowed.now.rows mask.now on.w)
-        × Kept (the_book rowed.now.book) (shown_in mask.now) seen.now n }
-    ensures { result ≡ fresh (the_book rowed.now.book) (shown_in mask.now)
+        × (members part.w ≡ part_of rowed.now.rows mask.now.w on.w)
+        × Kept (the_book rowed.now.book) (shown_in mask.now.w) seen.now n }
+    ensures { result ≡ fresh (the_book rowed.now.book) (shown_in mask.now.w)
         (heads (the_book rowed.now.book) (of (listed on.w))) }
 {
     match find_part(seen, n, part) {
@@ -55,12 +55,12 @@ fn is_first_known(
 }
 
 // The same, and a reading that counts is remembered as the next row.
-pub fn is_new(rowed: &RowedBook, on: Bits, mask: &[u64; 4], n: u32, seen: &mut [u64]) -> bool
+pub fn is_new(rowed: &RowedBook, on: Bits, mask: &Bits, n: u32, seen: &mut [u64]) -> bool
     requires { Generated (the_book rowed.now.book) (listed on.w)
-        × Kept (the_book rowed.now.book) (shown_in mask.now) seen.old n }
-    ensures { (result ≡ fresh (the_book rowed.now.book) (shown_in mask.now)
+        × Kept (the_book rowed.now.book) (shown_in mask.now.w) seen.old n }
+    ensures { (result ≡ fresh (the_book rowed.now.book) (shown_in mask.now.w)
         (heads (the_book rowed.now.book) (of (listed on.w))))
-        × Kept (the_book rowed.now.book) (shown_in mask.now) seen.new
+        × Kept (the_book rowed.now.book) (shown_in mask.now.w) seen.new
         (ifb result (n + 1) n) }
 {
     let part = shown_part(rowed, mask, on);
@@ -76,15 +76,15 @@ pub fn does_count(
     rowed: &RowedBook,
     on: Bits,
     every: bool,
-    mask: &[u64; 4],
+    mask: &Bits,
     n: u32,
     seen: &mut [u64],
 ) -> bool
     requires { Generated (the_book rowed.now.book) (listed on.w)
-        × Remembers every (the_book rowed.now.book) (shown_in mask.now) seen.old n }
-    ensures { (result ≡ counts every (the_book rowed.now.book) (shown_in mask.now)
+        × Remembers every (the_book rowed.now.book) (shown_in mask.now.w) seen.old n }
+    ensures { (result ≡ counts every (the_book rowed.now.book) (shown_in mask.now.w)
         (heads (the_book rowed.now.book) (of (listed on.w))))
-        × Remembers every (the_book rowed.now.book) (shown_in mask.now) seen.new
+        × Remembers every (the_book rowed.now.book) (shown_in mask.now.w) seen.new
         (ifb result (n + 1) n) }
 {
     every || is_new(rowed, on, mask, n, seen)

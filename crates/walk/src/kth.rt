@@ -16,7 +16,7 @@ use crate::walk::walk_shown;
 use crate::wanted::Wanted;
 use book::{ReadBook, Refusal, RowedBook};
 use closing::Choice;
-use meaning::{Colouring, RuleNo};
+use meaning::{Bits, Colouring, RuleNo};
 
 // Why no reading is given.
 #[derive(Clone, Copy)]
@@ -49,7 +49,7 @@ impl From<Refusal> for Unfound {
 pub fn walk_to(
     rowed: &RowedBook,
     every: bool,
-    mask: &[u64; 4],
+    mask: &Bits,
     k: u32,
     limit: u32,
     seen: &mut [u64],
@@ -59,7 +59,7 @@ pub fn walk_to(
     ensures { ◌≡◌ {A = State} (record { tally = result; out = answer.new })
         (run (the_book rowed.now.book) (record { pass = k - 1; room = 1; limit = limit })
         (start_of answer.old) (counted_by (the_book rowed.now.book)
-        (counts every (the_book rowed.now.book) (shown_in mask.now))
+        (counts every (the_book rowed.now.book) (shown_in mask.now.w))
         (events (the_book rowed.now.book) nothing))) }
 {
     let wanted = Wanted {
@@ -90,7 +90,7 @@ pub fn kth(rowed: &RowedBook, k: u32, limit: u32, answer: &mut [u8]) -> Tally
         (run (the_book rowed.now.book) (record { pass = k - 1; room = 1; limit = limit })
         (start_of answer.old) (events (the_book rowed.now.book) nothing)) }
 {
-    let mask = [0u64; 4];
+    let mask = Bits::EMPTY;
     let mut seen = [0u64; 1];
     walk_to(rowed, true, &mask, k, limit, &mut seen, answer)
 }

@@ -4,7 +4,7 @@ ghost use Rattle.meaning.specs.Bits.{members};
 ghost use Rattle.walk.specs.FindShown.{good_list};
 ghost use Rattle.walk.specs.Search.{in_list};
 
-use meaning::{Bits, put};
+use meaning::Bits;
 
 // The list is strictly ascending, and each of its bytes is below the number of atoms.
 pub fn is_good_list(list: &[u8], atoms: u8) -> bool
@@ -27,9 +27,9 @@ pub fn is_good_list(list: &[u8], atoms: u8) -> bool
 pub fn mask_of(list: &[u8]) -> Bits
     ensures { members result.w ≡ in_list list.now }
 {
-    let mut mask = [0u64; 4];
+    let mut mask = Bits::EMPTY;
     for a in list {
-        put(&mut mask, *a);
+        mask.put(*a);
     }
-    Bits { w: mask }
+    mask
 }

@@ -28,7 +28,7 @@ pub fn meet(book: &ReadBook, on: Bits, wanted: &Wanted, t: Tally, out: &mut [u8]
         return t.tried(t.sets + 1, Halt::Going);
     }
     let mut set = [false; Colouring::ATOMS];
-    book.heads_of(&on.w, &mut set);
+    book.heads_of(&on, &mut set);
     let row = (t.sets - wanted.pass) as usize;
     write_row(book.shape.atoms, &set, row * book.shape.atoms as usize, out);
     if row + 1 == wanted.room {

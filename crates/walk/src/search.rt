@@ -33,12 +33,12 @@ pub fn first_alike(
     rowed: &RowedBook,
     c: Colouring,
     choice: Choice,
-    inside: &[u64; 4],
+    inside: &Bits,
     on: Bits,
 ) -> Verdict
     requires { Shallow (the_book rowed.now.book) (taken choice (written c))
         × Takes (the_book rowed.now.book) (written c) choice }
-    ensures { TellsFirst (the_book rowed.now.book) inside.now on.w
+    ensures { TellsFirst (the_book rowed.now.book) inside.now.w on.w
         (taken choice (written c)) result }
 {
     let closed = close_or_clash(rowed, c, choice);

@@ -27,7 +27,7 @@ fn kth_shown(book: ReadBook, k: u32, limit: u32, shown: &[u8], answer: &mut [u8]
     let mask = mask_of(shown);
     let every = shown.len() == book.shape.atoms as usize;
     let mut seen = [0u64; 2048];
-    walk_to(&rowed, every, &mask.w, k, limit, &mut seen, answer)
+    walk_to(&rowed, every, &mask, k, limit, &mut seen, answer)
 }
 
 // Writes the k-th reading's row to the front of the answer buffer, or says why not. Readings that

@@ -20,7 +20,7 @@ use crate::tally::{Halt, Tally};
 use crate::wanted::Wanted;
 use book::RowedBook;
 use closing::{Choice, close_or_clash};
-use meaning::{Colouring, RuleNo};
+use meaning::{Bits, Colouring, RuleNo};
 
 // Walks on from the colouring c with the choice taken: one try, and after it first with a rule on,
 // then with it off, each from the colouring before that choice. Every reading counts, or only those that no earlier
@@ -33,7 +33,7 @@ pub fn walk_shown(
     c: Colouring,
     choice: Choice,
     every: bool,
-    mask: &[u64; 4],
+    mask: &Bits,
     wanted: &Wanted,
     t: Tally,
     origin: &mut [u64; 8],
@@ -43,16 +43,16 @@ pub fn walk_shown(
     requires { Room (the_book rowed.now.book) wanted.now.pass wanted.now.room
         (record { tally = t; out = out.old })
         × Shallow (the_book rowed.now.book) (taken choice (written c))
-        × Remembers every (the_book rowed.now.book) (shown_in mask.now) seen.old t.sets
+        × Remembers every (the_book rowed.now.book) (shown_in mask.now.w) seen.old t.sets
         × Takes (the_book rowed.now.book) (written c) choice }
     ensures { (◌≡◌ {A = State}
         (record { tally = told_clash (the_book rowed.now.book) origin.new result; out = out.new })
         (run (the_book rowed.now.book) wanted.now
         (record { tally = told_clash (the_book rowed.now.book) origin.old t; out = out.old })
         (counted_by (the_book rowed.now.book)
-        (counts every (the_book rowed.now.book) (shown_in mask.now))
+        (counts every (the_book rowed.now.book) (shown_in mask.now.w))
         (events (the_book rowed.now.book) (taken choice (written c))))))
-        × Remembers every (the_book rowed.now.book) (shown_in mask.now) seen.new result.sets }
+        × Remembers every (the_book rowed.now.book) (shown_in mask.now.w) seen.new result.sets }
 {
     let Halt::Going = t.halt else {
         return t;
@@ -119,7 +119,7 @@ pub fn walk(
         (record { tally = told_clash (the_book rowed.now.book) origin.old t; out = out.old })
         (events (the_book rowed.now.book) (taken choice (written c)))) }
 {
-    let mask = [0u64; 4];
+    let mask = Bits::EMPTY;
     let mut seen = [0u64; 1];
     walk_shown(
         rowed, c, choice, true, &mask, wanted, t, origin, &mut seen, out,

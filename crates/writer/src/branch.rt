@@ -10,9 +10,7 @@ use crate::draft::{write, write_step};
 use crate::list::drop_rules;
 use crate::step::{Step, Tip, next_step};
 use book::ReadBook;
-use meaning::{
-    Claim, Colouring, PAPER_BYTES, STEP_END, STEP_OFF, STEP_ON, STEP_SPLIT, STEP_UNFOUNDED, put,
-};
+use meaning::{Bits, Claim, Colouring, PAPER_BYTES, STEP_END, STEP_OFF, STEP_ON, STEP_SPLIT, STEP_UNFOUNDED};
 
 // What a branch ends by, with the colouring there and the draft's length behind it.
 #[derive(Clone, Copy)]
@@ -46,16 +44,16 @@ pub fn write_branch(
         at draft.old result draft.new }
 {
     let mut colours = c;
-    let mut dropped = [0u64; 4];
+    let mut dropped = Bits::EMPTY;
     let mut n = at;
     loop {
-        match next_step(book, claim, &colours.on.w, &colours.off.w, &mut dropped) {
+        match next_step(book, claim, &colours.on, &colours.off, &mut dropped) {
             Step::On(r) => {
-                put(&mut colours.on.w, r.0);
+                colours.on.put(r.0);
                 n = write_step(draft, n, STEP_ON, r);
             }
             Step::Off(r) => {
-                put(&mut colours.off.w, r.0);
+                colours.off.put(r.0);
                 n = write_step(draft, n, STEP_OFF, r);
             }
             Step::Unfounded(m) => {
@@ -64,7 +62,7 @@ pub fn write_branch(
                 n = drop_rules(
                     book.shape.rules,
                     &dropped,
-                    &mut colours.off.w,
+                    &mut colours.off,
                     draft,
                     counted,
                 );

@@ -14,24 +14,24 @@ ghost use Rattle.writer.specs.Steps.{outside, Listed};
 use crate::draft::write;
 use book::ReadBook;
 use closing::support;
-use meaning::{PAPER_BYTES, has, put};
+use meaning::{Bits, PAPER_BYTES};
 
 // Writes the rules that are neither marked nor off over whatever the set held; how many they
 // are.
 fn list_unmarked<'a>(
     rules: u8,
-    marks: &'a [u64; 4],
-    off: &'a [u64; 4],
-    dropped: &mut [u64; 4],
+    marks: &'a Bits,
+    off: &'a Bits,
+    dropped: &mut Bits,
 ) -> u8
-    ensures { (b : Book) → count b ≡ rules → Listed b result (listed dropped.new)
-        (rules_in b (outside (listed marks.now) (listed off.now))) }
+    ensures { (b : Book) → count b ≡ rules → Listed b result (listed dropped.new.w)
+        (rules_in b (outside (listed marks.now.w) (listed off.now.w))) }
 {
-    *dropped = [0; 4];
+    *dropped = Bits::EMPTY;
     let mut m: u8 = 0;
     for r in 0..rules {
-        if !has(marks, r) && !has(off, r) {
-            put(dropped, r);
+        if !marks.has(r) && !off.has(r) {
+            dropped.put(r);
             m += 1;
         }
     }
@@ -40,13 +40,13 @@ fn list_unmarked<'a>(
 
 // Writes the rules outside support that aren't off over whatever the set held; how many they
 // are. Whatever is on, this asks only of what is off.
-pub fn list_unsupported(book: &ReadBook, off: &[u64; 4], dropped: &mut [u64; 4]) -> u8
+pub fn list_unsupported(book: &ReadBook, off: &Bits, dropped: &mut Bits) -> u8
     ensures { (on : List Bool) → Listed (the_book book.now) result
-        (listed dropped.new)
+        (listed dropped.new.w)
         (rules_in (the_book book.now)
-        (unsupported (the_book book.now) (lent on (listed off.now)))) }
+        (unsupported (the_book book.now) (lent on (listed off.now.w)))) }
 {
-    let mut marks = [0u64; 4];
+    let mut marks = Bits::EMPTY;
     support(book, off, &mut marks);
     list_unmarked(book.shape.rules, &marks, off, dropped)
 }
@@ -54,20 +54,20 @@ pub fn list_unsupported(book: &ReadBook, off: &[u64; 4], dropped: &mut [u64; 4])
 // Writes the listed rules and puts them in off; the length afterwards.
 pub fn drop_rules(
     rules: u8,
-    dropped: &[u64; 4],
-    off: &mut [u64; 4],
+    dropped: &Bits,
+    off: &mut Bits,
     draft: &mut [u8; PAPER_BYTES],
     at: usize,
 ) -> usize
-    ensures { (b : Book) → count b ≡ rules → (of (listed off.new) ≡
-        plus (of (listed off.old)) (rules_in b (of (listed dropped.now))))
-        × Writes (numbers (rules_in b (of (listed dropped.now)))) at
+    ensures { (b : Book) → count b ≡ rules → (of (listed off.new.w) ≡
+        plus (of (listed off.old.w)) (rules_in b (of (listed dropped.now.w))))
+        × Writes (numbers (rules_in b (of (listed dropped.now.w)))) at
         draft.old result draft.new }
 {
     let mut n = at;
     for r in 0..rules {
-        if has(dropped, r) {
-            put(off, r);
+        if dropped.has(r) {
+            off.put(r);
             n = write(draft, n, r);
         }
     }

@@ -9,7 +9,7 @@ ghost use Rattle.closing.specs.Picked.{picked};
 ghost use Rattle.writer.specs.Steps.{may_by, new_by};
 
 use book::ReadBook;
-use meaning::{Colouring, RuleNo, Side, has};
+use meaning::{Bits, Colouring, RuleNo, Side};
 
 // The rule may go to this side: 41 if it is on, 42 if it is off.
 fn may_go<'a>(
@@ -33,16 +33,16 @@ fn may_go<'a>(
 pub fn lowest_for<'a>(
     book: &ReadBook,
     side: Side,
-    set: &[u64; 4],
+    set: &Bits,
     headed: &'a [bool; Colouring::ATOMS],
     lost: &'a [bool; Colouring::ATOMS],
 ) -> Option<RuleNo>
     ensures { picked result ≡ lowest (the_book book.now)
         (new_by (side_of side) (the_book book.now) headed.now lost.now
-        (listed set.now)) }
+        (listed set.now.w)) }
 {
     for r in 0..book.shape.rules {
-        if !has(set, r) && may_go(book, side, RuleNo(r), headed, lost) {
+        if !set.has(r) && may_go(book, side, RuleNo(r), headed, lost) {
             return Some(RuleNo(r));
         }
     }

@@ -12,7 +12,7 @@ use crate::list::list_unsupported;
 use crate::search::lowest_for;
 use book::{ReadBook, wide};
 use closing::lowest_clash;
-use meaning::{Claim, Colouring, Kind, RuleNo, Side, whole};
+use meaning::{Bits, Claim, Colouring, Kind, RuleNo, Side};
 use walk::lowest_uncoloured;
 
 // A step that the branch goes on after, or what it stops by.
@@ -37,11 +37,11 @@ pub enum Tip {
 }
 
 // Some rule is in both sets.
-fn is_clashing<'a>(book: &ReadBook, on: &'a [u64; 4], off: &'a [u64; 4]) -> bool
+fn is_clashing<'a>(book: &ReadBook, on: &'a Bits, off: &'a Bits) -> bool
     ensures { result ≡
-        clashing (the_book book.now) (lent (listed on.now) (listed off.now)) }
+        clashing (the_book book.now) (lent (listed on.now.w) (listed off.now.w)) }
 {
-    lowest_clash(book.shape.rules, whole(on), whole(off)).is_some()
+    lowest_clash(book.shape.rules, *on, *off).is_some()
 }
 
 // What the tables say of the claimed atom: the head of an on rule, or of off rules only. That the
@@ -66,14 +66,14 @@ fn is_shown<'a>(
 pub fn next_step<'a>(
     book: &ReadBook,
     claim: Claim,
-    on: &'a [u64; 4],
-    off: &'a [u64; 4],
-    dropped: &mut [u64; 4],
+    on: &'a Bits,
+    off: &'a Bits,
+    dropped: &mut Bits,
 ) -> Step
     requires { claimed claim < 255 }
-    ensures { Does (the_book book.now) (listed dropped.new) result
+    ensures { Does (the_book book.now) (listed dropped.new.w) result
         (next (the_book book.now) claim
-        (lent (listed on.now) (listed off.now))) }
+        (lent (listed on.now.w) (listed off.now.w))) }
 {
     if is_clashing(book, on, off) {
         return Step::Stops(Tip::Ended);
@@ -95,7 +95,7 @@ pub fn next_step<'a>(
     if m != 0 {
         return Step::Unfounded(m);
     }
-    if let Some(r) = lowest_uncoloured(book.shape.rules, whole(on), whole(off)) {
+    if let Some(r) = lowest_uncoloured(book.shape.rules, *on, *off) {
         return Step::Stops(Tip::Parted(r));
     }
     Step::Stops(Tip::Unsettled)

@@ -16,7 +16,7 @@ ghost use Rattle.writer.specs.Steps.{may_list};
 
 use crate::draft::write;
 use book::{ReadBook, every_in};
-use meaning::{Colouring, PAPER_BYTES, RuleNo, has, put};
+use meaning::{Bits, Colouring, PAPER_BYTES, RuleNo};
 use walk::generates;
 
 // How many rules the witness lists, and the draft's length behind it.
@@ -31,24 +31,24 @@ fn may_list(
     book: &ReadBook,
     r: RuleNo,
     row: &[u8; Colouring::ATOMS],
-    taken: &[u64; 4],
+    taken: &Bits,
     headed: &[bool; Colouring::ATOMS],
 ) -> bool
     requires { (r.0 < book.now.shape.rules)
-        × (headed.now ≡ atom_table (heads (the_book book.now) (of (listed taken.now)))) }
+        × (headed.now ≡ atom_table (heads (the_book book.now) (of (listed taken.now.w)))) }
     ensures { result ≡ may_list (the_book book.now)
         (generating (the_book book.now) (set_in row.now))
-        (listed taken.now) r }
+        (listed taken.now.w) r }
 {
-    !has(taken, r.0) && generates(book, r, row) && every_in(book.positives(r), headed)
+    !taken.has(r.0) && generates(book, r, row) && every_in(book.positives(r), headed)
 }
 
 // The lowest rule that may be listed next.
-fn next_listed(book: &ReadBook, row: &[u8; Colouring::ATOMS], taken: &[u64; 4]) -> Option<RuleNo>
+fn next_listed(book: &ReadBook, row: &[u8; Colouring::ATOMS], taken: &Bits) -> Option<RuleNo>
     ensures { picked result ≡ lowest (the_book book.now)
         (may_list (the_book book.now)
         (generating (the_book book.now) (set_in row.now))
-        (listed taken.now)) }
+        (listed taken.now.w)) }
 {
     let mut headed = [false; Colouring::ATOMS];
     book.heads_of(taken, &mut headed);
@@ -71,13 +71,13 @@ pub fn write_witness(
         × Writes (numbers (witness_of (the_book book.now) (set_in row.now))) at
         draft.old result.length draft.new }
 {
-    let mut taken = [0u64; 4];
+    let mut taken = Bits::EMPTY;
     let mut n = at;
     for count in 0..book.shape.rules {
         let Some(r) = next_listed(book, row, &taken) else {
             return Witness { count, length: n };
         };
-        put(&mut taken, r.0);
+        taken.put(r.0);
         n = write(draft, n, r.0);
     }
     Witness {

@@ -19,14 +19,14 @@ loop-r-init c = search rules
 
 pub returns-then-eq : goal.returns-then-eq
 returns-then-eq c =
-    sym (head-here _ (of (listed c.args.set.now)) _ _ c.loop-r.r c.head.ensures
+    sym (head-here _ (of (listed c.args.set.now.w)) _ _ c.loop-r.r c.head.ensures
     (shape-in _ _ c.args.book.now.read_as (rule_no c.loop-r.r) (omega arith)) (sym c.has.ensures ∙ c.if-has.true) (eqb-true _ _ (sym c.eq.ensures ∙ c.if-eq.true)))
 
 pub loop-r-preserved : goal.loop-r-preserved
 loop-r-preserved c =
     none-next _ _ (elim c.else-has.branch [
-      | else-has-via-then-has+else-eq w ↦ head-other _ (of (listed c.args.set.now)) _ _ c.loop-r.r w.head.ensures (eqb-false _ _ (sym w.eq.ensures ∙ w.if-eq.false))
-      | else-has-via-else-has w ↦ head-out _ (of (listed c.args.set.now)) _ c.loop-r.r (sym c.has.ensures ∙ w.if-has.false)
+      | else-has-via-then-has+else-eq w ↦ head-other _ (of (listed c.args.set.now.w)) _ _ c.loop-r.r w.head.ensures (eqb-false _ _ (sym w.eq.ensures ∙ w.if-eq.false))
+      | else-has-via-else-has w ↦ head-out _ (of (listed c.args.set.now.w)) _ c.loop-r.r (sym c.has.ensures ∙ w.if-has.false)
     ]) c.loop-r.invariant
 
 pub returns : goal.returns

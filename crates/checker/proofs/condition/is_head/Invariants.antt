@@ -8,4 +8,4 @@ use Rattle.book.specs.ReadBook.{the_book}
 use Rattle.checker.proofs.condition.is_head.Given as goal
 
 abbrev pub invariant-loop-r : goal.invariant-loop-r
-invariant-loop-r l = some_below l.r (λ n. of (listed l.set) (rule_no n) && same_atom (rule (the_book l.book) (rule_no n)).head l.a) ≡ false
+invariant-loop-r l = some_below l.r (λ n. of (listed l.set.w) (rule_no n) && same_atom (rule (the_book l.book) (rule_no n)).head l.a) ≡ false

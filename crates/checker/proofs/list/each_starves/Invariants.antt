@@ -9,4 +9,4 @@ use Rattle.checker.proofs.Conditions.{starved_by}
 use Rattle.checker.proofs.list.each_starves.Given as goal
 
 abbrev pub invariant-loop-n : goal.invariant-loop-n
-invariant-loop-n l = every (starved_by (the_book l.book) (of (listed l.gone))) (take l.n-index l.list) ≡ true
+invariant-loop-n l = every (starved_by (the_book l.book) (of (listed l.gone.w))) (take l.n-index l.list) ≡ true

@@ -1,6 +1,6 @@
 -- The set that is off or listed is that of the step's condition.
 use native.Mathlib.Omega.{arith}
-use mathlib.Core.Path.{◌∙◌, ap}
+use mathlib.Core.Path.{◌∙◌, ap, refl}
 use mathlib.Core.List.{List, map}
 use Prim.Native.Nat.{ℕ}
 use Rattle.meaning.specs.Books.{rule_no}
@@ -19,5 +19,5 @@ pub returns : goal.returns
 returns c =
     let s = c.args in
     c.each_starves.ensures
-    ∙ unfounded-by _ (of (listed s.off.now)) (of (listed c.with_rules-gone.result.w)) s.list.now
-    (c.with_rules-gone.ensures ∙ ap (λ (v : List ℕ). plus (of (listed v)) (map rule_no s.list.now)) c.whole.ensures)
+    ∙ unfounded-by _ (of (listed s.off.now.w)) (of (listed c.with_rules-gone.result.w)) s.list.now
+    (c.with_rules-gone.ensures ∙ ap (λ (v : List ℕ). plus (of (listed v)) (map rule_no s.list.now)) refl)

@@ -12,5 +12,5 @@ loop-n-init c = add_none _
 pub loop-n-preserved : goal.loop-n-preserved
 loop-n-preserved c =
     let i = c.loop-n.n-index in
-    add-put (of (listed c.args.set.w)) _ _ c.args.list.now i (omega arith) (omega (arith, c.requires.at i (omega arith), listed-long c.loop-n.w))
+    add-put (of (listed c.args.set.w)) _ _ c.args.list.now i (omega arith) (omega (arith, c.requires.at i (omega arith), listed-long c.loop-n.all.w))
     c.put.ensures c.loop-n.invariant

@@ -8,4 +8,4 @@ use Rattle.meaning.specs.Written.{of}
 use Rattle.checker.proofs.list.with_rules.Given as goal
 
 abbrev pub invariant-loop-n : goal.invariant-loop-n
-invariant-loop-n l = of (listed l.w) ≡ plus (of (listed l.initial.w)) (map rule_no (take l.n-index l.list))
+invariant-loop-n l = of (listed l.all.w) ≡ plus (of (listed l.initial.all.w)) (map rule_no (take l.n-index l.list))

@@ -9,7 +9,7 @@ pub returns-then-trailer-at : goal.returns-then-trailer-at
 returns-then-trailer-at c = step-late _ _ _ _ _ _ (omega arith)
 
 pub returns-in-85 : goal.returns-in-85
-returns-in-85 c = c.check_list_step.ensures (listed c.args.on.now)
+returns-in-85 c = c.check_list_step.ensures (listed c.args.on.now.w)
 
 pub returns-in-69 : goal.returns-in-69
 returns-in-69 c = end-holds _ _ _ _ _ _ (omega arith) (omega arith) (sym c.is_ended.ensures ∙ c.if-is_ended.true)

@@ -27,7 +27,7 @@ returns-then-not-fails_in c =
 pub loop-r-preserved : goal.loop-r-preserved
 loop-r-preserved c =
     all-next _ _ (elim c.else-not-has.branch [
-      | else-not-has-via-then-not-has+else-not-fails_in w ↦ or_right (of (listed c.args.set.now) (rule_no c.loop-r.r)) (sym w.fails_in.ensures ∙ w.if-not-fails_in.false)
+      | else-not-has-via-then-not-has+else-not-fails_in w ↦ or_right (of (listed c.args.set.now.w) (rule_no c.loop-r.r)) (sym w.fails_in.ensures ∙ w.if-not-fails_in.false)
       | else-not-has-via-else-not-has w ↦ or_left _ (sym c.has.ensures ∙ w.if-not-has.false)
     ]) c.loop-r.invariant
 

@@ -10,4 +10,4 @@ use Rattle.book.specs.Tables.{atoms_in}
 use Rattle.checker.proofs.witness.rest_fails.Given as goal
 
 abbrev pub invariant-loop-r : goal.invariant-loop-r
-invariant-loop-r l = every_below l.r (λ n. of (listed l.set) (rule_no n) || fails (atoms_in l.headed) (rule (the_book l.book) (rule_no n))) ≡ true
+invariant-loop-r l = every_below l.r (λ n. of (listed l.set.w) (rule_no n) || fails (atoms_in l.headed) (rule (the_book l.book) (rule_no n))) ≡ true

@@ -4,4 +4,4 @@ use Rattle.writer.proofs.Lists.{Dropped}
 use Rattle.writer.proofs.list.drop_rules.Given as goal
 
 abbrev pub invariant-loop-r : goal.invariant-loop-r
-invariant-loop-r l = Dropped (of (listed l.dropped)) (listed l.initial.off) l.initial.n l.initial.draft l.r (listed l.off) l.n l.draft
+invariant-loop-r l = Dropped (of (listed l.dropped.w)) (listed l.initial.off.w) l.initial.n l.initial.draft l.r (listed l.off.w) l.n l.draft

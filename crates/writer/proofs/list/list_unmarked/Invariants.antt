@@ -4,4 +4,4 @@ use Rattle.writer.proofs.Lists.{Found}
 use Rattle.writer.proofs.list.list_unmarked.Given as goal
 
 abbrev pub invariant-loop-r : goal.invariant-loop-r
-invariant-loop-r l = Found (outside (listed l.marks) (listed l.off)) l.r (listed l.dropped) l.m
+invariant-loop-r l = Found (outside (listed l.marks.w) (listed l.off.w)) l.r (listed l.dropped.w) l.m

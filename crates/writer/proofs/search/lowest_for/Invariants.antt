@@ -6,4 +6,4 @@ use Rattle.writer.proofs.Searches.{NoneBelow}
 use Rattle.writer.proofs.search.lowest_for.Given as goal
 
 abbrev pub invariant-loop-r : goal.invariant-loop-r
-invariant-loop-r l = NoneBelow (new_by (side_of l.side) (the_book l.book) l.headed l.lost (listed l.set)) l.r
+invariant-loop-r l = NoneBelow (new_by (side_of l.side) (the_book l.book) l.headed l.lost (listed l.set.w)) l.r

@@ -1,5 +1,5 @@
 -- A contradiction is there exactly if a rule is told of it.
-use mathlib.Core.Path.{ap₂, ◌∙◌}
+use mathlib.Core.Path.{ap₂, ◌∙◌, refl}
 use mathlib.Core.List.{List}
 use Prim.Native.Nat.{ℕ}
 use Rattle.meaning.specs.Bits.{listed}
@@ -14,4 +14,4 @@ pub returns : goal.returns
 returns c =
     c.is_some.ensures
     ∙ clash-told _ (shape-count _ _ c.args.book.now.read_as) _ _ c.lowest_clash.ensures
-    ∙ ap₂ (λ (a b : List ℕ). clashing (book_in c.args.book.now.bytes.now) (lent (listed a) (listed b))) c.whole.ensures c.whole-2.ensures
+    ∙ ap₂ (λ (a b : List ℕ). clashing (book_in c.args.book.now.bytes.now) (lent (listed a) (listed b))) refl refl

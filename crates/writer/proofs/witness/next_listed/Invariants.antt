@@ -8,4 +8,4 @@ use Rattle.writer.proofs.witness.next_listed.Given as goal
 
 abbrev pub invariant-loop-r : goal.invariant-loop-r
 invariant-loop-r l =
-    NoneBelow (may_list (the_book l.book) (generating (the_book l.book) (set_in l.row)) (listed l.taken)) l.r
+    NoneBelow (may_list (the_book l.book) (generating (the_book l.book) (set_in l.row)) (listed l.taken.w)) l.r

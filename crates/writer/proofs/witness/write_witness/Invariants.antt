@@ -7,4 +7,4 @@ use Rattle.writer.proofs.witness.write_witness.Given as goal
 
 abbrev pub invariant-loop-count : goal.invariant-loop-count
 invariant-loop-count l =
-    Listing (the_book l.book) (generating (the_book l.book) (set_in l.row)) l.initial.n l.initial.draft l.count (listed l.taken) l.n l.draft
+    Listing (the_book l.book) (generating (the_book l.book) (set_in l.row)) l.initial.n l.initial.draft l.count (listed l.taken.w) l.n l.draft
