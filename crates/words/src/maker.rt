@@ -4,10 +4,11 @@ ghost use Rattle.book.specs.Format.{book_bytes};
 ghost use Rattle.book.specs.Making.{Made};
 ghost use Rattle.words.specs.declared.step.Fate.TheVariants.{Goes};
 ghost use Rattle.words.specs.Reading.{start};
-ghost use Rattle.words.specs.Make.{told_book, Answer, make_of};
+ghost use Rattle.words.specs.Make.{told_book, unworded, Answer, make_of};
 ghost use Rattle.words.specs.Progress.{reading_of, goes_on, Along};
 
 use crate::answer::Unworded;
+use crate::decision::Misplaced;
 use crate::due::Due;
 use crate::known::Known;
 use crate::opened::Open;
@@ -59,6 +60,17 @@ fn read_text(text: &[u8], draft: &mut [u8; BOOK_BYTES]) -> Reading
     }
 }
 
+// The refusal of a word that starts there, or of a line that ends there.
+fn unworded(why: Misplaced, place: usize) -> Unworded
+    ensures { result ≡ unworded why place }
+{
+    match why {
+        Misplaced::Form => Unworded::Form(place),
+        Misplaced::Name => Unworded::Name(place),
+        Misplaced::TooMany => Unworded::TooMany(place),
+    }
+}
+
 // Writes the book of the text to the front of the buffer, and where each atom's name starts and ends
 // to the other two; or says why not.
 pub fn make(
@@ -83,9 +95,7 @@ pub fn make(
     match fate {
         // Never: reading is over.
         Fate::Goes => Err(Unworded::NoRoom),
-        Fate::Form(place) => Err(Unworded::Form(place)),
-        Fate::Name(place) => Err(Unworded::Name(place)),
-        Fate::TooMany(place) => Err(Unworded::TooMany(place)),
+        Fate::Refused(why, place) => Err(unworded(why, place)),
         Fate::Done => {
             let n = finish_book(&mut draft, making, names.count as u8);
             if out.len() < n {
