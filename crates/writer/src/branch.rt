@@ -48,6 +48,7 @@ pub fn write_branch(
     let mut colours = c;
     let mut dropped = [0u64; 4];
     let mut n = at;
+    // Each step is found from the colours that those before it left: no range says how many there are.
     loop {
         match next_step(book, claim, &colours.on.w, &colours.off.w, &mut dropped) {
             Step::On(r) => {
