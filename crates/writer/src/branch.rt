@@ -46,6 +46,7 @@ pub fn write_branch(
     let mut colours = c;
     let mut dropped = Bits::EMPTY;
     let mut n = at;
+    // Each step is found from the colours that those before it left: no range says how many there are.
     loop {
         match next_step(book, claim, &colours.on, &colours.off, &mut dropped) {
             Step::On(r) => {

@@ -1,9 +1,8 @@
 // A draft whose steps came to their end becomes the paper.
-ghost use Rattle.std.specs.Prelude.{◌≡◌, List, ℕ, ◌<◌, ◌≤◌, length, take};
+ghost use Rattle.std.specs.Prelude.{◌≡◌, List, ℕ, ◌<◌, length};
 ghost use Rattle.meaning.specs.Told.{Answered};
 ghost use Rattle.meaning.specs.Paper.{paper_bytes};
 ghost use Rattle.book.specs.ReadBook.{the_book};
-ghost use Rattle.meaning.specs.Buffers.{write_at};
 ghost use Rattle.walk.specs.Page.{set_in};
 ghost use Rattle.writer.specs.Draft.{Stands};
 ghost use Rattle.writer.specs.PaperNeeds.{whole_paper};
