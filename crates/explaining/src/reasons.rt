@@ -5,13 +5,13 @@ ghost use Rattle.std.specs.Prelude.{◌<◌};
 use crate::paper::Paper;
 use book::ReadBook;
 use checker::{is_head, is_lost};
-use meaning::{AtomNo, RuleNo, has};
+use meaning::{AtomNo, Bits, RuleNo};
 use talk::{Line, put_subject};
 
 // The lowest rule of the set with the atom as head; R where there is none.
-fn lowest_of(book: &ReadBook, a: AtomNo, set: &[u64; 4]) -> u8 {
+fn lowest_of(book: &ReadBook, a: AtomNo, set: &Bits) -> u8 {
     for r in 0..book.shape.rules {
-        if has(set, r) && book.head(RuleNo(r)) == a {
+        if set.has(r) && book.head(RuleNo(r)) == a {
             return r;
         }
     }
@@ -19,7 +19,7 @@ fn lowest_of(book: &ReadBook, a: AtomNo, set: &[u64; 4]) -> u8 {
 }
 
 // That the atom holds, and by which of the on rules.
-pub fn put_held(paper: &Paper, a: AtomNo, on: &[u64; 4], line: &mut Line) {
+pub fn put_held(paper: &Paper, a: AtomNo, on: &Bits, line: &mut Line) {
     put_subject(paper.names, a.0, line);
     line.text(b" holds by rule ");
     line.number(lowest_of(&paper.book, a, on) as u64);
@@ -68,7 +68,7 @@ pub fn put_left(paper: &Paper, a: AtomNo, is_listing: bool, line: &mut Line) {
 
 // Why a rule goes on: each positive atom holds, and each negative one is left without a rule. A colon
 // stands before the first reason, a semicolon before every other.
-pub fn put_why_on(paper: &Paper, r: RuleNo, on: &[u64; 4], line: &mut Line)
+pub fn put_why_on(paper: &Paper, r: RuleNo, on: &Bits, line: &mut Line)
     requires { r.0 < paper.now.book.shape.rules }
 {
     let mut joint: &[u8] = b": ";
@@ -85,7 +85,7 @@ pub fn put_why_on(paper: &Paper, r: RuleNo, on: &[u64; 4], line: &mut Line)
 }
 
 // Why a rule goes off, where a negative atom holds: the first that does.
-pub fn put_blocked(paper: &Paper, r: RuleNo, on: &[u64; 4], line: &mut Line)
+pub fn put_blocked(paper: &Paper, r: RuleNo, on: &Bits, line: &mut Line)
     requires { r.0 < paper.now.book.shape.rules }
 {
     let mut atoms = paper.book.negatives(r).iter().map(|a| AtomNo(*a));
@@ -99,7 +99,7 @@ pub fn put_blocked(paper: &Paper, r: RuleNo, on: &[u64; 4], line: &mut Line)
 pub fn put_starved(
     paper: &Paper,
     r: RuleNo,
-    gone: &[u64; 4],
+    gone: &Bits,
     is_listing: bool,
     line: &mut Line,
 ) -> bool

@@ -7,7 +7,7 @@ ghost use Rattle.checker.specs.Parts.{StopWithin, StepWithin, Finds, Runs};
 use crate::paper::Paper;
 use crate::tell::{tell_end, tell_list, tell_off, tell_on, tell_split};
 use checker::{Ran, Step, Stop, check_step, with_rules};
-use meaning::{Colouring, Side};
+use meaning::{Bits, Colouring, Side};
 
 // Tells what a branch stops by; nothing of a step that is refused.
 fn tell_stop<'a>(
@@ -16,8 +16,8 @@ fn tell_stop<'a>(
     depth: usize,
     at: usize,
     stop: Stop,
-    on: &'a [u64; 4],
-    off: &'a [u64; 4],
+    on: &'a Bits,
+    off: &'a Bits,
 )
     requires { StopWithin (the_book paper.now.book) paper.now.trailer.from at stop }
 {
@@ -35,8 +35,8 @@ fn tell_step<'a>(
     depth: usize,
     at: usize,
     step: Step,
-    on: &'a [u64; 4],
-    off: &'a [u64; 4],
+    on: &'a Bits,
+    off: &'a Bits,
 )
     requires { StepWithin (the_book paper.now.book) paper.now.bytes.now
         paper.now.trailer.from at step }
@@ -59,12 +59,12 @@ fn explain_step<'a>(
     paper: &Paper,
     depth: usize,
     at: usize,
-    on: &'a [u64; 4],
-    off: &'a [u64; 4],
+    on: &'a Bits,
+    off: &'a Bits,
 ) -> Step
     ensures { Finds (the_book paper.now.book) paper.now.trailer.claim
         paper.now.bytes.now paper.now.trailer.from at
-        (lent (listed on.now) (listed off.now)) result }
+        (lent (listed on.now.w) (listed off.now.w)) result }
 {
     let step = check_step(&paper.book, paper.bytes, paper.trailer, at, on, off);
     tell_step(rt, paper, depth, at, step, on, off);
@@ -79,7 +79,7 @@ pub fn explain_run(rt: &impl Print, paper: &Paper, depth: usize, at: usize, c: C
     let mut colours = c;
     let mut i = at;
     loop {
-        match explain_step(rt, paper, depth, i, &colours.on.w, &colours.off.w) {
+        match explain_step(rt, paper, depth, i, &colours.on, &colours.off) {
             Step::On(r) => {
                 colours = colours.with(Side::On, r);
                 i += 2;

@@ -6,11 +6,11 @@ use crate::lines::{LINE_ROOM, deeper, end_line, put_about, put_numbered, put_sta
 use crate::paper::Paper;
 use crate::reasons::{put_blocked, put_held, put_left, put_starved, put_why_on};
 use checker::{is_clashing, with_rules};
-use meaning::{Claim, Kind, RuleNo, next_in, whole};
+use meaning::{Bits, Claim, Kind, RuleNo};
 use talk::Line;
 
 // 41: the rule, and why it goes on.
-pub fn tell_on(rt: &impl Print, paper: &Paper, depth: usize, at: usize, r: RuleNo, on: &[u64; 4])
+pub fn tell_on(rt: &impl Print, paper: &Paper, depth: usize, at: usize, r: RuleNo, on: &Bits)
     requires { r.0 < paper.now.book.shape.rules }
 {
     let mut room = [0u8; LINE_ROOM];
@@ -21,7 +21,7 @@ pub fn tell_on(rt: &impl Print, paper: &Paper, depth: usize, at: usize, r: RuleN
 }
 
 // 42: the rule, and the negative atom that holds.
-pub fn tell_off(rt: &impl Print, paper: &Paper, depth: usize, at: usize, r: RuleNo, on: &[u64; 4])
+pub fn tell_off(rt: &impl Print, paper: &Paper, depth: usize, at: usize, r: RuleNo, on: &Bits)
     requires { r.0 < paper.now.book.shape.rules }
 {
     let mut room = [0u8; LINE_ROOM];
@@ -34,7 +34,7 @@ pub fn tell_off(rt: &impl Print, paper: &Paper, depth: usize, at: usize, r: Rule
 
 // A rule of a 55's list, and the positive atom that is left without a rule. `gone` has the rules that
 // are off and those of the list.
-fn tell_starved(rt: &impl Print, paper: &Paper, depth: usize, at: usize, r: RuleNo, gone: &[u64; 4])
+fn tell_starved(rt: &impl Print, paper: &Paper, depth: usize, at: usize, r: RuleNo, gone: &Bits)
     requires { r.0 < paper.now.book.shape.rules }
 {
     let mut room = [0u8; LINE_ROOM];
@@ -52,13 +52,13 @@ pub fn tell_list(
     depth: usize,
     at: usize,
     list: &[u8],
-    off: &[u64; 4],
+    off: &Bits,
 )
     requires { Below paper.now.book.shape.rules list.now }
 {
-    let gone = with_rules(whole(off), list);
+    let gone = with_rules(*off, list);
     for r in list {
-        tell_starved(rt, paper, depth, at, RuleNo(*r), &gone.w);
+        tell_starved(rt, paper, depth, at, RuleNo(*r), &gone);
     }
 }
 
@@ -89,7 +89,7 @@ pub fn tell_second(rt: &impl Print, depth: usize, at: usize, r: RuleNo) {
 
 // Why the claim is shown: the atom holds, or is left without a rule. That there is no reading is
 // shown by no colouring.
-fn put_shown(paper: &Paper, on: &[u64; 4], line: &mut Line) {
+fn put_shown(paper: &Paper, on: &Bits, line: &mut Line) {
     match paper.trailer.claim {
         Claim::About(Kind::Naming, atom) => put_held(paper, atom, on, line),
         Claim::About(Kind::Clearing, atom) => put_left(paper, atom, false, line),
@@ -98,10 +98,10 @@ fn put_shown(paper: &Paper, on: &[u64; 4], line: &mut Line) {
 }
 
 // The lowest rule that is on and off.
-fn put_clash<'a>(on: &'a [u64; 4], off: &'a [u64; 4], line: &mut Line) {
-    let both = whole(on).intersection(whole(off));
+fn put_clash<'a>(on: &'a Bits, off: &'a Bits, line: &mut Line) {
+    let both = on.intersection(*off);
     line.text(b"rule ");
-    line.number(next_in(&both.w, 0) as u64);
+    line.number(both.next_in(0) as u64);
     line.text(b" is on and off, so no reading is here");
 }
 
@@ -111,8 +111,8 @@ pub fn tell_end<'a>(
     paper: &Paper,
     depth: usize,
     at: usize,
-    on: &'a [u64; 4],
-    off: &'a [u64; 4],
+    on: &'a Bits,
+    off: &'a Bits,
 ) {
     let mut room = [0u8; LINE_ROOM];
     let mut line = Line::new(&mut room);

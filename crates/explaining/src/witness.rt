@@ -9,7 +9,7 @@ use crate::paper::Paper;
 use crate::reasons::{put_blocked, put_starved};
 use crate::tell::tell_on;
 use checker::{check_witness, with_rules};
-use meaning::{Bits, Claim, Colouring, RuleNo, has, put};
+use meaning::{Bits, Claim, Colouring, RuleNo};
 use talk::{Line, put_subject};
 
 // The atoms that the table has, each behind a comma where it is not the first, or that there is none.
@@ -28,7 +28,7 @@ fn put_members(names: &[u8], headed: &[bool], line: &mut Line) {
 }
 
 // The reading: the heads of the listed rules. The line has room for 255 names.
-fn tell_reading(rt: &impl Print, paper: &Paper, on: &[u64; 4]) {
+fn tell_reading(rt: &impl Print, paper: &Paper, on: &Bits) {
     let mut headed = [false; Colouring::ATOMS];
     paper.book.heads_of(on, &mut headed);
     let atoms = paper.book.shape.atoms as usize;
@@ -45,10 +45,10 @@ fn tell_listed(rt: &impl Print, paper: &Paper, from: usize, list: &[u8])
     requires { Below paper.now.book.shape.rules list.now
         × (from + length list.now < 65536) }
 {
-    let mut before = [0u64; 4];
+    let mut before = Bits::EMPTY;
     for (i, r) in list.iter().enumerate() {
         tell_on(rt, paper, 0, from + i, RuleNo(*r), &before);
-        put(&mut before, *r);
+        before.put(*r);
     }
 }
 
@@ -58,8 +58,8 @@ fn tell_other<'a>(
     paper: &Paper,
     at: usize,
     r: RuleNo,
-    on: &'a [u64; 4],
-    off: &'a [u64; 4],
+    on: &'a Bits,
+    off: &'a Bits,
 )
     requires { r.0 < paper.now.book.shape.rules }
 {
@@ -74,9 +74,9 @@ fn tell_other<'a>(
 }
 
 // Every rule that is not listed.
-fn tell_others<'a>(rt: &impl Print, paper: &Paper, at: usize, on: &'a [u64; 4], off: &'a [u64; 4]) {
+fn tell_others<'a>(rt: &impl Print, paper: &Paper, at: usize, on: &'a Bits, off: &'a Bits) {
     for r in 0..paper.book.shape.rules {
-        if !has(on, r) {
+        if !on.has(r) {
             tell_other(rt, paper, at, RuleNo(r), on, off);
         }
     }
@@ -89,9 +89,9 @@ fn tell_witness(rt: &impl Print, paper: &Paper, from: usize, list: &[u8])
 {
     let on = with_rules(Bits::empty(), list);
     let off = Bits::below(paper.book.shape.rules).difference(on);
-    tell_reading(rt, paper, &on.w);
+    tell_reading(rt, paper, &on);
     tell_listed(rt, paper, from, list);
-    tell_others(rt, paper, from + list.len(), &on.w, &off.w);
+    tell_others(rt, paper, from + list.len(), &on, &off);
 }
 
 // The witness of a claim about an atom, where the checker finds it right.
