@@ -59,8 +59,6 @@ pub fn may_go_on<'a>(
     ensures { result ≡ may_on (book_in book.now)
         (lent (listed on.now) (listed off.now)) r }
 {
-    if !every_headed(positives(book, shape, r), rows, on) {
-        return false;
-    }
-    every_lost(negatives(book, shape, r), rows, off)
+    every_headed(positives(book, shape, r), rows, on)
+        && every_lost(negatives(book, shape, r), rows, off)
 }

@@ -54,10 +54,7 @@ pub fn goes_on<'a>(
         (every (atoms_in headed.now) (rule (book_in book.now) r).pos
         && every (atoms_in lost.now) (rule (book_in book.now) r).neg) }
 {
-    if !every_in(positives(book, shape, r), headed) {
-        return false;
-    }
-    every_in(negatives(book, shape, r), lost)
+    every_in(positives(book, shape, r), headed) && every_in(negatives(book, shape, r), lost)
 }
 
 // The rule goes off: some negative atom is in the table.

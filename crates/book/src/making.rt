@@ -38,9 +38,8 @@ impl Making {
         ensures { result ≡ record { length = self.length; rules = self.rules; fits = false } }
     {
         Making {
-            length: self.length,
-            rules: self.rules,
             fits: false,
+            ..self
         }
     }
 }

@@ -10,7 +10,7 @@ mod atoms;
 use atoms::show_atoms;
 use book::BOOK_BYTES;
 use calling::{TEXT_ROOM, explain_text, read_text};
-use lparse::{Imported, import};
+use lparse::import;
 use saving::{is_replacing, save_book};
 use std::rt::{Env, Files};
 use system::arg_count;
@@ -38,21 +38,17 @@ fn save_made(rt: &(impl Env + Files + Print), text: &[u8], book: &[u8]) {
 // Makes the book of the text, or says why there is none.
 fn import_text(rt: &(impl Env + Files + Print), text: &[u8]) {
     let mut room = [0u8; BOOK_BYTES];
-    let answer = import(text, &mut room);
-    let Imported::Book(n) = answer else {
-        explain_text(rt, answer, b"");
-        return;
-    };
-    save_made(rt, text, first_bytes(&room, n));
+    match import(text, &mut room) {
+        Ok(n) => save_made(rt, text, first_bytes(&room, n)),
+        Err(why) => explain_text(rt, why, b""),
+    }
 }
 
 // Reads the text, and makes its book.
 fn import_argument(rt: &(impl Env + Files + Print)) {
-    let mut text = [0u8; TEXT_ROOM];
-    let taken = read_text(rt, 1, &mut text);
-    if taken.good {
-        let n = taken.count;
-        import_text(rt, &text[..n]);
+    let mut room = [0u8; TEXT_ROOM];
+    if let Some(text) = read_text(rt, 1, &mut room) {
+        import_text(rt, text);
     }
 }
 

@@ -21,7 +21,8 @@ use Rattle.lparse.specs.declared.step.Unread.TheVariants.{Format as WrongFormat,
 use Rattle.lparse.specs.Words.{Word, word_at}
 use Rattle.lparse.specs.Reading.{Step, Move, on_kind, on_atom, on_listed, on_head_count, on_negatives, on_number, number_in, on_value, signed, on_sign, move_of, step_at, Part, with, with_atom, with_choice, Heard, says, wrong, adding, heard_at}
 use Rattle.lparse.specs.Collect.{text_in}
-use Rattle.lparse.specs.FreeHeads.{nth_head, head_heard, free_head_of, is_free, head_said, head_by, left_behind}
+use Rattle.lparse.specs.FreeHeads.{nth_head, head_heard, free_head_of, is_free, head_said}
+use Rattle.lparse.specs.Nth.{kth_found, kth_left}
 use Rattle.lparse.specs.Says.{Written, text_said, Says}
 use Rattle.lparse.proofs.Reading.{by_step, heard-by, took-move}
 use Rattle.lparse.proofs.Phases.{Fits, FitsRole}
@@ -93,8 +94,8 @@ found_from found left (says p) = found_or found (nth_head (frees_of p) left)
 found_from found left (wrong i at) = None
 
 head-turn : (found here : Option TextAtom) (left : ℕ) (l : List TextAtom)
-    → found_or found (nth_head (ahead here l) left) ≡ found_or (head_by found here left) (nth_head l (left_behind left here))
-unfolding found_or head_by left_behind nth_head ahead
+    → found_or found (nth_head (ahead here l) left) ≡ found_or (kth_found found here left) (nth_head l (kth_left left here))
+unfolding found_or kth_found kth_left nth_head ahead
 head-turn (Some a) (Some c) left l = refl
 head-turn (Some a) None left l = refl
 head-turn None (Some c) left l =
@@ -105,7 +106,7 @@ head-turn None None left l =
 
 said-turn : (w : Word) (next : Due) (said : Said) (h : Heard) (found : Option TextAtom) (left : ℕ) → FirstFree w (Ok (next, said))
     → ((p : Part) → h ≡ says p → Fits next p)
-    → found_from found left (adding w said h) ≡ found_from (head_by found (head_said said) left) (left_behind left (head_said said)) h
+    → found_from found left (adding w said h) ≡ found_from (kth_found found (head_said said) left) (kth_left left (head_said said)) h
 unfolding FirstFree found_from adding
 said-turn w next said (says p) found left f fits =
     ap (λ l. found_or found (nth_head l left)) (f p (fits p refl)) ∙ head-turn found (head_said said) left (frees_of p)
@@ -113,7 +114,7 @@ said-turn w next said (wrong i at) found left f fits = refl
 
 module _ (s : List ℕ) (at : ℕ) (due : Due) (found : Option TextAtom) (left : ℕ) {r : Step} (e : r ≡ step_at s at due) where
   pub free-turn : (t : Taken) → r ≡ Ok (Some t)
-      → {here : Option TextAtom} → here ≡ head_said t.said → {f : Option TextAtom} → f ≡ head_by found here left → {l : ℕ} → l ≡ left_behind left here
+      → {here : Option TextAtom} → here ≡ head_said t.said → {f : Option TextAtom} → f ≡ kth_found found here left → {l : ℕ} → l ≡ kth_left left here
       → found_from found left (heard_at s at due) ≡ found_from f l (heard_at s t.end t.next)
   unfolding by_step
   free-turn t g h i j =

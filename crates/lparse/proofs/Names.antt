@@ -29,7 +29,8 @@ use Rattle.lparse.specs.Words.{end_of, Word, word_at}
 use Rattle.lparse.specs.Reading.{Step, text_atom, step_at, Entry, Part, with, with_atom, with_choice, Heard, says, wrong, adding, heard_at}
 use Rattle.lparse.specs.Collect.{numbers_of}
 use Rattle.lparse.specs.Forming.{place_of}
-use Rattle.lparse.specs.Names.{whose_in, whose_of, nth_in, name_heard, name_of, in_table, is_named, found_by, left_by}
+use Rattle.lparse.specs.Names.{whose_in, whose_of, nth_in, name_heard, name_of, in_table, is_named, name_at, name_said}
+use Rattle.lparse.specs.Nth.{kth_found, kth_left}
 use Rattle.lparse.specs.Says.{Written, Says}
 use Rattle.lparse.proofs.SaidText.{says-read}
 use Rattle.lparse.proofs.Noting.{numbers-atoms}
@@ -83,15 +84,15 @@ word_bytes s from end e f h =
     let g = length-take-le (end_of s from - from) (drop from s) (omega (arith, length-drop from s)) in omega (arith, g)
 
 -- a word that is no name of the atom changes nothing; one that is takes a turn
-turn-none : (found : Option (ℕ × ℕ)) (left from end : ℕ) (y : Option (ℕ × ℕ)) → or_else found y ≡ or_else (found_by found false left from end) y
-unfolding or_else found_by ifb
+turn-none : (found : Option (ℕ × ℕ)) (left from end : ℕ) (y : Option (ℕ × ℕ)) → or_else found y ≡ or_else (kth_found found (name_at false from end) left) y
+unfolding or_else kth_found ifb
 turn-none (Some (i, j)) left from end y = refl
-turn-none None left from end y = refl
+turn-none None left from end y = eq-either (λ x. y ≡ or_else x y) left 0 _ _ (λ e. refl) (λ e. refl)
 
 module _ (from end : ℕ) (rest : ℕ → Option (ℕ × ℕ)) where
   turn-named : (found : Option (ℕ × ℕ)) (left : ℕ)
-      → or_else found (if_eq left 0 (Some (from, end)) (rest (left - 1))) ≡ or_else (found_by found true left from end) (rest (left - 1))
-  unfolding or_else found_by ifb
+      → or_else found (if_eq left 0 (Some (from, end)) (rest (left - 1))) ≡ or_else (kth_found found (name_at true from end) left) (rest (left - 1))
+  unfolding or_else kth_found ifb
   turn-named (Some (i, j)) left = refl
   turn-named None left =
       eq-either (λ x. if_eq left 0 (Some (from, end)) (rest (left - 1)) ≡ or_else x (rest (left - 1))) left 0 _ _
@@ -99,15 +100,15 @@ module _ (from end : ℕ) (rest : ℕ → Option (ℕ × ℕ)) where
 
 module _ (w : Word) (a : TextAtom) (from end : ℕ) (place : w.place ≡ from) (long : from + length w.bytes ≡ end) where
   entry-turn : (c : TextAtom) (l : List Entry) (found : Option (ℕ × ℕ)) (left : ℕ) (b : Bool) → same_text a c ≡ b
-      → or_else found (nth_in (record { atom = c; name = w } ∷ l) a left) ≡ or_else (found_by found b left from end) (nth_in l a (left_by left b))
-  unfolding nth_in left_by ifb
+      → or_else found (nth_in (record { atom = c; name = w } ∷ l) a left) ≡ or_else (kth_found found (name_at b from end) left) (nth_in l a (kth_left left (name_at b from end)))
+  unfolding nth_in kth_left ifb
   entry-turn c l found left true e = rw (e, place, long) (turn-named from end (λ k. nth_in l a k) found left)
   entry-turn c l found left false e = rw e (turn-none found left from end (nth_in l a left))
 
   atom-turn : (c : TextAtom) (standing : Standing) (p : Part) (found : Option (ℕ × ℕ)) (left : ℕ)
       → or_else found (nth_in (with_atom w c standing p).table a left)
-      ≡ or_else (found_by found (is_named (Atom c standing) a) left from end) (nth_in p.table a (left_by left (is_named (Atom c standing) a)))
-  unfolding with_atom is_named in_table left_by ifb
+      ≡ or_else (kth_found found (name_at (is_named (Atom c standing) a) from end) left) (nth_in p.table a (kth_left left (name_at (is_named (Atom c standing) a) from end)))
+  unfolding with_atom is_named in_table kth_left ifb
   atom-turn c InHead p found left = turn-none found left from end _
   atom-turn c InFree p found left = turn-none found left from end _
   atom-turn c InNegative p found left = turn-none found left from end _
@@ -118,8 +119,8 @@ module _ (w : Word) (a : TextAtom) (from end : ℕ) (place : w.place ≡ from) (
 
   named-turn : (said : Said) (h : Heard) (found : Option (ℕ × ℕ)) (left : ℕ)
       → named_by found left (adding w said h) a
-      ≡ named_by (found_by found (is_named said a) left from end) (left_by left (is_named said a)) h a
-  unfolding named_by adding with with_choice is_named left_by ifb
+      ≡ named_by (kth_found found (name_at (is_named said a) from end) left) (kth_left left (name_at (is_named said a) from end)) h a
+  unfolding named_by adding with with_choice is_named kth_left ifb
   named-turn Silent (says p) found left = turn-none found left from end _
   named-turn Chooses (says p) found left = turn-none found left from end _
   named-turn (Atom c standing) (says p) found left = atom-turn c standing p found left
@@ -131,7 +132,7 @@ module _ (w : Word) (a : TextAtom) (from end : ℕ) (place : w.place ≡ from) (
 
 module _ (s : List ℕ) (a : TextAtom) (at : ℕ) (due : Due) (found : Option (ℕ × ℕ)) (left : ℕ) {r : Step} (e : r ≡ step_at s at due) where
   pub name-turn : (t : Taken) → r ≡ Ok (Some t)
-      → {named : Bool} → named ≡ is_named t.said a → {f : Option (ℕ × ℕ)} → f ≡ found_by found named left t.from t.end → {l : ℕ} → l ≡ left_by left named
+      → {here : Option (ℕ × ℕ)} → here ≡ name_said t.said a t.from t.end → {f : Option (ℕ × ℕ)} → f ≡ kth_found found here left → {l : ℕ} → l ≡ kth_left left here
       → named_by found left (heard_at s at due) a ≡ named_by f l (heard_at s t.end t.next) a
   unfolding by_step word_at
   name-turn t g n i j =

@@ -3,8 +3,7 @@
 --
 --   nth_head l j          the j-th of the list
 --   free_head_of s j       the j-th head of a choice of the text; nothing where the text is refused
---   is_free, head_said, head_by, left_behind     (src/free.rt) whether an atom is such a head, the head that a word says, the head found, and how
---                        many are passed over yet
+--   is_free, head_said     (src/free.rt) whether an atom is such a head, and the head that a word says
 use Rattle.std.specs.Prelude.{Bool, true, false, List, [], ◌∷◌, ℕ, ◌-◌, Option, Some, None}
 use Rattle.meaning.specs.Choice.{ifb, if_eq}
 use Rattle.imported.specs.declared.TextAtom.{TextAtom}
@@ -42,12 +41,3 @@ unfoldable pub head_said : Said → Option TextAtom
 head_said Silent = None
 head_said Chooses = None
 head_said (Atom a standing) = ifb (is_free standing) (Some a) None
-
--- a head that was found stays
-unfoldable pub head_by : Option TextAtom → Option TextAtom → ℕ → Option TextAtom
-head_by (Some a) here left = Some a
-head_by None here left = if_eq left 0 here None
-
-unfoldable pub left_behind : ℕ → Option TextAtom → ℕ
-left_behind left (Some a) = left - 1
-left_behind left None = left

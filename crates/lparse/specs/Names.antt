@@ -5,7 +5,7 @@
 --   whose_of atoms n      the first of the atoms whose number is n
 --   nth_in l a k          the k-th name, counted from 0, that the entries l give the atom: where it starts and ends in the text
 --   name_of s a k         the same of the symbol table of the text; nothing where the text is refused
---   is_named, found_by, left_by     (src/named.rt) whether a word is a name of the atom, the name found, and how many are passed over yet
+--   is_named, name_said     (src/named.rt) whether a word is a name of the atom, and that name
 use Rattle.std.specs.Prelude.{Bool, true, false, List, [], ◌∷◌, ℕ, ◌+◌, ◌-◌, length, Option, Some, None}
 use Rattle.meaning.specs.Choice.{ifb, if_eq}
 use Rattle.imported.specs.declared.TextAtom.{TextAtom}
@@ -53,10 +53,9 @@ is_named Silent a = false
 is_named Chooses a = false
 is_named (Atom c standing) a = ifb (in_table standing) (same_text a c) false
 
--- a name that was found stays
-unfoldable pub found_by : Option (ℕ × ℕ) → Bool → ℕ → ℕ → ℕ → Option (ℕ × ℕ)
-found_by (Some (i, j)) named left from end = Some (i, j)
-found_by None named left from end = ifb named (if_eq left 0 (Some (from, end)) None) None
+abbrev pub name_at : Bool → ℕ → ℕ → Option (ℕ × ℕ)
+name_at named from end = ifb named (Some (from, end)) None
 
-unfoldable pub left_by : ℕ → Bool → ℕ
-left_by left named = ifb named (left - 1) left
+-- the name of the atom that a word from one place to another says
+abbrev pub name_said : Said → TextAtom → ℕ → ℕ → Option (ℕ × ℕ)
+name_said said a from end = name_at (is_named said a) from end

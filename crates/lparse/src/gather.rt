@@ -11,7 +11,7 @@ use crate::step::take_word;
 use imported::TextAtom;
 
 // Stores the atom behind the first n if it is new; how many there are then. More than 255 are
-// counted as 256.
+// counted as 256: so the array and the number stay apart, and are no slice.
 fn note_atom(found: &mut [u32; 255], n: usize, a: TextAtom) -> usize
     requires { length found.old ≡ 255 }
     ensures { Notes (a ∷ []) n found.old result found.new }

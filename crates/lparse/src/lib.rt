@@ -11,6 +11,7 @@ mod free;
 mod gather;
 mod importer;
 mod named;
+mod nth;
 mod numbering;
 mod rule;
 mod step;

@@ -26,28 +26,22 @@ pub fn counted_on(count: usize, more: usize) -> usize
     count.saturating_add(more).min(256)
 }
 
-// The table with one atom more, if it has room for it.
-pub fn placed(table: [bool; Colouring::ATOMS], n: usize) -> [bool; 255]
-    ensures { result ≡ set table n true }
+// The array with this at the place, if there is room for it.
+fn stored<T: Copy>(array: [T; Colouring::ATOMS], at: usize, x: T) -> [T; Colouring::ATOMS]
+    ensures { result ≡ set array at x }
 {
-    if 255 <= n {
-        return table;
+    let mut more = array;
+    if at < Colouring::ATOMS {
+        more[at] = x;
     }
-    let mut more = table;
-    more[n] = true;
     more
 }
 
-// The heads with one at this place, if there is room for it.
-fn stored(heads: [u8; Colouring::ATOMS], at: usize, n: u8) -> [u8; 255]
-    ensures { result ≡ set heads at n }
+// The table with one atom more, if it has room for it.
+pub fn placed(table: [bool; Colouring::ATOMS], n: usize) -> [bool; Colouring::ATOMS]
+    ensures { result ≡ set table n true }
 {
-    if 255 <= at {
-        return heads;
-    }
-    let mut more = heads;
-    more[at] = n;
-    more
+    stored(table, n, true)
 }
 
 // A rule without heads and without body.

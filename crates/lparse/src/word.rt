@@ -45,12 +45,8 @@ pub fn word_start(text: &[u8], at: usize) -> usize
     requires { at ≤ length text.now }
     ensures { (result ≡ start_of text.now at) × (result ≤ length text.now) }
 {
-    for i in at..text.len() {
-        if !parts(text[i]) {
-            return i;
-        }
-    }
-    text.len()
+    let rest = &text[at..];
+    at + rest.iter().position(|x| !parts(*x)).unwrap_or(rest.len())
 }
 
 // Where the word that starts there ends.

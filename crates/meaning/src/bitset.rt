@@ -31,6 +31,7 @@ impl Bits {
         }
     }
 
+    // Tried for the three as one closure at each word, and the proof didn't close.
     pub fn union(self, other: Bits) -> Bits
         ensures { members result.w ≡ plus (members self.w) (members other.w) }
     {

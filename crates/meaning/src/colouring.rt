@@ -5,7 +5,7 @@
 // in specs/Written.
 ghost use Rattle.std.specs.Prelude.{◌≡◌, true, ◌<◌, set};
 ghost use Rattle.meaning.specs.Bits.{listed};
-ghost use Rattle.meaning.specs.Colours.{on_side, off_side, side_of};
+ghost use Rattle.meaning.specs.Colours.{side_of};
 ghost use Rattle.meaning.specs.Written.{written, nothing, colour_on, colour_off, colour, chosen};
 
 use crate::RuleNo;
@@ -83,22 +83,6 @@ impl Colouring {
         ensures { written result ≡ colour_off r (written self) }
     {
         self.with(Side::Off, r)
-    }
-
-    // The colouring with the rule put in on by choice, one level deeper.
-    pub fn choose_on(self, r: RuleNo) -> Colouring
-        requires { (r.0 < 255) × (self.level < 255) }
-        ensures { written result ≡ chosen on_side r (written self) }
-    {
-        self.choose(Side::On, r)
-    }
-
-    // The colouring with the rule put in off by choice, one level deeper.
-    pub fn choose_off(self, r: RuleNo) -> Colouring
-        requires { (r.0 < 255) × (self.level < 255) }
-        ensures { written result ≡ chosen off_side r (written self) }
-    {
-        self.choose(Side::Off, r)
     }
 }
 

@@ -1,7 +1,7 @@
 // Text that is gathered in a buffer, so that a line or an answer is written as one: programs that
 // append to the same file then mix no line. A buffer is made with room for the longest line; a word
 // that has no room is left out whole.
-ghost use Rattle.std.specs.Prelude.{◌≡◌, ◌≤◌, length};
+ghost use Rattle.std.specs.Prelude.{◌≡◌, ◌-◌, ◌≤◌, length};
 
 use crate::output::{plain, put_digits};
 use system::{decimal, print};
@@ -17,7 +17,9 @@ impl<'a> Line<'a> {
     ghost use Rattle.talk.specs.Gathered.{gathered, with_byte};
 
     // Nothing yet, in the buffer.
-    pub fn new(room: &'a mut [u8]) -> Line<'a> {
+    pub fn new(room: &'a mut [u8]) -> Line<'a>
+        ensures { gathered result ≡ record { bytes = room.old; held = 0 } }
+    {
         Line { room, held: 0 }
     }
 
@@ -26,8 +28,19 @@ impl<'a> Line<'a> {
         &self.room[..self.held]
     }
 
+    // How many bytes more there is room for.
+    pub fn room_left(&self) -> usize
+        ensures { result ≡
+            length (gathered self.now).bytes - (gathered self.now).held }
+    {
+        self.room.len() - self.held
+    }
+
     // Nothing again.
-    pub fn clear(&mut self) {
+    pub fn clear(&mut self)
+        ensures { gathered self.new ≡
+            record { bytes = (gathered self.old).bytes; held = 0 } }
+    {
         self.held = 0;
     }
 
@@ -43,7 +56,7 @@ impl<'a> Line<'a> {
 
     // The text as it stands.
     pub fn text(&mut self, text: &[u8]) {
-        if self.room.len() - self.held < text.len() {
+        if self.room_left() < text.len() {
             return;
         }
         let end = self.held + text.len();
@@ -60,7 +73,7 @@ impl<'a> Line<'a> {
 
     // The bytes in hexadecimal, in lower case.
     pub fn bytes(&mut self, bytes: &[u8]) {
-        if (self.room.len() - self.held) / 2 < bytes.len() {
+        if self.room_left() / 2 < bytes.len() {
             return;
         }
         self.held += put_digits(bytes, &mut self.room[self.held..]);

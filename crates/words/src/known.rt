@@ -5,7 +5,8 @@ ghost use Rattle.words.specs.Names.{is_between, place_of, whose_of};
 use crate::term::is_same;
 use meaning::AtomNo;
 
-// So many names; where each starts, and where it ends. The later places are 0.
+// So many names; where each starts, and where it ends. The later places are 0. Two arrays, since
+// `make` hands both out: an array of pairs would be taken apart there.
 #[derive(Clone, Copy)]
 pub struct Known {
     pub count: usize,

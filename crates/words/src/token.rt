@@ -33,12 +33,11 @@ fn start_of(text: &[u8], at: usize) -> usize
     requires { at ≤ length text.now }
     ensures { (result ≡ start_of text.now at) × (result ≤ length text.now) }
 {
-    for i in at..text.len() {
-        if !is_blank(text[i]) {
-            return i;
-        }
-    }
-    text.len()
+    let rest = &text[at..];
+    at + rest
+        .iter()
+        .position(|x| !is_blank(*x))
+        .unwrap_or(rest.len())
 }
 
 // Where the word that starts there ends.
@@ -46,12 +45,12 @@ fn end_of(text: &[u8], start: usize) -> usize
     requires { start ≤ length text.now }
     ensures { (result ≡ end_of text.now start) × (result ≤ length text.now) }
 {
-    for i in start..text.len() {
-        if is_parting(text[i]) {
-            return i;
-        }
-    }
-    text.len()
+    let rest = &text[start..];
+    start
+        + rest
+            .iter()
+            .position(|x| is_parting(*x))
+            .unwrap_or(rest.len())
 }
 
 // The next word or line's end, from `at` on.

@@ -12,23 +12,18 @@ every_in-requires c =
     let n : c.args.shape.atoms < 256 = search rules in
     pos-below _ c.args.shape c.requires.0 c.args.r c.requires.1 n _ c.positives.ensures
 
-pub returns-then-not-every_in : goal.returns-then-not-every_in
-returns-then-not-every_in c =
-    sym
-    (not_first _
-    (sym (c.every_in.ensures ∙ every-part _ _ _ c.positives.ensures)
-    ∙ c.if-not-every_in.true))
-
-pub every_in-requires-2 : goal.every_in-requires-2
-every_in-requires-2 c =
+pub every_in-requires-then-every_in : goal.every_in-requires-then-every_in
+every_in-requires-then-every_in c =
     let n : c.args.shape.atoms < 256 = search rules in
     neg-below _ c.args.shape c.requires.0 c.args.r c.requires.1 n _ c.negatives.ensures
 
-pub returns : goal.returns
-returns c =
+pub returns-then-every_in : goal.returns-then-every_in
+returns-then-every_in c =
     then-decides
-    (sym
-    (c.every_in.ensures
-    ∙ every-part _ _ _ c.positives.ensures)
-    ∙ c.if-not-every_in.false)
-    (c.every_in-2.ensures ∙ every-part _ _ _ c.negatives.ensures)
+    (sym (c.every_in.ensures ∙ every-part _ _ _ c.positives.ensures) ∙ c.if-every_in.true)
+    (c.every_in-then-every_in.ensures ∙ every-part _ _ _ c.negatives.ensures)
+
+pub returns-else-every_in : goal.returns-else-every_in
+returns-else-every_in c =
+    c.if-every_in.false
+    ∙ sym (not_first _ (sym (c.every_in.ensures ∙ every-part _ _ _ c.positives.ensures) ∙ c.if-every_in.false))

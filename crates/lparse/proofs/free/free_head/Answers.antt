@@ -23,7 +23,7 @@ loop-word-preserved c =
       (took-behind c.args.text.now c.loop-word.at c.loop-word.due c.take_word.ensures c.in-Ok-Some.word e).1,
       c.loop-word.invariant.1
           ∙ free-turn c.args.text.now c.loop-word.at c.loop-word.due c.loop-word.found c.loop-word.left c.take_word.ensures
-          c.in-Ok-Some.word e c.head_said-here.ensures c.head_by-found.ensures c.left_behind-left.ensures,
+          c.in-Ok-Some.word e c.head_said-here.ensures c.kth_found-found.ensures c.kth_left-left.ensures,
     )
 
 pub returns-in-Err : goal.returns-in-Err

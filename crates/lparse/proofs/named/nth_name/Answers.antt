@@ -23,7 +23,7 @@ loop-word-preserved c =
       (took-behind c.args.text.now c.loop-word.at c.loop-word.due c.take_word.ensures c.in-Ok-Some.word e).1,
       c.loop-word.invariant.1
           ∙ name-turn c.args.text.now c.args.a c.loop-word.at c.loop-word.due c.loop-word.found c.loop-word.left c.take_word.ensures
-          c.in-Ok-Some.word e c.is_named-named.ensures c.found_by-found.ensures c.left_by-left.ensures,
+          c.in-Ok-Some.word e c.name_said-here.ensures c.kth_found-found.ensures c.kth_left-left.ensures,
     )
 
 pub returns-in-Err : goal.returns-in-Err
