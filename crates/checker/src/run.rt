@@ -25,6 +25,7 @@ pub fn run_steps(book: &ReadBook, paper: &[u8], trailer: Trailer, at: usize, c: 
 {
     let mut colours = c;
     let mut i = at;
+    // A step tells how far the next one is: there is no list of places to go through.
     loop {
         match check_step(book, paper, trailer, i, &colours.on.w, &colours.off.w) {
             Step::On(r) => {

@@ -25,12 +25,11 @@ fn is_first(rowed: &RowedBook, on: Bits, mask: &[u64; 4], part: Bits) -> bool
         (heads (the_book rowed.now.book) (of (listed on.w))) }
 {
     let outside = whole(mask).difference(part);
-    let w = outside.w;
-    let off = rules_with(rowed, &w);
-    let mut c = Colouring::empty();
-    c.off = off;
-    let inside = part.w;
-    let verdict = first_alike(rowed, c, Choice::Nothing, &inside, on);
+    let c = Colouring {
+        off: rules_with(rowed, &outside.w),
+        ..Colouring::empty()
+    };
+    let verdict = first_alike(rowed, c, Choice::Nothing, &part.w, on);
     matches!(verdict, Verdict::This)
 }
 
@@ -49,11 +48,10 @@ fn is_first_known(
     ensures { result ≡ fresh (the_book rowed.now.book) (shown_in mask.now)
         (heads (the_book rowed.now.book) (of (listed on.w))) }
 {
-    let k = find_part(seen, n, part);
-    if k < n {
-        return same_rules(rowed.book.shape.rules, on, words_at(seen, k * 2 + 1));
+    match find_part(seen, n, part) {
+        Some(k) => same_rules(rowed.book.shape.rules, on, words_at(seen, k * 2 + 1)),
+        None => is_first(rowed, on, mask, part),
     }
-    is_first(rowed, on, mask, part)
 }
 
 // The same, and a reading that counts is remembered as the next row.

@@ -26,9 +26,11 @@ pub fn tell_clash(rowed: &RowedBook, origin: &[u64; 8], t: Tally) -> Tally
     if t.clash.0 == 255 {
         return t;
     }
-    let mut c = Colouring::empty();
-    c.on = words_at(origin, 0);
-    c.off = words_at(origin, 1);
+    let c = Colouring {
+        on: words_at(origin, 0),
+        off: words_at(origin, 1),
+        ..Colouring::empty()
+    };
     let closed = close(rowed, c);
     let Some(r) = closed.clash else {
         return t;

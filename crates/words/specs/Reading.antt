@@ -5,6 +5,7 @@
 --   decided ..           whether a word may stand where it stands, and what is done with it; or 40, 41 or 42
 --   decision_of l s       the same of a word with these bytes
 --   done due act w s     the state behind the word
+--   number why           the number of a refusal
 --   on_piece p s          what a word or a line's end makes of the state
 --   follow ps s          the same of one after the other
 --   heard s              what the text says; or the number and the place of the first word that cannot stand
@@ -101,15 +102,19 @@ done due Note w s = record { due = due; fixed = s.fixed; names = s.names ++ (w �
 done due (Stand standing a) w s =
     record { due = due; fixed = s.fixed; names = known s.names a w; rules = s.rules; rule = placed standing a s.rule }
 
+-- the number of a refusal
+abbrev pub number : Misplaced → ℕ
+number Form = 40
+number Name = 41
+number TooMany = 42
+
 pub data Outcome : Type 0 where
   goes : State → Outcome
   wrong : ℕ → ℕ → Outcome
 
 unfoldable pub on_decision : Decision → Word → State → Outcome
 on_decision (Ok (due, act)) w s = goes (done due act w s)
-on_decision (Err Form) w s = wrong 40 w.place
-on_decision (Err Name) w s = wrong 41 w.place
-on_decision (Err TooMany) w s = wrong 42 w.place
+on_decision (Err why) w s = wrong (number why) w.place
 
 unfoldable pub decision_of : List ℕ → State → Decision
 decision_of l s =

@@ -17,11 +17,14 @@ pub enum Act {
     Stand(Standing, usize),
 }
 
-// Why a word may not stand there: 40, 41 or 42.
+// Why a word may not stand there.
 #[derive(Clone, Copy)]
 pub enum Misplaced {
+    // 40
     Form,
+    // 41
     Name,
+    // 42
     TooMany,
 }
 

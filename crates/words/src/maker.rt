@@ -4,10 +4,11 @@ ghost use Rattle.book.specs.Format.{book_bytes};
 ghost use Rattle.book.specs.Making.{Made};
 ghost use Rattle.words.specs.declared.step.Fate.TheVariants.{Goes};
 ghost use Rattle.words.specs.Reading.{start};
-ghost use Rattle.words.specs.Make.{told_book, Answer, make_of};
+ghost use Rattle.words.specs.Make.{told_book, unworded, Answer, make_of};
 ghost use Rattle.words.specs.Progress.{reading_of, goes_on, Along};
 
 use crate::answer::Unworded;
+use crate::decision::Misplaced;
 use crate::due::Due;
 use crate::known::Known;
 use crate::opened::Open;
@@ -51,11 +52,21 @@ fn read_text(text: &[u8], draft: &mut [u8; BOOK_BYTES]) -> Reading
     let mut r = begin();
     loop {
         let next = step(text, draft, r);
-        let fate = next.fate;
-        if !goes_on(fate) {
+        if !goes_on(next.fate) {
             return next;
         }
         r = next;
+    }
+}
+
+// The refusal of a word that starts there, or of a line that ends there.
+fn unworded(why: Misplaced, place: usize) -> Unworded
+    ensures { result ≡ unworded why place }
+{
+    match why {
+        Misplaced::Form => Unworded::Form(place),
+        Misplaced::Name => Unworded::Name(place),
+        Misplaced::TooMany => Unworded::TooMany(place),
     }
 }
 
@@ -77,23 +88,18 @@ pub fn make(
 {
     let mut draft = [0u8; BOOK_BYTES];
     let r = read_text(text, &mut draft);
-    let fate = r.fate;
-    let names = r.names;
-    let making = r.making;
-    match fate {
+    match r.fate {
         // Never: reading is over.
         Fate::Goes => Err(Unworded::NoRoom),
-        Fate::Form(place) => Err(Unworded::Form(place)),
-        Fate::Name(place) => Err(Unworded::Name(place)),
-        Fate::TooMany(place) => Err(Unworded::TooMany(place)),
+        Fate::Refused(why, place) => Err(unworded(why, place)),
         Fate::Done => {
-            let n = finish_book(&mut draft, making, names.count as u8);
+            let n = finish_book(&mut draft, r.making, r.names.count as u8);
             if out.len() < n {
                 return Err(Unworded::NoRoom);
             }
             copy_front(&draft[0..n], out);
-            let starts = names.from;
-            let ends = names.to;
+            let starts = r.names.from;
+            let ends = r.names.to;
             *from = starts;
             *to = ends;
             Ok(n)

@@ -29,9 +29,7 @@ use book::{BOOK_BYTES, Making, add_rule};
 pub enum Fate {
     Goes,
     Done,
-    Form(usize),
-    Name(usize),
-    TooMany(usize),
+    Refused(Misplaced, usize),
 }
 
 // How far a text was read, and what it said so far.
@@ -119,9 +117,7 @@ fn take_word(text: &[u8], r: Reading, from: usize, to: usize) -> Reading
 {
     match weigh(text, &text[from..to], r) {
         Ok((due, act)) => take(r, due, act, from, to),
-        Err(Misplaced::Form) => stop(r, Fate::Form(from)),
-        Err(Misplaced::Name) => stop(r, Fate::Name(from)),
-        Err(Misplaced::TooMany) => stop(r, Fate::TooMany(from)),
+        Err(why) => stop(r, Fate::Refused(why, from)),
     }
 }
 
@@ -156,7 +152,7 @@ fn pass_line(
             making,
             ..r
         },
-        Ended::Missing => stop(r, Fate::Form(place)),
+        Ended::Missing => stop(r, Fate::Refused(Misplaced::Form, place)),
     }
 }
 

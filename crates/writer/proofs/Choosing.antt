@@ -11,7 +11,7 @@ use Rattle.std.specs.Prelude.{Option, Some, None, is_some}
 use Rattle.meaning.specs.declared.AtomNo.{AtomNo}
 use Rattle.meaning.specs.declared.RuleNo.{RuleNo}
 use Rattle.meaning.specs.Books.{Rules, Book, count, InBook}
-use Rattle.meaning.specs.Colours.{Pair, heads, all_in, may_on, blocked, uncoloured, clashing}
+use Rattle.meaning.specs.Colours.{Pair, on_side, off_side, heads, all_in, may_on, blocked, uncoloured, clashing}
 use Rattle.meaning.specs.declared.kind.Kind.{Kind}
 use Rattle.meaning.specs.declared.kind.Kind.TheVariants.{Naming, Clearing}
 use Rattle.meaning.specs.declared.kind.Claim.{Claim}
@@ -30,7 +30,7 @@ use Rattle.book.proofs.Places.{in-shape}
 use Rattle.book.proofs.Asked.{goes-on-may_on, is-blocked-blocked}
 use Rattle.closing.specs.Picked.{picked}
 use Rattle.closing.proofs.Searches.{lowest-in}
-use Rattle.writer.specs.Steps.{tabled_by, tabled, new_on, new_off, Does}
+use Rattle.writer.specs.Steps.{tabled_by, tabled, new_on, new_off, new_by, Does}
 use Rattle.writer.specs.declared.step.Step.{Step}
 
 -- ---- an answer
@@ -56,15 +56,15 @@ lowest-same b s t f = go (lowest b t) refl
 module _ (s : List ℕ) (h : Shape) (e : ReadAs s h) (n : h.atoms < 256) (on off headed : List Bool)
     (f : headed ≡ atom_table (heads (book_in s) (of on))) where
   pub new-on-lowest : (lost : List Bool) → lost ≡ atom_table (all_in (book_in s) (of off))
-      → lowest (book_in s) (new_on (book_in s) headed lost on) ≡ lowest (book_in s) (less (may_on (book_in s) (lent on off)) (of on))
-  unfolding new_on
+      → lowest (book_in s) (new_by on_side (book_in s) headed lost on) ≡ lowest (book_in s) (less (may_on (book_in s) (lent on off)) (of on))
+  unfolding new_by new_on
   new-on-lowest lost g = lowest-same (book_in s) _ _ (λ r l. ap (λ t. t && not (of on r))
       (goes-on-may_on s h e n r (in-shape s h e r l) (lent on off) headed f lost g))
 
-  pub new-off-lowest : lowest (book_in s) (new_off (book_in s) headed off)
+  pub new-off-lowest : (lost : List Bool) → lowest (book_in s) (new_by off_side (book_in s) headed lost off)
       ≡ lowest (book_in s) (less (blocked (book_in s) (lent on off)) (of off))
-  unfolding new_off
-  new-off-lowest = lowest-same (book_in s) _ _ (λ r l. ap (λ t. t && not (of off r))
+  unfolding new_by new_off
+  new-off-lowest lost = lowest-same (book_in s) _ _ (λ r l. ap (λ t. t && not (of off r))
       (is-blocked-blocked s h e n r (in-shape s h e r l) (lent on off) headed f))
 
 -- ---- 45

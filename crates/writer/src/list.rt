@@ -7,12 +7,12 @@ ghost use Rattle.meaning.specs.Engine.{unsupported};
 ghost use Rattle.meaning.specs.Lowest.{rules_in};
 ghost use Rattle.meaning.specs.Bits.{listed};
 ghost use Rattle.meaning.specs.Written.{of, lent};
-ghost use Rattle.book.specs.Format.{book_in, ReadAs};
+ghost use Rattle.book.specs.ReadBook.{the_book};
 ghost use Rattle.writer.specs.Draft.{Writes};
 ghost use Rattle.writer.specs.Steps.{outside, Listed};
 
 use crate::draft::write;
-use book::Shape;
+use book::ReadBook;
 use closing::support;
 use meaning::{PAPER_BYTES, has, put};
 
@@ -40,16 +40,15 @@ fn list_unmarked<'a>(
 
 // Writes the rules outside support that aren't off over whatever the set held; how many they
 // are. Whatever is on, this asks only of what is off.
-pub fn list_unsupported(book: &[u8], shape: Shape, off: &[u64; 4], dropped: &mut [u64; 4]) -> u8
-    requires { ReadAs book.now shape }
-    ensures { (on : List Bool) → Listed (book_in book.now) result
+pub fn list_unsupported(book: &ReadBook, off: &[u64; 4], dropped: &mut [u64; 4]) -> u8
+    ensures { (on : List Bool) → Listed (the_book book.now) result
         (listed dropped.new)
-        (rules_in (book_in book.now)
-        (unsupported (book_in book.now) (lent on (listed off.now)))) }
+        (rules_in (the_book book.now)
+        (unsupported (the_book book.now) (lent on (listed off.now)))) }
 {
     let mut marks = [0u64; 4];
-    support(book, shape, off, &mut marks);
-    list_unmarked(shape.rules, &marks, off, dropped)
+    support(book, off, &mut marks);
+    list_unmarked(book.shape.rules, &marks, off, dropped)
 }
 
 // Writes the listed rules and puts them in off; the length afterwards.

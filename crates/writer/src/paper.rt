@@ -3,7 +3,7 @@
 ghost use Rattle.std.specs.Prelude.{◌≡◌, ◌<◌};
 ghost use Rattle.meaning.specs.Told.{Answered};
 ghost use Rattle.meaning.specs.Claim.{claimed};
-ghost use Rattle.book.specs.Format.{book_in, ReadAs};
+ghost use Rattle.book.specs.ReadBook.{the_book};
 ghost use Rattle.writer.specs.Write.{Handed, told, witnessed, unwitnessed, write_in, write_of};
 ghost use Rattle.writer.specs.Write.{name_of, clear_of, contradict_of};
 
@@ -11,38 +11,37 @@ use crate::answer::{Unwritten, unproved};
 use crate::draft::write_trailer;
 use crate::hand_over::{finish, hand_over};
 use crate::split::{Course, write_steps};
-use book::{Shape, read_book};
+use book::ReadBook;
 use meaning::{AtomNo, Claim, Colouring, Kind, PAPER_BYTES};
 use walk::{Halt, first};
 
 // A claim that stands on a reading: the walk to the first one, the paper's walk, and the witness of
 // that reading, in a draft that is handed over when it is whole.
 fn write_witnessed(
-    book: &[u8],
-    shape: Shape,
+    book: &ReadBook,
     claim: Claim,
     limit: u32,
     paper: &mut [u8],
 ) -> Result<(u32, usize), Unwritten>
-    requires { ReadAs book.now shape × (claimed claim < 255) }
+    requires { claimed claim < 255 }
     ensures { ◌≡◌ {A = Answered Handed}
         (record { told = told result; buffer = paper.new })
-        (witnessed (book_in book.now) claim limit paper.old) }
+        (witnessed (the_book book.now) claim limit paper.old) }
 {
     let mut row = [0u8; Colouring::ATOMS];
-    let reading = first(book, shape, limit, &mut row);
+    let reading = first(*book, limit, &mut row);
     match reading.halt {
         Halt::Going => return Err(Unwritten::Fewer(reading.tries, reading.clash)),
         Halt::Limit => return Err(Unwritten::Stopped(limit)),
         Halt::Full => {}
     }
     let mut draft = [0u8; PAPER_BYTES];
-    let steps = write_steps(book, shape, claim, limit, &mut draft);
+    let steps = write_steps(book, claim, limit, &mut draft);
     match steps.course {
         Course::Limited => Err(Unwritten::Stopped(limit)),
         Course::Refuted => Err(unproved(claim)),
         Course::Writing => {
-            let length = finish(book, shape, claim, &row, &mut draft, steps.length);
+            let length = finish(book, claim, &row, &mut draft, steps.length);
             hand_over(steps.tries, &draft, length, paper)
         }
     }
@@ -50,19 +49,18 @@ fn write_witnessed(
 
 // A claim that stands on no reading: the paper's walk, and the trailer just behind its steps.
 fn write_unwitnessed(
-    book: &[u8],
-    shape: Shape,
+    book: &ReadBook,
     claim: Claim,
     limit: u32,
     paper: &mut [u8],
 ) -> Result<(u32, usize), Unwritten>
-    requires { ReadAs book.now shape × (claimed claim < 255) }
+    requires { claimed claim < 255 }
     ensures { ◌≡◌ {A = Answered Handed}
         (record { told = told result; buffer = paper.new })
-        (unwitnessed (book_in book.now) claim limit paper.old) }
+        (unwitnessed (the_book book.now) claim limit paper.old) }
 {
     let mut draft = [0u8; PAPER_BYTES];
-    let walked = write_steps(book, shape, claim, limit, &mut draft);
+    let walked = write_steps(book, claim, limit, &mut draft);
     match walked.course {
         Course::Limited => Err(Unwritten::Stopped(limit)),
         Course::Refuted => Err(unproved(claim)),
@@ -75,25 +73,23 @@ fn write_unwitnessed(
 
 // A claim about a good book: an atom that the book doesn't have is refused.
 fn write_in(
-    book: &[u8],
-    shape: Shape,
+    book: &ReadBook,
     claim: Claim,
     limit: u32,
     paper: &mut [u8],
 ) -> Result<(u32, usize), Unwritten>
-    requires { ReadAs book.now shape }
     ensures { ◌≡◌ {A = Answered Handed}
         (record { told = told result; buffer = paper.new })
-        (write_in (book_in book.now) claim limit paper.old) }
+        (write_in (the_book book.now) claim limit paper.old) }
 {
     match claim {
         Claim::About(_, atom) => {
-            if shape.atoms <= atom.0 {
+            if book.shape.atoms <= atom.0 {
                 return Err(Unwritten::NoAtom);
             }
-            write_witnessed(book, shape, claim, limit, paper)
+            write_witnessed(book, claim, limit, paper)
         }
-        Claim::NoReading => write_unwitnessed(book, shape, claim, limit, paper),
+        Claim::NoReading => write_unwitnessed(book, claim, limit, paper),
     }
 }
 
@@ -108,8 +104,8 @@ pub fn write_claim(
         (record { told = told result; buffer = paper.new })
         (write_of book.now claim limit paper.old) }
 {
-    let shape = read_book(book)?;
-    write_in(book, shape, claim, limit, paper)
+    let book = ReadBook::read(book)?;
+    write_in(&book, claim, limit, paper)
 }
 
 // Writes the engine's own paper that the atom is certain to the front of the buffer, or says why

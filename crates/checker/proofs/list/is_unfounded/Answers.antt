@@ -1,5 +1,4 @@
 -- The set that is off or listed is that of the step's condition.
-use native.Mathlib.Omega.{arith}
 use mathlib.Core.Path.{◌∙◌, ap}
 use mathlib.Core.List.{List, map}
 use Prim.Native.Nat.{ℕ}
@@ -7,13 +6,8 @@ use Rattle.meaning.specs.Books.{rule_no}
 use Rattle.meaning.specs.Bits.{listed}
 use Rattle.meaning.specs.Colours.{plus}
 use Rattle.meaning.specs.Written.{of}
-use Rattle.checker.proofs.Lists.{below_more}
 use Rattle.checker.proofs.Conditions.{unfounded-by}
 use Rattle.checker.proofs.list.is_unfounded.Goals as goal
-
-pub with_rules-gone-requires : goal.with_rules-gone-requires
-with_rules-gone-requires c =
-    below_more (omega arith) c.requires
 
 pub returns : goal.returns
 returns c =

@@ -1,6 +1,5 @@
 -- find keeps its promise: each return is one case of what is answered, along the no_mo_re walk.
 use mathlib.Core.Path.{ap}
-use native.Mathlib.Omega.{arith}
 use Rattle.std.proofs.lemmas.Result.{err_from_is_err_and}
 use Rattle.book.specs.ReadBook.{shape_in}
 use Rattle.walk.proofs.Answering.{find-no-number, find-no-room, find-refused, find-walked}
@@ -17,9 +16,6 @@ returns-then-k-eq0 c = find-no-number _ _ (rw c.in_ok-book.ensures.bytes at c.in
 pub returns-then-answer-book : goal.returns-then-answer-book
 returns-then-answer-book c =
     find-no-room _ _ (rw c.in_ok-book.ensures.bytes at c.in_ok-book.book.read_as) _ _ _ _ c.if-k-eq0.false c.if-answer-book.true
-
-pub kth-requires : goal.kth-requires
-kth-requires c = let z = c.if-k-eq0.false in (omega arith, c.if-answer-book.false)
 
 pub returns : goal.returns
 returns c =

@@ -1,8 +1,6 @@
 -- The no_mo_re walk meets its contract: each return is one way of the laws in Walking, with what the calls on that way said. The measure is
 -- the number of rules without a colour: each side of a fork has fewer.
-use mathlib.Core.Path.{ap}
 use Rattle.meaning.specs.Colours.{on_side, off_side}
-use Rattle.walk.specs.declared.tally.Tally.{Tally}
 use Rattle.walk.proofs.Walking.{room-tried, room-run}
 use Rattle.closing.proofs.Good.{good-book, good-few}
 use Rattle.nomore.proofs.Walking.{rest-coloured, clash-told, lowest-told, propagates-told, leaf-told, forks-told, side-falls, side-grows}
@@ -16,18 +14,10 @@ pub returns-then-wanted-t : goal.returns-then-wanted-t
 returns-then-wanted-t μ c =
     walk-stops _ _ _ c.in-Going.is _ c.if-wanted-t.true c.stopped.ensures
 
-pub grow-d-requires : goal.grow-d-requires
-grow-d-requires μ c = c.requires.1
-
 pub returns-in-Some : goal.returns-in-Some
 returns-in-Some μ c =
     walk-clash _ _ _ c.in-Going.is c.if-wanted-t.false (propagates-told c.args.rowed.now.book c.args.choice _ _ c.grow-d.ensures.0)
     (clash-told _ _ c.grow-d.ensures.1 c.in-Some.is) c.clashed.ensures
-
-pub test-requires : goal.test-requires
-test-requires μ c =
-    let e = c.tried-next.ensures in
-    (ap (λ (x : Tally). x.halt) e, room-tried c.requires.0 c.in-Going.is e)
 
 pub returns-in_default-lowest_supported : goal.returns-in_default-lowest_supported
 returns-in_default-lowest_supported μ c =

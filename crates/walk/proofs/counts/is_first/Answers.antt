@@ -11,8 +11,8 @@ use Rattle.walk.proofs.counts.is_first.Goals as goal
 pub first_alike-verdict-requires : goal.first_alike-verdict-requires
 first_alike-verdict-requires c =
     let outside = c.difference-outside.ensures ∙ ap (λ (w : List ℕ). less (members w) (members c.args.part.w)) c.whole.ensures in (
-      start-shallow c.args.rowed.now.rowed _ _ _ c.requires.1 _ _ outside c.rules_with-off.ensures (good-few (good-book c.args.rowed.now.book))
-          c.empty-c.ensures refl,
+      start-shallow c.args.rowed.now.rowed _ _ _ c.requires.1 _ _ outside c.rules_with.ensures (good-few (good-book c.args.rowed.now.book))
+          c.empty.ensures refl,
       tt,
     )
 
@@ -20,12 +20,12 @@ pub returns-in_default : goal.returns-in_default
 returns-in_default c =
     let outside = c.difference-outside.ensures ∙ ap (λ (w : List ℕ). less (members w) (members c.args.part.w)) c.whole.ensures in
     not-this _ c.in_default.not-This
-    ∙ sym (start-tells c.args.rowed.now.rowed _ _ _ c.requires.1 _ _ outside c.rules_with-off.ensures (good-few (good-book c.args.rowed.now.book))
-    c.empty-c.ensures refl c.requires.0 c.first_alike-verdict.ensures)
+    ∙ sym (start-tells c.args.rowed.now.rowed _ _ _ c.requires.1 _ _ outside c.rules_with.ensures (good-few (good-book c.args.rowed.now.book))
+    c.empty.ensures refl c.requires.0 c.first_alike-verdict.ensures)
 
 pub returns-in-This : goal.returns-in-This
 returns-in-This c =
     let outside = c.difference-outside.ensures ∙ ap (λ (w : List ℕ). less (members w) (members c.args.part.w)) c.whole.ensures in
     this-told _ c.in-This.is
-    ∙ sym (start-tells c.args.rowed.now.rowed _ _ _ c.requires.1 _ _ outside c.rules_with-off.ensures (good-few (good-book c.args.rowed.now.book))
-    c.empty-c.ensures refl c.requires.0 c.first_alike-verdict.ensures)
+    ∙ sym (start-tells c.args.rowed.now.rowed _ _ _ c.requires.1 _ _ outside c.rules_with.ensures (good-few (good-book c.args.rowed.now.book))
+    c.empty.ensures refl c.requires.0 c.first_alike-verdict.ensures)

@@ -8,10 +8,10 @@ returns-then-t-eq255 c = told_none _ _ _ c.if-t-eq255.true
 
 pub returns-in_default : goal.returns-in_default
 returns-in_default c =
-    told-still _ _ _ c.if-t-eq255.false (origin-read _ _ _ c.empty-c.ensures c.words_at-c.ensures c.words_at-c-2.ensures refl) _
+    told-still _ _ _ c.if-t-eq255.false (origin-read _ _ _ c.empty.ensures c.words_at.ensures c.words_at-2.ensures refl) _
     c.close-closed.ensures.1 c.in_default.is
 
 pub returns : goal.returns
 returns c =
-    told-rule _ _ _ c.if-t-eq255.false (origin-read _ _ _ c.empty-c.ensures c.words_at-c.ensures c.words_at-c-2.ensures refl) _
+    told-rule _ _ _ c.if-t-eq255.false (origin-read _ _ _ c.empty.ensures c.words_at.ensures c.words_at-2.ensures refl) _
     c.close-closed.ensures.1 c.in-Some.is

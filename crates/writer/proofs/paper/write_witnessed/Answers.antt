@@ -20,7 +20,7 @@ returns-in-Limit c = write-first-limit _ _ _ _ c.first-reading.ensures c.in-Limi
 pub finish-length-requires : goal.finish-length-requires
 finish-length-requires c =
     let m = stands-most c.write_steps-steps.ensures.bytes in
-    (c.requires.0, omega arith)
+    omega arith
 
 pub hand_over-requires : goal.hand_over-requires
 hand_over-requires c =

@@ -13,5 +13,5 @@ use Rattle.writer.proofs.step.is_clashing.Goals as goal
 pub returns : goal.returns
 returns c =
     c.is_some.ensures
-    ∙ clash-told _ (shape-count _ _ c.requires) _ _ c.lowest_clash.ensures
-    ∙ ap₂ (λ (a b : List ℕ). clashing (book_in c.args.book.now) (lent (listed a) (listed b))) c.whole.ensures c.whole-2.ensures
+    ∙ clash-told _ (shape-count _ _ c.args.book.now.read_as) _ _ c.lowest_clash.ensures
+    ∙ ap₂ (λ (a b : List ℕ). clashing (book_in c.args.book.now.bytes.now) (lent (listed a) (listed b))) c.whole.ensures c.whole-2.ensures

@@ -9,12 +9,12 @@ use Rattle.writer.proofs.witness.may_list.Goals as goal
 use Rattle.writer.proofs.witness.may_list.Goals.{then-not-has, else-not-has}
 
 pub every_in-requires : goal.every_in-requires
-every_in-requires c = pos-below _ _ c.requires.0 _ c.requires.1 (omega arith) _ c.positives.ensures
+every_in-requires c = pos-below _ _ c.args.book.now.read_as _ c.requires.0 (omega arith) _ c.positives.ensures
 
 pub returns-then-generates : goal.returns-then-generates
 returns-then-generates c = elim c.if-not-has.branch [
   | then-not-has w ↦
-      list-may _ c.args.shape c.requires.0 (omega arith) c.args.r c.requires.1 _ _ c.requires.2 _ c.positives.ensures
+      list-may _ c.args.book.now.shape c.args.book.now.read_as (omega arith) c.args.r c.requires.0 _ _ c.requires.1 _ c.positives.ensures
       (sym c.has.ensures ∙ w.if-not-has.true) _ w.generates.ensures (sym w.value-is ∙ c.if-generates.true) c.every_in.ensures
   | else-not-has w ↦ true-and-false c.if-generates.true (w.value-is ∙ ap not w.if-not-has.false)
 ]

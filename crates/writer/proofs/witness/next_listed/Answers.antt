@@ -7,7 +7,7 @@ use Rattle.writer.proofs.witness.next_listed.Goals as goal
 
 pub returns-then-may_list : goal.returns-then-may_list
 returns-then-may_list c =
-    none_found _ c.loop-r.invariant _ (shape-count _ _ c.requires) (omega arith) (sym c.may_list.ensures ∙ c.if-may_list.true)
+    none_found _ c.loop-r.invariant _ (shape-count _ _ c.args.book.now.read_as) (omega arith) (sym c.may_list.ensures ∙ c.if-may_list.true)
 
 pub returns : goal.returns
-returns c = none_at_all _ c.loop-r.invariant _ (shape-count _ _ c.requires) (omega arith)
+returns c = none_at_all _ c.loop-r.invariant _ (shape-count _ _ c.args.book.now.read_as) (omega arith)

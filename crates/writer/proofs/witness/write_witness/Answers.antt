@@ -20,13 +20,13 @@ returns-in_default c = listing-ends _ _ _ _ c.loop-count.invariant (picked_none 
 
 pub loop-count-preserved : goal.loop-count-preserved
 loop-count-preserved c =
-    let e = shape-count _ _ c.requires in
+    let e = shape-count _ _ c.args.book.now.read_as in
     listing-more _ _ _ _ c.loop-count.invariant (picked-one c.next_listed.ensures c.in-Some.is) (omega arith)
     c.put.ensures (omega arith) c.write-n.ensures
 
 pub returns : goal.returns
 unfolding witness_of
 returns c =
-    let e : c.args.shape.rules ≡ c.loop-count.count = omega arith in
-    let w = listing_full _ _ _ _ c.loop-count.invariant (omega (arith, shape-count _ _ c.requires)) in
+    let e : c.args.book.now.shape.rules ≡ c.loop-count.count = omega arith in
+    let w = listing_full _ _ _ _ c.loop-count.invariant (omega (arith, shape-count _ _ c.args.book.now.read_as)) in
     (e ∙ w.0, w.1)
