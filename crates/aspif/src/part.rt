@@ -8,7 +8,7 @@ use crate::scan::read_item;
 use meaning::Colouring;
 
 // How many atoms a part has, the largest number of them, where the text goes on, and whether all
-// of them are below 255.
+// of them are below 255. The atoms are in the caller's table, so an Option here would hold nothing.
 #[derive(Clone, Copy)]
 pub struct Part {
     pub count: usize,
