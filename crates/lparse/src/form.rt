@@ -62,7 +62,8 @@ fn add_entry(
     }
 }
 
-// "h if not a, not h"
+// "h if not a, not h". Apart from the next: tried as arms of one `match` with a guard for 255, and
+// the proof didn't close behind the guard.
 fn add_plus(draft: &mut [u8; BOOK_BYTES], m: Making, h: usize, n: usize) -> Making
     ensures { (k : ℕ) → h ≡ capped k → n < k →
         Adds (entry_rules Plus k n) m draft.old result draft.new }

@@ -87,9 +87,8 @@ fn import_fine(text: &[u8], atoms: &[u32], out: &mut [u8]) -> Result<usize, Unim
 {
     let mut draft = [0u8; BOOK_BYTES];
     let f = make(text, atoms, &mut draft);
-    let m = f.making;
     let count = count_atoms(f.entry, f.helper);
-    let Some(n) = lay_out(&mut draft, m, count, out.len()) else {
+    let Some(n) = lay_out(&mut draft, f.making, count, out.len()) else {
         return Err(Unimported::NoFit);
     };
     copy_front(&draft[0..n], out);

@@ -52,8 +52,7 @@ fn read_text(text: &[u8], draft: &mut [u8; BOOK_BYTES]) -> Reading
     let mut r = begin();
     loop {
         let next = step(text, draft, r);
-        let fate = next.fate;
-        if !goes_on(fate) {
+        if !goes_on(next.fate) {
             return next;
         }
         r = next;
@@ -89,21 +88,18 @@ pub fn make(
 {
     let mut draft = [0u8; BOOK_BYTES];
     let r = read_text(text, &mut draft);
-    let fate = r.fate;
-    let names = r.names;
-    let making = r.making;
-    match fate {
+    match r.fate {
         // Never: reading is over.
         Fate::Goes => Err(Unworded::NoRoom),
         Fate::Refused(why, place) => Err(unworded(why, place)),
         Fate::Done => {
-            let n = finish_book(&mut draft, making, names.count as u8);
+            let n = finish_book(&mut draft, r.making, r.names.count as u8);
             if out.len() < n {
                 return Err(Unworded::NoRoom);
             }
             copy_front(&draft[0..n], out);
-            let starts = names.from;
-            let ends = names.to;
+            let starts = r.names.from;
+            let ends = r.names.to;
             *from = starts;
             *to = ends;
             Ok(n)
