@@ -9,14 +9,14 @@ ghost use Rattle.meaning.specs.Colours.{heads, all_in};
 ghost use Rattle.book.specs.Numbers.{told};
 ghost use Rattle.book.specs.Format.{read_of, told_of, ReadAs};
 ghost use Rattle.book.specs.Writing.{atom_bytes};
-ghost use Rattle.book.specs.Tables.{atoms_in, atom_table};
+ghost use Rattle.book.specs.Tables.{atoms_in, atom_table, said_by};
+ghost use Rattle.book.specs.Places.{RuleAt};
 
-use crate::conditions::{goes_on, is_blocked, is_starved};
+use crate::conditions::{every_in, some_in};
+use crate::number::{u16_at, wide};
 use crate::reader::{Shape, read_book};
 use crate::refusal::Refusal;
-use crate::rules::{head, negatives, positives};
-use crate::tables::{heads_of, lost_in};
-use meaning::{AtomNo, Colouring, RuleNo};
+use meaning::{AtomNo, Colouring, RuleNo, has};
 
 #[derive(Clone, Copy)]
 pub struct ReadBook<'a> {
@@ -38,12 +38,21 @@ impl<'a> ReadBook<'a> {
         Ok(ReadBook { bytes, shape })
     }
 
+    // Where the record of rule r starts.
+    fn start_of(&self, r: RuleNo) -> usize
+        requires { r.0 < self.now.shape.rules }
+        ensures { RuleAt self.now.bytes.now result (rule (the_book self.now) r) }
+    {
+        u16_at(self.bytes, self.shape.index + 2 * wide(r.0))
+    }
+
     // The head of rule r.
     pub fn head(&self, r: RuleNo) -> AtomNo
         requires { r.0 < self.now.shape.rules }
         ensures { result ≡ (rule (the_book self.now) r).head }
     {
-        head(self.bytes, self.shape, r)
+        let start = self.start_of(r);
+        AtomNo(self.bytes[start])
     }
 
     // The positive atoms of rule r, one byte each, as the part of the book that holds them.
@@ -51,7 +60,11 @@ impl<'a> ReadBook<'a> {
         requires { r.0 < self.now.shape.rules }
         ensures { result.now ≡ atom_bytes (rule (the_book self.now) r).pos }
     {
-        positives(self.bytes, self.shape, r)
+        let start = self.start_of(r);
+        let p = wide(self.bytes[start + 1]);
+        let first = start + 3;
+        let end = first + p;
+        &self.bytes[first..end]
     }
 
     // The negative atoms of rule r, likewise.
@@ -59,7 +72,12 @@ impl<'a> ReadBook<'a> {
         requires { r.0 < self.now.shape.rules }
         ensures { result.now ≡ atom_bytes (rule (the_book self.now) r).neg }
     {
-        negatives(self.bytes, self.shape, r)
+        let start = self.start_of(r);
+        let p = wide(self.bytes[start + 1]);
+        let n = wide(self.bytes[start + 2]);
+        let first = start + 3 + p;
+        let end = first + n;
+        &self.bytes[first..end]
     }
 
     // The rule goes on: each positive atom is in the one table and each negative atom in the other.
@@ -74,7 +92,7 @@ impl<'a> ReadBook<'a> {
             (every (atoms_in headed.now) (rule (the_book self.now) r).pos
             && every (atoms_in lost.now) (rule (the_book self.now) r).neg) }
     {
-        goes_on(self.bytes, self.shape, r, headed, lost)
+        every_in(self.positives(r), headed) && every_in(self.negatives(r), lost)
     }
 
     // The rule goes off: some negative atom is in the table.
@@ -83,7 +101,7 @@ impl<'a> ReadBook<'a> {
         ensures { result ≡
             some (atoms_in headed.now) (rule (the_book self.now) r).neg }
     {
-        is_blocked(self.bytes, self.shape, r, headed)
+        some_in(self.negatives(r), headed)
     }
 
     // The rule goes off: some positive atom has all its rules off.
@@ -93,7 +111,20 @@ impl<'a> ReadBook<'a> {
             some (all_in (the_book self.now) (of (listed off.now)))
             (rule (the_book self.now) r).pos }
     {
-        is_starved(self.bytes, self.shape, r, off)
+        let body = self.positives(r);
+        let mut starved = false;
+        'atoms: for a in body {
+            for q in 0..self.shape.rules {
+                if !has(off, q) {
+                    if self.head(RuleNo(q)) == AtomNo(*a) {
+                        continue 'atoms;
+                    }
+                }
+            }
+            starved = true;
+            break 'atoms;
+        }
+        starved
     }
 
     // Writes the heads of the rules of the set over whatever the table held.
@@ -101,7 +132,7 @@ impl<'a> ReadBook<'a> {
         ensures { out.new ≡
             atom_table (heads (the_book self.now) (of (listed set.now))) }
     {
-        heads_of(self.bytes, self.shape, set, out);
+        self.fill(set, true, out);
     }
 
     // Writes the atoms all of whose rules are in the set over whatever the table held. An atom with no
@@ -110,6 +141,21 @@ impl<'a> ReadBook<'a> {
         ensures { out.new ≡
             atom_table (all_in (the_book self.now) (of (listed set.now))) }
     {
-        lost_in(self.bytes, self.shape, set, out);
+        self.fill(set, false, out);
+    }
+
+    // Writes `said` for each atom that is the head of a rule that is in the set, or, where `said` is
+    // false, of one that is not; and the opposite for every other atom.
+    fn fill(&self, set: &[u64; 4], said: bool, out: &mut [bool; Colouring::ATOMS])
+        ensures { out.new ≡
+            atom_table (said_by said (the_book self.now) (of (listed set.now))) }
+    {
+        *out = [!said; Colouring::ATOMS];
+        for r in 0..self.shape.rules {
+            if has(set, r) == said {
+                let a = wide(self.head(RuleNo(r)).0);
+                out[a] = said;
+            }
+        }
     }
 }

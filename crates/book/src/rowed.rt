@@ -9,10 +9,10 @@ ghost use Rattle.meaning.specs.Colours.{may_on};
 ghost use Rattle.book.specs.Format.{book_in};
 ghost use Rattle.book.specs.RuleRows.{row, headed_by, lost_by, RuleRows};
 
-use crate::asking::{every_headed, is_headed, is_lost, may_go_on};
+use crate::number::wide;
 use crate::read::ReadBook;
-use crate::standing::{head_row, make_rows, neg_row, pos_row};
-use meaning::{AtomNo, Bits, RuleNo};
+use crate::standing::{enter_rule, row_at};
+use meaning::{AtomNo, Bits, RuleNo, whole};
 
 #[derive(Clone, Copy)]
 pub struct RowedBook<'a> {
@@ -29,7 +29,9 @@ impl<'a> RowedBook<'a> {
         ensures { result.book ≡ book.entry }
     {
         let mut rows = [0u64; 3072];
-        make_rows(book.bytes, book.shape, &mut rows);
+        for r in 0..book.shape.rules {
+            enter_rule(&book, r, &mut rows);
+        }
         RowedBook { book, rows }
     }
 
@@ -37,35 +39,35 @@ impl<'a> RowedBook<'a> {
     pub fn head_row(&self, a: AtomNo) -> Bits
         ensures { result.w ≡ row self.now.rows a.0 }
     {
-        head_row(&self.rows, a)
+        row_at(&self.rows, wide(a.0))
     }
 
     // The rules with that atom among their positive ones.
     pub fn pos_row(&self, a: AtomNo) -> Bits
         ensures { result.w ≡ row self.now.rows (256 + a.0) }
     {
-        pos_row(&self.rows, a)
+        row_at(&self.rows, 256 + wide(a.0))
     }
 
     // The rules with that atom among their negative ones.
     pub fn neg_row(&self, a: AtomNo) -> Bits
         ensures { result.w ≡ row self.now.rows (512 + a.0) }
     {
-        neg_row(&self.rows, a)
+        row_at(&self.rows, 512 + wide(a.0))
     }
 
     // The atom is the head of a rule of the set.
     pub fn is_headed(&self, a: AtomNo, on: &[u64; 4]) -> bool
         ensures { result ≡ headed_by self.now.rows on.now a }
     {
-        is_headed(&self.rows, a, on)
+        self.head_row(a).meets(whole(on))
     }
 
     // All rules of the atom are in the set.
     pub fn is_lost(&self, a: AtomNo, off: &[u64; 4]) -> bool
         ensures { result ≡ lost_by self.now.rows off.now a }
     {
-        is_lost(&self.rows, a, off)
+        self.head_row(a).is_within(whole(off))
     }
 
     // Every atom of the part is the head of a rule of the set.
@@ -73,7 +75,15 @@ impl<'a> RowedBook<'a> {
         ensures { result ≡
             every (headed_by self.now.rows on.now) (map atom_no part.now) }
     {
-        every_headed(part, &self.rows, on)
+        part.iter().all(|a| self.is_headed(AtomNo(*a), on))
+    }
+
+    // Of every atom of the part all rules are in the set.
+    fn every_lost(&self, part: &[u8], off: &[u64; 4]) -> bool
+        ensures { result ≡
+            every (lost_by self.now.rows off.now) (map atom_no part.now) }
+    {
+        part.iter().all(|a| self.is_lost(AtomNo(*a), off))
     }
 
     // The rule may go on: each positive atom is the head of an on rule, and each negative atom has all
@@ -83,6 +93,7 @@ impl<'a> RowedBook<'a> {
         ensures { result ≡ may_on (the_book self.now.book)
             (lent (listed on.now) (listed off.now)) r }
     {
-        may_go_on(self.book.bytes, self.book.shape, r, &self.rows, on, off)
+        self.every_headed(self.book.positives(r), on)
+            && self.every_lost(self.book.negatives(r), off)
     }
 }

@@ -1,29 +1,23 @@
-// The rules of a book that was read as good, handed out in place. Nothing is checked again.
+// The rules of a good book and the heads of a set of them, for who has its bytes and its shape apart.
 ghost use Rattle.std.specs.Prelude.{◌≡◌, ◌<◌};
 ghost use Rattle.meaning.specs.Books.{rule};
+ghost use Rattle.meaning.specs.Bits.{listed};
+ghost use Rattle.meaning.specs.Written.{of};
+ghost use Rattle.meaning.specs.Colours.{heads};
 ghost use Rattle.book.specs.Format.{book_in, ReadAs};
-ghost use Rattle.book.specs.Places.{RuleAt};
+ghost use Rattle.book.specs.Tables.{atom_table};
 ghost use Rattle.book.specs.Writing.{atom_bytes};
 
-use crate::number::{u16_at, wide};
+use crate::read::ReadBook;
 use crate::reader::Shape;
-use meaning::{AtomNo, RuleNo};
-
-// Where the record of rule r starts.
-fn start_of(book: &[u8], shape: Shape, r: RuleNo) -> usize
-    requires { ReadAs book.now shape × (r.0 < shape.rules) }
-    ensures { RuleAt book.now result (rule (book_in book.now) r) }
-{
-    u16_at(book, shape.index + 2 * wide(r.0))
-}
+use meaning::{AtomNo, Colouring, RuleNo};
 
 // The head of rule r.
 pub fn head(book: &[u8], shape: Shape, r: RuleNo) -> AtomNo
     requires { ReadAs book.now shape × (r.0 < shape.rules) }
     ensures { result ≡ (rule (book_in book.now) r).head }
 {
-    let start = start_of(book, shape, r);
-    AtomNo(book[start])
+    ReadBook { bytes: book, shape }.head(r)
 }
 
 // The positive atoms of rule r, one byte each, as the part of the book that holds them.
@@ -31,11 +25,7 @@ pub fn positives<'a>(book: &'a [u8], shape: Shape, r: RuleNo) -> &'a [u8]
     requires { ReadAs book.now shape × (r.0 < shape.rules) }
     ensures { result.now ≡ atom_bytes (rule (book_in book.now) r).pos }
 {
-    let start = start_of(book, shape, r);
-    let p = wide(book[start + 1]);
-    let first = start + 3;
-    let end = first + p;
-    &book[first..end]
+    ReadBook { bytes: book, shape }.positives(r)
 }
 
 // The negative atoms of rule r, one byte each, as the part of the book that holds them.
@@ -43,10 +33,14 @@ pub fn negatives<'a>(book: &'a [u8], shape: Shape, r: RuleNo) -> &'a [u8]
     requires { ReadAs book.now shape × (r.0 < shape.rules) }
     ensures { result.now ≡ atom_bytes (rule (book_in book.now) r).neg }
 {
-    let start = start_of(book, shape, r);
-    let p = wide(book[start + 1]);
-    let n = wide(book[start + 2]);
-    let first = start + 3 + p;
-    let end = first + n;
-    &book[first..end]
+    ReadBook { bytes: book, shape }.negatives(r)
+}
+
+// Writes the heads of the rules of the set over whatever the table held.
+pub fn heads_of(book: &[u8], shape: Shape, set: &[u64; 4], out: &mut [bool; Colouring::ATOMS])
+    requires { ReadAs book.now shape }
+    ensures { out.new ≡
+        atom_table (heads (book_in book.now) (of (listed set.now))) }
+{
+    ReadBook { bytes: book, shape }.heads_of(set, out);
 }

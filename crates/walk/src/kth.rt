@@ -37,10 +37,10 @@ pub enum Unfound {
 }
 
 impl From<Refusal> for Unfound {
-    ghost from_gives = { λ w r. r ≡ Book w };
+    ghost from_gives = { λ why r. r ≡ Book why };
 
-    fn from(w: Refusal) -> Unfound {
-        Unfound::Book(w)
+    fn from(why: Refusal) -> Unfound {
+        Unfound::Book(why)
     }
 }
 

@@ -24,9 +24,9 @@ pub enum NoPage {
 }
 
 impl From<Refusal> for NoPage {
-    ghost from_gives = { λ w r. r ≡ Book w };
+    ghost from_gives = { λ why r. r ≡ Book why };
 
-    fn from(w: Refusal) -> NoPage {
-        NoPage::Book(w)
+    fn from(why: Refusal) -> NoPage {
+        NoPage::Book(why)
     }
 }
