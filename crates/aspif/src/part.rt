@@ -32,12 +32,7 @@ fn keep_atom(small: bool, value: usize, table: &mut [bool; Colouring::ATOMS]) ->
 
 // Reads the literals at `at`, each behind the sign, as many as there are, and puts their atoms
 // into the table.
-pub fn read_part<'a>(
-    text: &'a [u8],
-    at: usize,
-    sign: &'a [u8],
-    table: &mut [bool; Colouring::ATOMS],
-) -> Part
+pub fn read_part(text: &[u8], at: usize, sign: &[u8], table: &mut [bool; Colouring::ATOMS]) -> Part
     requires { (at ≤ length text.now) × (table.old ≡ replicate 255 false) }
     ensures { PartSeen text.now sign.now at result table.new }
 {
