@@ -30,7 +30,7 @@ fn put_item(word: &[u8], n: usize, out: &mut [u8], at: usize) -> usize
 }
 
 // Writes the atoms of one part of a body, each one more and behind the sign.
-fn put_part<'a>(part: &'a [u8], sign: &'a [u8], out: &mut [u8], at: usize) -> usize
+fn put_part(part: &[u8], sign: &[u8], out: &mut [u8], at: usize) -> usize
     requires { at + length (part_bytes sign.now (map atom_no part.now)) ≤ length out.old }
     ensures { Stored (part_bytes sign.now (map atom_no part.now)) at
         out.old result out.new }

@@ -14,14 +14,14 @@ use meaning::{AtomNo, Colouring};
 
 // Adds the rule whose head has this number there, or keeps that it passes the limits: the two parts
 // are small, or an atom of them is beyond its table.
-fn keep_rule<'a>(
+fn keep_rule(
     draft: &mut [u8; BOOK_BYTES],
     m: Making,
     head: usize,
     positive: bool,
-    pos: &'a [bool; Colouring::ATOMS],
+    pos: &[bool; Colouring::ATOMS],
     negative: bool,
-    neg: &'a [bool; Colouring::ATOMS],
+    neg: &[bool; Colouring::ATOMS],
 ) -> Making
     requires { 0 < head }
     ensures { (p q : List AtomNo) → Rises p → Held p positive pos.now →

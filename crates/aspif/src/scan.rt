@@ -6,7 +6,7 @@ ghost use Rattle.aspif.specs.Scanning.{went, seen, Reaches, Behind};
 use decimal::read_plain;
 
 // Past the word, if it stands at `at`: where the text goes on.
-pub fn skip_text<'a>(text: &'a [u8], at: usize, word: &'a [u8]) -> Option<usize>
+pub fn skip_text(text: &[u8], at: usize, word: &[u8]) -> Option<usize>
     requires { at ≤ length text.now }
     ensures result_value { went text.now result
         ≡ skip word.now (drop at text.now) }
@@ -44,12 +44,7 @@ fn read_number(text: &[u8], at: usize) -> Option<(usize, usize)>
 }
 
 // The number at least `least` that stands behind the word at `at`.
-pub fn read_item<'a>(
-    text: &'a [u8],
-    at: usize,
-    word: &'a [u8],
-    least: usize,
-) -> Option<(usize, usize)>
+pub fn read_item(text: &[u8], at: usize, word: &[u8], least: usize) -> Option<(usize, usize)>
     requires { at ≤ length text.now }
     ensures result_value { seen text.now result
         ≡ item_in (length text.now) word.now least

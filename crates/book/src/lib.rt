@@ -11,7 +11,6 @@ mod reader;
 mod record;
 mod refusal;
 mod rowed;
-mod rules;
 mod standing;
 
 pub use conditions::{every_in, some_in};
@@ -21,7 +20,6 @@ pub use read::ReadBook;
 pub use reader::{Shape, read_book};
 pub use refusal::Refusal;
 pub use rowed::RowedBook;
-pub use rules::{head, heads_of, negatives, positives};
 
 // The last two bytes of every book: 52 42.
 pub const BOOK_MARK: [u8; 2] = [0x52, 0x42];

@@ -5,26 +5,11 @@
 //     comparing BOOKFILE --text TEXTFILE
 #![tactic(auto)]
 
-use book::{Shape, read_book};
+use book::read_book;
 use calling::{Opened, open_at, open_words, shift_at};
 use std::rt::{Env, Files};
 use system::arg_count;
-use talk::{BOOK_ROOM, Line, NAMES_ROOM, open_call, put_size};
-
-// The first place at which the two differ, or the length of the shorter one.
-fn first_difference(book: &[u8], other: &[u8]) -> usize {
-    book.iter().zip(other).take_while(|(x, y)| x == y).count()
-}
-
-// Writes how large the book is that both are.
-fn tell_size(rt: &impl Print, shape: Shape) {
-    let mut room = [0u8; 64];
-    let mut line = Line::new(&mut room);
-    line.text(b"same: ");
-    put_size(shape, &mut line);
-    line.text(b"\n");
-    line.print(rt);
-}
+use talk::{BOOK_ROOM, Line, NAMES_ROOM, common, open_call, show_size};
 
 // Writes the first byte that differs.
 fn tell_different(rt: &impl Print, place: usize) {
@@ -39,9 +24,9 @@ fn tell_different(rt: &impl Print, place: usize) {
 // Writes whether the book is the one of the words.
 fn tell_compared(rt: &impl Print, book: &[u8], other: &[u8]) {
     if book != other {
-        tell_different(rt, first_difference(book, other));
+        tell_different(rt, common(book, other));
     } else if let Ok(shape) = read_book(book) {
-        tell_size(rt, shape);
+        show_size(rt, b"same: ", shape);
     }
 }
 

@@ -1,5 +1,5 @@
 -- The totals of one book, atom by atom (src/sum.rt), and the turn of a book by what was told of it (src/turn.rt).
-use Rattle.std.proofs.Common.{◌≡◌, ℕ, zero, suc, ◌+◌, ◌%◌, ◌^◌, ◌<◌, ◌≤◌, Bool, true, false, ltb, List, get_or, take, sym, refl, ◌∙◌, ⊎_elim, add-one, arith, le-ltb, lt-ltb}
+use Rattle.std.proofs.Common.{◌≡◌, ℕ, zero, suc, ◌+◌, ◌<◌, ◌≤◌, Bool, true, false, ltb, List, get_or, take, sym, refl, ◌∙◌, ⊎_elim, add-one, arith, le-ltb, lt-ltb}
 use Rattle.std.specs.Prelude.{Result, Ok, Err}
 use Rattle.meaning.specs.Sets.{Set}
 use Rattle.meaning.specs.Choice.{ifb}
@@ -57,13 +57,6 @@ module _ (sets : ℕ) (counts : List ℕ) where
         ≡ totals_from (n + 1) sets counts
     unfolding totals_from
     totals-more p q r = rw (e, p, q, r, number_more, number_more, number_more)
-
-pub totals-added : (t : Totals) (n sets : ℕ) (counts : List ℕ) {m : Totals} → m ≡ totals_from n sets counts → {c s z a : ℕ}
-    → c ≡ (t.certain + m.certain) % 2 ^ 32 → s ≡ (t.some + m.some) % 2 ^ 32 → z ≡ (t.none + m.none) % 2 ^ 32
-    → a ≡ (t.atoms + m.atoms) % 2 ^ 32
-    → record { certain = c; some = s; none = z; atoms = a } ≡ totals_with t n sets counts
-unfolding totals_with
-totals-added t n sets counts e p q r u = rw (p, q, r, u, e)
 
 -- ---- the turn
 

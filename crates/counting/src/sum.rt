@@ -4,7 +4,6 @@ ghost use Rattle.meaning.specs.Choice.{ifb};
 ghost use Rattle.counting.specs.Totals.{at_each, at_some, at_none, totals_from, totals_with};
 
 use meaning::Colouring;
-use std::num::wrapping_add_u32;
 
 #[derive(Clone, Copy)]
 pub struct Totals {
@@ -71,10 +70,10 @@ impl Totals {
     {
         let more = of_book(atoms, sets, counts);
         Totals {
-            certain: wrapping_add_u32(self.certain, more.certain),
-            some: wrapping_add_u32(self.some, more.some),
-            none: wrapping_add_u32(self.none, more.none),
-            atoms: wrapping_add_u32(self.atoms, more.atoms),
+            certain: self.certain.wrapping_add(more.certain),
+            some: self.some.wrapping_add(more.some),
+            none: self.none.wrapping_add(more.none),
+            atoms: self.atoms.wrapping_add(more.atoms),
         }
     }
 }

@@ -6,7 +6,7 @@ use crate::paper::Paper;
 use book::ReadBook;
 use checker::{is_head, is_lost};
 use meaning::{AtomNo, Bits, RuleNo};
-use talk::{Line, put_subject};
+use talk::{Line, count_rules, put_subject};
 
 // The lowest rule of the set with the atom as head; R where there is none.
 fn lowest_of(book: &ReadBook, a: AtomNo, set: &Bits) -> u8 {
@@ -35,12 +35,6 @@ fn put_rules_of(book: &ReadBook, a: AtomNo, line: &mut Line) {
             joint = b", ";
         }
     }
-}
-
-// How many rules have the atom as head.
-fn count_rules(book: &ReadBook, a: AtomNo) -> usize {
-    let rules = 0..book.shape.rules;
-    rules.filter(|r| book.head(RuleNo(*r)) == a).count()
 }
 
 // That so many rules are off, or that the step's own list puts them off.

@@ -1,8 +1,8 @@
 // What the book's atoms are in the text: a line for each, with the names that the table gives it.
-use book::{Shape, read_book};
+use book::read_book;
 use calling::put_whose;
 use lparse::collect;
-use talk::{Line, put_size};
+use talk::{Line, show_size};
 
 // Writes the line of the book's atom n.
 fn show_atom(rt: &impl Print, text: &[u8], seen: &[u32], n: usize) {
@@ -31,20 +31,10 @@ fn show_text(rt: &impl Print, text: &[u8], atoms: usize) {
     }
 }
 
-// Writes how large the book is.
-fn show_size(rt: &impl Print, shape: Shape) {
-    let mut room = [0u8; 64];
-    let mut line = Line::new(&mut room);
-    line.text(b"imported: ");
-    put_size(shape, &mut line);
-    line.text(b"\n");
-    line.print(rt);
-}
-
 // Writes how large the book of the text is, and what its atoms are.
 pub fn show_atoms(rt: &impl Print, text: &[u8], book: &[u8]) {
     if let Ok(shape) = read_book(book) {
-        show_size(rt, shape);
+        show_size(rt, b"imported: ", shape);
         show_text(rt, text, shape.atoms as usize);
     }
 }

@@ -11,22 +11,12 @@ use atoms::show_atoms;
 use book::BOOK_BYTES;
 use calling::{TEXT_ROOM, explain_text, read_text};
 use lparse::import;
-use saving::{is_replacing, save_book};
+use saving::{is_replacing, is_right, save_book};
 use std::rt::{Env, Files};
-use system::arg_count;
 use talk::{complain_of_call, first_bytes};
 
 // The arguments that must be there, the program's own name among them.
 const MUST: usize = 3;
-
-// Whether there are as many arguments as there may be.
-fn is_right(rt: &impl Env) -> bool {
-    let count = arg_count(rt);
-    if is_replacing(rt, MUST) {
-        return count == MUST + 1;
-    }
-    count == MUST
-}
 
 // Saves the book in the file that the second argument names, and says what its atoms are.
 fn save_made(rt: &(impl Env + Files + Print), text: &[u8], book: &[u8]) {
@@ -53,7 +43,7 @@ fn import_argument(rt: &(impl Env + Files + Print)) {
 }
 
 fn main(rt: HostRuntime) {
-    if !is_right(&rt) {
+    if !is_right(&rt, MUST) {
         complain_of_call(&rt, b"importing TEXTFILE BOOKFILE [--replace]");
         return;
     }

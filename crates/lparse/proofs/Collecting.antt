@@ -120,7 +120,7 @@ module _ (w : Word) where
   first MinusWord l = b-either (First w) (signed l 45) _ _ (λ e p f. refl) (λ e. tt)
   first End l = tt
 
--- ---- the loop: at its start, in a turn, and at its three ends
+-- ---- the loop: at its start, in a turn, and at its ends
 
 pub heard-at-fits : (s : List ℕ) (at : ℕ) (due : Due) (p : Part) → heard_at s at due ≡ says p → Fits due p
 unfolding heard_at

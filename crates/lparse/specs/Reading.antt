@@ -2,6 +2,8 @@
 -- literals, number of negatives, negatives, positives), the closing 0, the symbol table, the B+ and B- lists and the number of models".
 -- Request 10: "type 3: number of heads (0 is 30), the heads, then the body as in type 1".
 --
+--   Move                 what is due behind a word and what it says; or why it cannot stand there
+--   Step                 the word that was taken, or none at the end of the text; or why none was taken
 --   body_of m p           what is due where m negatives and p positives are left
 --   heads_of n            what is due where n heads of a choice are left
 --   on_number role n      what a number does where it is due: a row of the format for each role

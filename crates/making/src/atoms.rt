@@ -2,9 +2,9 @@
 // many use it.
 ghost use Rattle.std.specs.Prelude.{◌<◌};
 
-use book::{ReadBook, Shape};
-use meaning::RuleNo;
-use talk::{Line, name_of, put_size};
+use book::ReadBook;
+use meaning::{AtomNo, RuleNo};
+use talk::{Line, count_rules, name_of, show_size};
 
 // Whether the rule's body has the atom.
 fn is_using(book: &ReadBook, r: RuleNo, a: u8) -> bool
@@ -13,26 +13,10 @@ fn is_using(book: &ReadBook, r: RuleNo, a: u8) -> bool
     book.positives(r).contains(&a) || book.negatives(r).contains(&a)
 }
 
-// How many rules have the atom as head.
-pub fn count_rules(book: &ReadBook, a: u8) -> usize {
-    let rules = 0..book.shape.rules;
-    rules.filter(|r| book.head(RuleNo(*r)).0 == a).count()
-}
-
 // How many rules have the atom in their bodies.
 fn count_uses(book: &ReadBook, a: u8) -> usize {
     let rules = 0..book.shape.rules;
     rules.filter(|r| is_using(book, RuleNo(*r), a)).count()
-}
-
-// Writes how large the book is.
-fn show_size(rt: &impl Print, shape: Shape) {
-    let mut room = [0u8; 64];
-    let mut line = Line::new(&mut room);
-    line.text(b"made: ");
-    put_size(shape, &mut line);
-    line.text(b"\n");
-    line.print(rt);
 }
 
 // Writes the line of an atom.
@@ -44,7 +28,7 @@ fn show_atom(rt: &impl Print, book: &ReadBook, a: u8, names: &[u8]) {
     line.text(b": ");
     line.text(name_of(names, a));
     line.text(b"; rules ");
-    line.number(count_rules(book, a) as u64);
+    line.number(count_rules(book, AtomNo(a)) as u64);
     line.text(b"; used ");
     line.number(count_uses(book, a) as u64);
     line.text(b"\n");
@@ -53,7 +37,7 @@ fn show_atom(rt: &impl Print, book: &ReadBook, a: u8, names: &[u8]) {
 
 // Writes the size, and a line for each atom.
 pub fn show_atoms(rt: &impl Print, book: &ReadBook, names: &[u8]) {
-    show_size(rt, book.shape);
+    show_size(rt, b"made: ", book.shape);
     for a in 0..book.shape.atoms {
         show_atom(rt, book, a, names);
     }

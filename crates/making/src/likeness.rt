@@ -1,8 +1,6 @@
 // Whether two names differ so little that one may be a slip of the pen for the other: only in case or
 // in signs, or, these apart, in one letter. Digits count: `a1` and `a2` are two names.
-ghost use Rattle.std.specs.Prelude.{◌≤◌, length};
-
-use talk::Line;
+use talk::{Line, common};
 
 #[derive(Clone, Copy)]
 pub enum Likeness {
@@ -21,13 +19,6 @@ fn put_small(name: &[u8], line: &mut Line) {
             line.byte(x.to_ascii_lowercase());
         }
     }
-}
-
-// How many bytes the two have in common before they differ.
-fn common(one: &[u8], other: &[u8]) -> usize
-    ensures { (result ≤ length one.now) × (result ≤ length other.now) }
-{
-    one.iter().zip(other).take_while(|(x, y)| x == y).count()
 }
 
 // Whether they differ in one letter only, of two that are equally long.

@@ -12,22 +12,12 @@ use atoms::show_atoms;
 use book::ReadBook;
 use calling::open_words;
 use remarks::show_remarks;
-use saving::{is_replacing, save_book};
+use saving::{is_replacing, is_right, save_book};
 use std::rt::{Env, Files};
-use system::arg_count;
 use talk::{BOOK_ROOM, NAMES_ROOM, complain_of_call};
 
 // The arguments that must be there, the program's own name among them.
 const MUST: usize = 3;
-
-// Whether there are as many arguments as there may be.
-fn is_right(rt: &impl Env) -> bool {
-    let count = arg_count(rt);
-    if is_replacing(rt, MUST) {
-        return count == MUST + 1;
-    }
-    count == MUST
-}
 
 // Writes what stands in the book that was made. Where the text lists its atoms nothing is remarked.
 fn show_made(rt: &impl Print, book: &[u8], names: &[u8], is_listed: bool) {
@@ -53,7 +43,7 @@ fn make_argument(rt: &(impl Env + Files + Print)) {
 }
 
 fn main(rt: HostRuntime) {
-    if !is_right(&rt) {
+    if !is_right(&rt, MUST) {
         complain_of_call(&rt, b"making WORDSFILE BOOKFILE [--replace]");
         return;
     }

@@ -1,8 +1,8 @@
 // What may be a slip of the pen: an atom that no rule has as head, and two names that are much alike.
-use crate::atoms::count_rules;
 use crate::likeness::{Likeness, compare_names};
 use book::ReadBook;
-use talk::{Line, name_of, put_subject};
+use meaning::AtomNo;
+use talk::{Line, count_rules, name_of, put_subject};
 
 // Writes that no rule has the atom as head.
 fn show_bare(rt: &impl Print, a: u8, names: &[u8]) {
@@ -44,7 +44,7 @@ fn show_likeness(rt: &impl Print, a: u8, b: u8, names: &[u8]) {
 // Writes the remarks: first on each atom without a rule, then on each two names that are much alike.
 pub fn show_remarks(rt: &impl Print, book: &ReadBook, names: &[u8]) {
     for a in 0..book.shape.atoms {
-        if count_rules(book, a) == 0 {
+        if count_rules(book, AtomNo(a)) == 0 {
             show_bare(rt, a, names);
         }
     }

@@ -6,7 +6,7 @@
 ghost use Rattle.std.specs.Prelude.{◌≡◌, true, ◌<◌, set};
 ghost use Rattle.meaning.specs.Bits.{listed};
 ghost use Rattle.meaning.specs.Colours.{side_of};
-ghost use Rattle.meaning.specs.Written.{written, nothing, colour_on, colour_off, colour, chosen};
+ghost use Rattle.meaning.specs.Written.{written, nothing, colour, chosen};
 
 use crate::RuleNo;
 use crate::bitset::Bits;
@@ -68,19 +68,5 @@ impl Colouring {
         deeper.level = self.level + 1;
         deeper.levels[r.0 as usize] = deeper.level;
         deeper
-    }
-
-    // The colouring with the rule put in on.
-    pub fn with_on(self, r: RuleNo) -> Colouring
-        ensures { written result ≡ colour_on r (written self) }
-    {
-        self.with(Side::On, r)
-    }
-
-    // The colouring with the rule put in off.
-    pub fn with_off(self, r: RuleNo) -> Colouring
-        ensures { written result ≡ colour_off r (written self) }
-    {
-        self.with(Side::Off, r)
     }
 }

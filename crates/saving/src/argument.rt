@@ -19,6 +19,15 @@ pub fn is_replacing(rt: &impl Env, must: usize) -> bool {
     &word[..n] == b"--replace".as_slice()
 }
 
+// Whether there are `must` arguments, and behind them at most `--replace`.
+pub fn is_right(rt: &impl Env, must: usize) -> bool {
+    match arg_count(rt).checked_sub(must) {
+        Some(0) => true,
+        Some(1) => is_replacing(rt, must),
+        _ => false,
+    }
+}
+
 // Puts the path that an argument names at the start of out, and gives its length; none where it is too
 // long: a line says so. A missing argument names the path of no bytes.
 pub fn take_path(rt: &(impl Env + Print), i: usize, out: &mut [u8]) -> Option<usize>

@@ -30,12 +30,12 @@ pub use hexadecimal::read_bytes;
 pub use line::Line;
 pub use name::{NAME_ROOM, NAMES_ROOM, name_of, put_called, put_subject};
 pub use numbers::read_number;
-pub use part::first_bytes;
+pub use part::{common, first_bytes};
 pub use refusals::Refused;
-pub use rule::{put_rule, show_rule};
+pub use rule::{count_rules, put_rule, show_rule};
 pub use sentences::{
     explain, explain_book, explain_book_of, explain_paper, explain_text_of, put_refused,
 };
-pub use size::put_size;
+pub use size::{put_size, show_size};
 pub use system::print;
 pub use words::{first_word, other_words};

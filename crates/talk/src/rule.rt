@@ -5,7 +5,7 @@ ghost use Rattle.std.specs.Prelude.{◌<◌};
 use crate::line::Line;
 use crate::name::put_called;
 use book::ReadBook;
-use meaning::RuleNo;
+use meaning::{AtomNo, RuleNo};
 
 // The atoms of one part of a body, each behind `word`; `is_first` tells whether the body starts
 // with them. `if` stands before the first atom of a body and `and` before every other.
@@ -47,4 +47,10 @@ pub fn show_rule(rt: &impl Print, book: &ReadBook, r: RuleNo, word: &[u8], names
     put_rule(book, r, names, &mut line);
     line.text(b"\n");
     line.print(rt);
+}
+
+// How many rules of the book have the atom as head.
+pub fn count_rules(book: &ReadBook, a: AtomNo) -> usize {
+    let rules = 0..book.shape.rules;
+    rules.filter(|r| book.head(RuleNo(*r)) == a).count()
 }

@@ -12,29 +12,20 @@
 mod called;
 mod rules;
 
-use book::{ReadBook, Shape};
+use book::ReadBook;
 use called::show_called;
 use calling::{Source, open_book, shift, source_at};
 use rules::{show_names, show_rules};
 use std::rt::Env;
 use system::arg_count;
-use talk::{BOOK_ROOM, Line, NAMES_ROOM, explain_book, put_size};
+use talk::{BOOK_ROOM, NAMES_ROOM, explain_book, show_size};
 
-// Writes the size in a line that says nothing in a text, so that one sees that it is whole.
-fn show_end(rt: &impl Print, shape: Shape) {
-    let mut room = [0u8; 64];
-    let mut line = Line::new(&mut room);
-    line.text(b"# ");
-    put_size(shape, &mut line);
-    line.text(b"\n");
-    line.print(rt);
-}
-
-// Writes the text of a good book with these names.
+// Writes the text of a good book with these names; last its size, in a line that says nothing in a text,
+// so that one sees that it is whole.
 fn show_all(rt: &impl Print, book: &ReadBook, names: &[u8]) {
     show_names(rt, book.shape.atoms, names);
     show_rules(rt, book, names);
-    show_end(rt, book.shape);
+    show_size(rt, b"# ", book.shape);
 }
 
 // Writes the text of a good book; of a grounder's text what its atoms are called, and then without

@@ -18,6 +18,8 @@ fn put_atom(names: &[u8], a: u8, line: &mut Line) {
 
 // The atoms of one part of a body, each behind `if` or `and` and its word; `is_first` tells whether
 // the body starts with them.
+// Talk's `put_rule` has this loop over atoms with their numbers: one loop for both would take a closure
+// over the line, which is no plainer.
 fn put_part(names: &[u8], part: &[u8], is_first: bool, word: &[u8], line: &mut Line) {
     for (i, a) in part.iter().enumerate() {
         let joint: &[u8] = if is_first && i == 0 {

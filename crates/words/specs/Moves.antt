@@ -1,6 +1,7 @@
 -- What is due, and what each word does there. "A rule: `HEAD`, or `HEAD if L and L ..`, each L `NAME` or `not NAME`", then `unless NAME or
 -- NAME ..`, with or without the `if`. "A line of blanks, or whose first word starts with `#`, says nothing." `atoms: NAME NAME ..` is a line of its own.
 --
+--   Move                 what is due behind a word and what the word says; none where it cannot stand
 --   is_due due other      they are the same
 --   only_at ..            what a word does that may stand at one place only; in a remark any word may
 --   on_name due           what a name does

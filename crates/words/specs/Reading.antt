@@ -2,6 +2,7 @@
 --
 --   State                what is due, whether names are listed, the names and rules so far, and the rule that is open
 --   full, placed         an atom has no place in the open rule any more; the rule with the atom in its place
+--   Decision             what is due behind a word and what is done with it; or why it may not stand there
 --   decided ..           whether a word may stand where it stands, and what is done with it; or 40, 41 or 42
 --   decision_of l s       the same of a word with these bytes
 --   done due act w s     the state behind the word
