@@ -70,13 +70,7 @@ fn check_rule_step<'a>(
 }
 
 // A step of code 55. Whatever is on, it asks only of what is off.
-fn check_list_step(
-    book: &ReadBook,
-    paper: &[u8],
-    trailer: Trailer,
-    at: usize,
-    off: &Bits,
-) -> Step
+fn check_list_step(book: &ReadBook, paper: &[u8], trailer: Trailer, at: usize, off: &Bits) -> Step
     requires { Ready paper.now trailer.from × (at < trailer.from)
         × (get_or paper.now at 0 ≡ code_unfounded) }
     ensures { (on : List Bool) → Finds (the_book book.now)

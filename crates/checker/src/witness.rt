@@ -25,10 +25,7 @@ fn check_order(book: &ReadBook, list: &[u8], from: usize) -> Result<(), usize>
     let mut before = Bits::EMPTY;
     let mut headed = [false; Colouring::ATOMS];
     for (i, &n) in list.iter().enumerate() {
-        if book.shape.rules <= n
-            || before.has(n)
-            || !every_in(book.positives(RuleNo(n)), &headed)
-        {
+        if book.shape.rules <= n || before.has(n) || !every_in(book.positives(RuleNo(n)), &headed) {
             return Err(from + i);
         }
         before.put(n);

@@ -90,13 +90,7 @@ pub fn put_blocked(paper: &Paper, r: RuleNo, on: &Bits, line: &mut Line)
 
 // Why a rule goes off, where a positive atom is left without a rule: the first that is. Gives whether
 // there is one. `gone` has the rules that are off and those that a step lists.
-pub fn put_starved(
-    paper: &Paper,
-    r: RuleNo,
-    gone: &Bits,
-    is_listing: bool,
-    line: &mut Line,
-) -> bool
+pub fn put_starved(paper: &Paper, r: RuleNo, gone: &Bits, is_listing: bool, line: &mut Line) -> bool
     requires { r.0 < paper.now.book.shape.rules }
 {
     let mut atoms = paper.book.positives(r).iter().map(|a| AtomNo(*a));

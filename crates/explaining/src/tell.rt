@@ -46,14 +46,7 @@ fn tell_starved(rt: &impl Print, paper: &Paper, depth: usize, at: usize, r: Rule
 }
 
 // 55: the rules of its list, which go off together, in a line for each.
-pub fn tell_list(
-    rt: &impl Print,
-    paper: &Paper,
-    depth: usize,
-    at: usize,
-    list: &[u8],
-    off: &Bits,
-)
+pub fn tell_list(rt: &impl Print, paper: &Paper, depth: usize, at: usize, list: &[u8], off: &Bits)
     requires { Below paper.now.book.shape.rules list.now }
 {
     let gone = with_rules(*off, list);

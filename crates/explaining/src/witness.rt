@@ -53,14 +53,7 @@ fn tell_listed(rt: &impl Print, paper: &Paper, from: usize, list: &[u8])
 }
 
 // A rule that is not listed, and why it fails.
-fn tell_other<'a>(
-    rt: &impl Print,
-    paper: &Paper,
-    at: usize,
-    r: RuleNo,
-    on: &'a Bits,
-    off: &'a Bits,
-)
+fn tell_other<'a>(rt: &impl Print, paper: &Paper, at: usize, r: RuleNo, on: &'a Bits, off: &'a Bits)
     requires { r.0 < paper.now.book.shape.rules }
 {
     let mut room = [0u8; LINE_ROOM];

@@ -10,7 +10,9 @@ use crate::draft::{write, write_step};
 use crate::list::drop_rules;
 use crate::step::{Step, Tip, next_step};
 use book::ReadBook;
-use meaning::{Bits, Claim, Colouring, PAPER_BYTES, STEP_END, STEP_OFF, STEP_ON, STEP_SPLIT, STEP_UNFOUNDED};
+use meaning::{
+    Bits, Claim, Colouring, PAPER_BYTES, STEP_END, STEP_OFF, STEP_ON, STEP_SPLIT, STEP_UNFOUNDED,
+};
 
 // What a branch ends by, with the colouring there and the draft's length behind it.
 #[derive(Clone, Copy)]
@@ -60,13 +62,7 @@ pub fn write_branch(
             Step::Unfounded(m) => {
                 let coded = write(draft, n, STEP_UNFOUNDED);
                 let counted = write(draft, coded, m);
-                n = drop_rules(
-                    book.shape.rules,
-                    &dropped,
-                    &mut colours.off,
-                    draft,
-                    counted,
-                );
+                n = drop_rules(book.shape.rules, &dropped, &mut colours.off, draft, counted);
             }
             Step::Stops(tip) => {
                 return Written {

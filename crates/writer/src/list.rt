@@ -18,12 +18,7 @@ use meaning::{Bits, PAPER_BYTES};
 
 // Writes the rules that are neither marked nor off over whatever the set held; how many they
 // are.
-fn list_unmarked<'a>(
-    rules: u8,
-    marks: &'a Bits,
-    off: &'a Bits,
-    dropped: &mut Bits,
-) -> u8
+fn list_unmarked<'a>(rules: u8, marks: &'a Bits, off: &'a Bits, dropped: &mut Bits) -> u8
     ensures { (b : Book) → count b ≡ rules → Listed b result (listed dropped.new.w)
         (rules_in b (outside (listed marks.now.w) (listed off.now.w))) }
 {
