@@ -1,7 +1,8 @@
 // Text that is gathered in a buffer, so that a line or an answer is written as one: programs that
 // append to the same file then mix no line. A buffer is made with room for the longest line; a word
 // that has no room is left out whole.
-ghost use Rattle.std.specs.Prelude.{◌≡◌, ◌-◌, ◌≤◌, length};
+ghost use Rattle.std.specs.Prelude.{◌≡◌, ℕ, ◌-◌, ◌≤◌, length, take};
+ghost use Rattle.system.specs.Digits.{last_digits, IsDigitCount};
 
 use crate::output::{plain, put_digits};
 use system::{decimal, print};
@@ -14,7 +15,7 @@ pub struct Line<'a> {
 }
 
 impl<'a> Line<'a> {
-    ghost use Rattle.talk.specs.Gathered.{gathered, with_byte};
+    ghost use Rattle.talk.specs.Gathered.{gathered, with_byte, with_digits, with_text};
 
     // Nothing yet, in the buffer.
     pub fn new(room: &'a mut [u8]) -> Line<'a>
@@ -24,7 +25,10 @@ impl<'a> Line<'a> {
     }
 
     // What is gathered.
-    pub fn as_slice(&self) -> &[u8] {
+    pub fn as_slice(&self) -> &[u8]
+        ensures { result.now ≡
+            take (gathered self.now).held (gathered self.now).bytes }
+    {
         &self.room[..self.held]
     }
 
@@ -55,7 +59,9 @@ impl<'a> Line<'a> {
     }
 
     // The text as it stands.
-    pub fn text(&mut self, text: &[u8]) {
+    pub fn text(&mut self, text: &[u8])
+        ensures { gathered self.new ≡ with_text text.now (gathered self.old) }
+    {
         if self.room_left() < text.len() {
             return;
         }
@@ -65,14 +71,19 @@ impl<'a> Line<'a> {
     }
 
     // The number in decimal.
-    pub fn number(&mut self, n: u64) {
+    pub fn number(&mut self, n: u64)
+        ensures { (k : ℕ) → IsDigitCount 10 1 n k →
+            gathered self.new ≡ with_text (last_digits 10 k n) (gathered self.old) }
+    {
         let mut digits = [0u8; 20];
         let count = decimal(n, &mut digits);
         self.text(&digits[..count]);
     }
 
     // The bytes in hexadecimal, in lower case.
-    pub fn bytes(&mut self, bytes: &[u8]) {
+    pub fn bytes(&mut self, bytes: &[u8])
+        ensures { gathered self.new ≡ with_digits bytes.now (gathered self.old) }
+    {
         if self.room_left() / 2 < bytes.len() {
             return;
         }
@@ -80,6 +91,7 @@ impl<'a> Line<'a> {
     }
 
     // A file's name, with `?` for each byte that could break the line; at most 4,096 bytes of it.
+    // No contract says which bytes these are; they are tested.
     pub fn name(&mut self, name: &[u8]) {
         let mut shown = [0u8; 4096];
         for (to, byte) in shown.iter_mut().zip(name) {
