@@ -8,7 +8,8 @@ use checker::{is_head, is_lost};
 use meaning::{AtomNo, RuleNo, has};
 use talk::{Line, count_rules, put_subject};
 
-// The lowest rule of the set with the atom as head; R where there is none.
+// The lowest rule of the set with the atom as head; R where there is none: it is only printed, and R is
+// printed then.
 fn lowest_of(book: &ReadBook, a: AtomNo, set: &[u64; 4]) -> u8 {
     for r in 0..book.shape.rules {
         if has(set, r) && book.head(RuleNo(r)) == a {
