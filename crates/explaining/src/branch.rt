@@ -1,6 +1,7 @@
 // The branches of a paper, checked and told: they have the shape and the promise of the checker's
 // own, so that what is told is what is checked. A branch with a rule on stands one level further
-// in; the branch with it off follows where the split stands.
+// in; the branch with it off follows where the split stands. One function for both would take what is
+// told of a step as a parameter, in the contracts of the checker too: that is no plainer.
 ghost use Rattle.std.specs.Prelude.{◌≡◌, ◌+◌};
 ghost use Rattle.meaning.specs.Written.{written, pair};
 ghost use Rattle.book.specs.ReadBook.{the_book};

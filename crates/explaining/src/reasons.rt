@@ -8,7 +8,8 @@ use checker::{is_head, is_lost};
 use meaning::{AtomNo, Bits, RuleNo};
 use talk::{Line, count_rules, put_subject};
 
-// The lowest rule of the set with the atom as head; R where there is none.
+// The lowest rule of the set with the atom as head; R where there is none: it is only printed, and R is
+// printed then.
 fn lowest_of(book: &ReadBook, a: AtomNo, set: &Bits) -> u8 {
     for r in 0..book.shape.rules {
         if set.has(r) && book.head(RuleNo(r)) == a {

@@ -71,7 +71,8 @@ fn explain_step<'a>(
     step
 }
 
-// Runs the steps from byte `at` on, each of which adds to the colouring, as the checker does.
+// Runs the steps from byte `at` on, each of which adds to the colouring, as the checker does. A step
+// tells how far the next one is: there is no list of places to go through.
 pub fn explain_run(rt: &impl Print, paper: &Paper, depth: usize, at: usize, c: Colouring) -> Ran
     ensures { Runs (the_book paper.now.book) paper.now.trailer.claim
         paper.now.bytes.now paper.now.trailer.from at (pair (written c)) result }

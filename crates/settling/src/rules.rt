@@ -3,7 +3,8 @@ use book::ReadBook;
 use meaning::RuleNo;
 use talk::{Line, print, show_rule};
 
-// Writes a line for each rule, with a word for its colour, or that there is none.
+// Writes a line for each rule, with a word for its colour, or that there is none. The bytes are those
+// that closing's `settle` promises to write.
 pub fn show_rules(rt: &impl Print, book: &ReadBook, bytes: &[u8; 510], names: &[u8]) {
     if book.shape.rules == 0 {
         print(rt, b"no rules\n");

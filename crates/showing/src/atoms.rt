@@ -1,7 +1,7 @@
 // How many atoms a book has, and which of them have no rule: such an atom is in no reading, and may
 // be a slip of the pen.
 use book::ReadBook;
-use meaning::Colouring;
+use meaning::{Bits, Colouring};
 use talk::{Line, put_called};
 
 // The atoms of the book that the table has, each behind a space, or `none`.
@@ -21,7 +21,7 @@ fn put_list(names: &[u8], bare: &[bool], line: &mut Line) {
 pub fn show_atoms(rt: &impl Print, book: &ReadBook, names: &[u8]) {
     let atoms = book.shape.atoms;
     let mut bare = [false; Colouring::ATOMS];
-    book.lost_in(&[0u64; 4], &mut bare);
+    book.lost_in(&Bits::EMPTY, &mut bare);
     let mut room = [0u8; 67584];
     let mut line = Line::new(&mut room);
     line.text(b"atoms ");
