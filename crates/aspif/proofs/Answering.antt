@@ -1,28 +1,27 @@
 -- From what the code reads and stores to what is answered (src/write.rt): the book is read as good or refused, its text stands in the draft, and
 -- goes to the buffer where there is room.
-use mathlib.Core.Path.{◌≡◌, refl, sym, ◌∙◌, ap}
+use mathlib.Core.Path.{◌≡◌, refl, sym, ◌∙◌}
 use mathlib.Core.List.{List, ◌++◌, append_assoc}
 use Prim.Native.Nat.{ℕ, ◌+◌, ◌-◌, ◌<◌, ◌≤◌}
 use native.Mathlib.Nat.{sub-zero}
 use native.Mathlib.Omega.{arith}
 use lib.ListN.{length, take, drop, length-append}
 use lib.Seq.{sets-eq, take_at, length-take-le}
+use Rattle.std.specs.Prelude.{Err}
 use Rattle.meaning.specs.Books.{Book}
 use Rattle.meaning.specs.Told.{success, refused_at, refused, Answered}
 use Rattle.meaning.proofs.Choice.{lt_yes, lt_no}
 use Rattle.book.specs.Numbers.{number_of, place_of, told}
 use Rattle.book.specs.declared.refusal.Refusal.{Refusal}
-use Rattle.book.specs.declared.reader.Read.{Read}
-use Rattle.book.specs.declared.reader.Read.TheVariants.{Good, Refused}
 use Rattle.book.specs.declared.reader.Shape.{Shape}
+use Rattle.book.specs.Rows.{Bytes}
 use Rattle.book.specs.Format.{BookRead, good, bad, read_of, told_of, book_of, book_in, ReadAs}
-use Rattle.book.proofs.Shapes.{told-good, good-rules-fit}
-use Rattle.book.proofs.Places.{shape-good, shape-atoms, shape-count}
+use Rattle.book.proofs.Shapes.{told-good, good-fits}
 use Rattle.decimal.specs.Fewest.{Stored}
 use Rattle.decimal.proofs.Fewest.{stored-then}
 use Rattle.aspif.specs.Text.{header, last, rule_lines, output_lines, text_of}
 use Rattle.aspif.specs.Handing.{at_front, hand_text, export_read, export_of}
-use Rattle.aspif.proofs.Short.{short}
+use Rattle.aspif.proofs.Short.{text-short}
 
 -- ---- the text in the draft
 
@@ -64,20 +63,17 @@ unfolding told_of export_read
 refused-read out (good n k index l) i at e = let z : ◌≡◌ {A = ℕ} 0 1 = cc in absurd (omega arith)
 refused-read out (bad j to) i at e = let p : j ≡ i = cc in let q : to ≡ at = cc in rw (p, q)
 
-module _ (s out : List ℕ) {x : Read} (e : told x ≡ told_of (read_of s)) where
-  pub export-refused : {f : Refusal} → x ≡ Refused f → record { told = refused_at (number_of f) (place_of f); buffer = out } ≡ export_of s out
+module _ (s out : List ℕ) where
+  pub export-refused : (f : Refusal) → told (Err f) ≡ told_of (read_of s)
+      → record { told = refused_at (number_of f) (place_of f); buffer = out } ≡ export_of s out
   unfolding export_of
-  export-refused {f} g = refused-read out (read_of s) (number_of f) (place_of f) (sym e ∙ ap told g)
+  export-refused f e = refused-read out (read_of s) (number_of f) (place_of f) (sym e)
 
-  module _ {h : Shape} (g : x ≡ Good h) where
-    pub read_as : ReadAs s h
-    read_as = sym e ∙ ap told g
-
-    pub fits-draft : h.atoms ≤ 255 → h.rules ≤ 255 → length (text_of (book_in s)) ≤ 44382
-    fits-draft k l =
-        short (book_in s) (rw (shape-atoms s h read_as) k) (rw (shape-count s h read_as) l)
-        (rw (shape-atoms s h read_as) (good-rules-fit (shape-good s h read_as)))
+  module _ {h : Shape} (read : ReadAs s h) where
+    pub fits-draft : Bytes s → length (text_of (book_in s)) ≤ 44382
+    unfolding book_in
+    fits-draft bytes = text-short (book_in s) (good-fits s _ _ _ _ bytes (told-good (read_of s) _ _ _ read))
 
     pub export-handed : {w : Answered ℕ} {t : List ℕ} → t ≡ text_of (book_in s) → w ≡ hand_text t out → w ≡ export_of s out
     unfolding export_of export_read book_in book_of
-    export-handed f k = k ∙ rw f (rw (told-good (read_of s) _ _ _ read_as))
+    export-handed f k = k ∙ rw f (rw (told-good (read_of s) _ _ _ read))

@@ -16,8 +16,7 @@ use Rattle.meaning.proofs.Choice.{eq-either}
 use Rattle.book.specs.Writing.{atom_bytes}
 use Rattle.book.specs.Making.{said_of, listed, rule_by, SmallPart, SmallRule}
 use Rattle.book.proofs.AtomsFrom.{atoms-of}
-use Rattle.aspif.specs.declared.scan.Number.{Number}
-use Rattle.aspif.specs.declared.scan.Number.TheVariants.{Value, Outside}
+use Rattle.std.specs.Prelude.{Option, Some, None}
 use Rattle.aspif.specs.Reading.{item_in, part_in, whole_part, top_atom}
 use Rattle.aspif.specs.Scanning.{seen, Behind}
 use Rattle.aspif.specs.Gathering.{Held, held, beyond, Rises, PartSeen}
@@ -119,7 +118,7 @@ module _ (s sign : List ℕ) (at : ℕ) where
     some-fuel : suc (length s - at) - count ≡ suc (length s - at - count)
     some-fuel = omega (arith, g.ahead, g.inside)
 
-    pub gathers-end : (y : Number) → seen s y ≡ item_in (length s) sign (top + 1) (drop next s) → y ≡ Outside
+    pub gathers-end : (y : Option (ℕ × ℕ)) → seen s y ≡ item_in (length s) sign (top + 1) (drop next s) → y ≡ None
         → PartSeen s sign at (record { count = count; top = top; next = next; small = small }) t
     unfolding part_in seen
     gathers-end y e f = record {
@@ -133,7 +132,7 @@ module _ (s sign : List ℕ) (at : ℕ) where
       table = g.table;
     }
 
-    module _ (y : Number) (e : seen s y ≡ item_in (length s) sign (top + 1) (drop next s)) {v end : ℕ} (f : y ≡ Value v end)
+    module _ (y : Option (ℕ × ℕ)) (e : seen s y ≡ item_in (length s) sign (top + 1) (drop next s)) {v end : ℕ} (f : y ≡ Some (v, end))
         (b : Behind next (length s) y) where
       pub item-above : top < v
       unfolding seen

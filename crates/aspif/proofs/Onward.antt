@@ -1,13 +1,14 @@
 -- Bytes stored piece by piece: what is left to store, behind what was stored, makes the whole.
-use mathlib.Core.Path.{◌≡◌, refl, ◌∙◌, ap}
-use mathlib.Core.List.{List, [], ◌∷◌, ◌++◌}
-use Prim.Native.Nat.{ℕ, ◌+◌, ◌<◌, ◌≤◌}
-use native.Mathlib.Numerals.{add-one}
+use mathlib.Core.Path.{◌≡◌, refl, sym, ◌∙◌, ap}
+use mathlib.Core.List.{List, [], ◌++◌}
+use Prim.Native.Nat.{ℕ, ◌+◌, ◌≤◌}
 use native.Mathlib.Omega.{arith}
-use lib.ListN.{length, get_or, set, drop, length-append, length-drop, drop_of_length-le}
-use lib.Seq.{drop-cons}
+use lib.ListN.{length, length-append}
+use lib.Seq.{sets, sets-eq, length-sets, take-length}
+use borrow.Rule.Slice.PartMut.{put_mid}
+use Rattle.std.proofs.lemmas.Slice.{put_mid-paste}
 use Rattle.decimal.specs.Fewest.{Stored}
-use Rattle.decimal.proofs.Fewest.{stored-nil, stored-then, stored_one}
+use Rattle.decimal.proofs.Fewest.{stored-nil, stored-then}
 
 pub record Onward (whole : List ℕ) (start : ℕ) (before left : List ℕ) (at : ℕ) (d : List ℕ) : Type 0 where
   pub room : at + length left ≤ length d
@@ -31,16 +32,11 @@ module _ {whole : List ℕ} {start : ℕ} {before left : List ℕ} {at : ℕ} {d
   pub onward-end : left ≡ [] → Stored whole start before at d
   onward-end e = o.rest at d (rw e (stored-nil at d))
 
--- ---- byte by byte
+-- ---- bytes copied
 
-module _ (w : List ℕ) (start : ℕ) (before : List ℕ) (i : ℕ) {d : List ℕ} (o : Onward w start before (drop i w) (start + i) d) where
-  pub byte-room : i < length w → start + i < length d
-  byte-room h = omega (arith, o.room, length-drop i w)
-
-  pub byte_more : i < length w → Onward w start before (drop (i + 1) w) (start + (i + 1)) (set d (start + i) (get_or w i 0))
-  byte_more h =
-      let e : start + (i + 1) ≡ start + i + 1 = omega arith in
-      rw e (onward-more o (get_or w i 0 ∷ []) (drop (i + 1) w) (rw add-one (drop-cons w i 0 h)) (stored_one d (start + i) (get_or w i 0)))
-
-  pub byte-end : length w ≤ i → Stored w start before (start + i) d
-  byte-end h = onward-end o (drop_of_length-le w h)
+pub stored-copied : (w d copied : List ℕ) (at : ℕ) {k : ℕ} → at + length w ≤ length d → copied ≡ w → k ≡ length w
+    → Stored w at d (at + length w) (put_mid at k d copied)
+stored-copied w d copied at {k} h e f =
+    let g : put_mid at k d copied ≡ sets d at w
+    = put_mid-paste at k d copied w (length w) e (sym f) refl ∙ rw take-length (sym (sets-eq w d at h)) in
+    rw g (record { ends = refl; long = length-sets d at w; bytes = refl })

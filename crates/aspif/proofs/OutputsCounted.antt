@@ -8,9 +8,7 @@ use native.Mathlib.Omega.{arith}
 use lib.ListN.{length, drop, length-append}
 use Rattle.decimal.specs.Fewest.{decimal}
 use Rattle.decimal.proofs.Fewest.{decimal-short}
-use Rattle.aspif.specs.declared.scan.Went.{Went}
-use Rattle.aspif.specs.declared.scan.Went.TheVariants.{To}
-use Rattle.aspif.specs.declared.scan.Went.TheVariants.{Outside as NoWay}
+use Rattle.std.specs.Prelude.{Option, Some, None}
 use Rattle.aspif.specs.Text.{output_line}
 use Rattle.aspif.specs.Reading.{skip, outputs_in}
 use Rattle.aspif.specs.Scanning.{went, Reaches}
@@ -40,26 +38,26 @@ module _ (s : List ℕ) (at : ℕ) where
   pub counted_start : at ≤ length s → Counted s at 0 at
   counted_start h = record { rest = rw sub-zero; ahead = omega arith; inside = h }
 
-  module _ {count next : ℕ} (g : Counted s at count next) (w : List ℕ) (l : w ≡ output_line count) (x : Went)
+  module _ {count next : ℕ} (g : Counted s at count next) (w : List ℕ) (l : w ≡ output_line count) (x : Option ℕ)
       (e : went s x ≡ skip w (drop next s)) where
     fuel-left : suc (length s - at) - count ≡ suc (length s - at - count)
     fuel-left = omega (arith, g.ahead, g.inside)
 
-    pub counted-end : x ≡ NoWay → OutputsSeen s at (record { count = count; next = next })
+    pub counted-end : x ≡ None → OutputsSeen s at (record { count = count; next = next })
     unfolding outputs_in went
     counted-end f = record {
       read = g.rest ∙ rw fuel-left (on-outside _ _ (rw (← l) (sym e ∙ ap (went s) f)));
       inside = g.inside;
     }
 
-    pub counted-less : {n : ℕ} → x ≡ To n → Reaches (next + length w) (length s) x → count < 18446744073709551615
+    pub counted-less : {n : ℕ} → x ≡ Some n → Reaches (next + length w) (length s) x → count < 18446744073709551615
         → length s - n < length s - next
     counted-less f r h =
         let (p, q) = reaches r f in
         let (i, j) = line-bounds count h in
         let k : length w ≡ length (output_line count) = ap length l in omega arith
 
-    pub counted-more : {n : ℕ} → x ≡ To n → Reaches (next + length w) (length s) x → count < 18446744073709551615 → Counted s at (count + 1) n
+    pub counted-more : {n : ℕ} → x ≡ Some n → Reaches (next + length w) (length s) x → count < 18446744073709551615 → Counted s at (count + 1) n
     unfolding outputs_in went
     counted-more f r h =
         let (p, q) = reaches r f in

@@ -12,8 +12,7 @@ use lib.ListN.{length, take, drop, take-append-drop}
 use lib.Seq.{take-append_seam, drop-append_seam}
 use Rattle.meaning.specs.Choice.{if_lt}
 use Rattle.meaning.proofs.Choice.{lt_yes, lt_no, eq_yes, eq_no, eq-either, lt-either}
-use Rattle.decimal.specs.declared.Digits.{Digits}
-use Rattle.decimal.specs.declared.Digits.TheVariants.{Value, Nothing}
+use Rattle.std.specs.Prelude.{Option, Some, None}
 use Rattle.decimal.specs.Digits.{plain_of}
 use Rattle.decimal.specs.Fewest.{decimal}
 use Rattle.decimal.proofs.Fewest.{AllDigits, none, more, decimal-digits}
@@ -80,10 +79,10 @@ module _ (most : ℕ) where
   number-there n r h e =
       rw (count-digits (decimal-digits n) r e, take-append_seam, drop-append_seam, plain-decimal most n h)
 
-  number-value : (d : Digits) (l r : List ℕ) (v : ℕ) → numbered d l ≡ got v r → (d ≡ Value v) × (l ≡ r)
+  number-value : (d : Option ℕ) (l r : List ℕ) (v : ℕ) → numbered d l ≡ got v r → (d ≡ Some v) × (l ≡ r)
   unfolding numbered
-  number-value (Value u) l r v e = (cc, cc)
-  number-value Nothing l r v e = not-got e
+  number-value (Some u) l r v e = (cc, cc)
+  number-value None l r v e = not-got e
 
   pub number-back : (l r : List ℕ) (v : ℕ) → number_in most l ≡ got v r → l ≡ decimal v ++ r
   unfolding number_in

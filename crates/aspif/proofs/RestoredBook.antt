@@ -11,11 +11,8 @@ use Rattle.book.specs.declared.making.Making.{Making}
 use Rattle.book.specs.Making.{Made, Finished}
 use Rattle.book.specs.Writing.{Fits}
 use Rattle.book.proofs.Made.{fits-small, made-whole, made-over}
-use Rattle.aspif.specs.declared.whole.Whole.{Whole}
-use Rattle.aspif.specs.declared.whole.Whole.TheVariants.{Book as BookMade}
-use Rattle.aspif.specs.declared.whole.Whole.TheVariants.{Outside as NoBook}
-use Rattle.aspif.specs.declared.answer.Restored.TheVariants.{Outside, NoFit}
-use Rattle.aspif.specs.declared.answer.Restored.TheVariants.{Book as GoodBook}
+use Rattle.std.specs.Prelude.{Option, Some, None, Ok, Err}
+use Rattle.aspif.specs.declared.answer.Unrestored.TheVariants.{Outside, NoFit}
 use Rattle.aspif.specs.Text.{Formed}
 use Rattle.aspif.specs.Lining.{TextSeen, whole, none}
 use Rattle.aspif.specs.Handing.{at_front, Restores, restored, misfit, no_room}
@@ -23,7 +20,7 @@ use Rattle.aspif.specs.Handing.{outside as of_none}
 use Rattle.aspif.proofs.Pieces.{not-got}
 use Rattle.aspif.proofs.Exact.{read-exact}
 
-pub restore-outside : {s before : List ℕ} {w : Whole} {d : List ℕ} → TextSeen s w d → w ≡ NoBook → Restores s before Outside before
+pub restore-outside : {s before : List ℕ} {w : Option (Making × ℕ)} {d : List ℕ} → TextSeen s w d → w ≡ None → Restores s before (Err Outside) before
 restore-outside (whole e m) f = let z : ◌≡◌ {A = ℕ} 0 1 = cc in apart z
 restore-outside {s} (none e) f = of_none (λ b g. not-got (sym e ∙ (read-exact s b).1 g))
 
@@ -33,18 +30,19 @@ pub record BookSeen (s : List ℕ) (m : Making) (n : ℕ) (d : List ℕ) : Type 
   pub formed : Formed s (record { atoms = n; rules = rules })
   pub made : Made rules m d
 
-pub book-seen : {s : List ℕ} {w : Whole} {d : List ℕ} {m : Making} {n : ℕ} → TextSeen s w d → w ≡ BookMade m n → BookSeen s m n d
+pub book-seen : {s : List ℕ} {w : Option (Making × ℕ)} {d : List ℕ} {m : Making} {n : ℕ} → TextSeen s w d → w ≡ Some (m, n) → BookSeen s m n d
 book-seen {s} {m = m} {n = n} (whole {b = b} {m = o} e a) f =
-    let p : o ≡ m = cc in
-    let q : b.atoms ≡ n = cc in
+    let k : ◌≡◌ {A = Making × ℕ} (o, b.atoms) (m, n) = cc in
+    let p : o ≡ m = ap (λ (x : Making × ℕ). x.0) k in
+    let q : b.atoms ≡ n = ap (λ (x : Making × ℕ). x.1) k in
     record { rules = b.rules; formed = rw (← q) ((read-exact s b).0 e); made = rw (← p) a }
 book-seen (none e) f = let z : ◌≡◌ {A = ℕ} 0 1 = cc in apart z
 
 module _ (s before : List ℕ) {m : Making} {n : ℕ} {d : List ℕ} (k : BookSeen s m n d) where
-  pub restore-passed : m.fits ≡ false → Restores s before NoFit before
+  pub restore-passed : m.fits ≡ false → Restores s before (Err NoFit) before
   restore-passed e = misfit k.formed (λ f. made-over k.made e (fits-small _ f))
 
-  pub restore-many : 255 < n → Restores s before NoFit before
+  pub restore-many : 255 < n → Restores s before (Err NoFit) before
   restore-many h = misfit k.formed (λ f. omega (arith, f.atoms))
 
   pub book-fits : m.fits ≡ true → n ≤ 255 → Fits (record { atoms = n; rules = k.rules })
@@ -65,10 +63,10 @@ module _ (s before : List ℕ) {m : Making} {n : ℕ} {d : List ℕ} (k : BookSe
     pub size-inside : size ≤ length draft
     size-inside = omega (arith, f.size, ap length f.bytes, length-take size draft)
 
-    pub restore-short : length before < size → Restores s before NoFit before
+    pub restore-short : length before < size → Restores s before (Err NoFit) before
     restore-short h = no_room k.formed (rw f.size at h)
 
     pub restore-given : m.fits ≡ true → n ≤ 255 → size ≤ length before → {after : List ℕ} → after ≡ at_front (take size draft) before
-        → Restores s before (GoodBook size) after
+        → Restores s before (Ok size) after
     restore-given e g h i =
         rw (i, f.bytes, f.size) (restored k.formed (book-fits e g) (rw f.size at h))

@@ -6,6 +6,7 @@ use Prim.Native.Nat.{ℕ, ◌≤◌}
 use native.Mathlib.Omega.{arith}
 use lib.ListN.{length, take}
 use lib.Seq.{take-append_seam}
+use Rattle.std.specs.Prelude.{Result, Ok}
 use Rattle.meaning.specs.Books.{Rule, Book}
 use Rattle.meaning.specs.Told.{Told, success, refused, Answered}
 use Rattle.meaning.proofs.Tests.{apart}
@@ -15,10 +16,8 @@ use Rattle.book.specs.Format.{BookRead, good, bad, read_of, book_of, book_in}
 use Rattle.book.specs.Writing.{Fits}
 use Rattle.book.proofs.Shapes.{good-fits}
 use Rattle.book.proofs.Writing.{write_read}
-use Rattle.aspif.specs.declared.answer.Exported.{Exported}
-use Rattle.aspif.specs.declared.answer.Exported.TheVariants.{Text}
-use Rattle.aspif.specs.declared.answer.Restored.{Restored}
-use Rattle.aspif.specs.declared.answer.Restored.TheVariants.{Book as GoodBook}
+use Rattle.aspif.specs.declared.answer.Unexported.{Unexported}
+use Rattle.aspif.specs.declared.answer.Unrestored.{Unrestored}
 use Rattle.aspif.specs.Text.{text_of, Loose}
 use Rattle.aspif.specs.Handing.{at_front, hand_text, export_read, export_of, Restores}
 use Rattle.aspif.proofs.Short.{text-short}
@@ -67,7 +66,7 @@ module _ (s out after : List ℕ) (m : ℕ) where
   unfolding export_read
   bad-wrote i at e = let f = ap (λ (a : Answered ℕ). a.told) e in let z : ◌≡◌ {A = ℕ} 0 1 = cc in apart z
 
-export-wrote : (s out after : List ℕ) (m : ℕ) → ExportPromise s out (Text m) after → Wrote s m after
+export-wrote : (s out after : List ℕ) (m : ℕ) → ExportPromise s out (Ok m) after → Wrote s m after
 unfolding export_of
 export-wrote s out after m e = by_read (read_of s) refl e
   where
@@ -88,9 +87,9 @@ read_fits : (s : List ℕ) → Bytes s → {n k index : ℕ} {l : List Rule} →
 unfolding book_in
 read_fits s bytes e = good-fits s _ _ _ _ bytes e
 
-pub round_trip : (s out : List ℕ) → Bytes s → {after : List ℕ} {m : ℕ} → ExportPromise s out (Text m) after
-    → {r : Restored} {room book : List ℕ} → Restores (take m after) room r book → length s ≤ length room
-    → (r ≡ GoodBook (length s)) × (book ≡ at_front s room)
+pub round_trip : (s out : List ℕ) → Bytes s → {after : List ℕ} {m : ℕ} → ExportPromise s out (Ok m) after
+    → {r : Result ℕ Unrestored} {room book : List ℕ} → Restores (take m after) room r book → length s ≤ length room
+    → (r ≡ Ok (length s)) × (book ≡ at_front s room)
 round_trip s out bytes {after} {m} e {r} {room} {book} p h =
     let w = export-wrote s out after m e in
     let f : Fits (book_in s) = read_fits s bytes w.read in
@@ -100,7 +99,7 @@ round_trip s out bytes {after} {m} e {r} {room} {book} p h =
 -- ---- there is something to read back
 
 pub export-writes : (s out : List ℕ) → Bytes s → {n k index : ℕ} {l : List Rule} → read_of s ≡ good n k index l → 44382 ≤ length out
-    → {r : Exported} {after : List ℕ} → ExportPromise s out r after → r ≡ Text (length (text_of (book_in s)))
+    → {r : Result ℕ Unexported} {after : List ℕ} → ExportPromise s out r after → r ≡ Ok (length (text_of (book_in s)))
 unfolding export_of export_read hand_text book_in book_of
 export-writes s out bytes {n} {k} {index} {l} e h p =
     let f : Fits (record { atoms = n; rules = l }) = rw e at (read_fits s bytes e) in
@@ -108,4 +107,4 @@ export-writes s out bytes {n} {k} {index} {l} e h p =
     (record { told = success (length (text_of (record { atoms = n; rules = l }))); buffer = at_front (text_of (record { atoms = n; rules = l })) out })
     = rw e (lt_no _ _ _ _ (omega (arith, text-short (record { atoms = n; rules = l }) f))) in
     let w : ◌≡◌ {A = Told ℕ} (success (length (text_of (record { atoms = n; rules = l })))) (success (length (text_of (book_in s)))) = rw e in
-    exported-one _ (Text (length (text_of (book_in s)))) (ap (λ (a : Answered ℕ). a.told) (p ∙ q) ∙ w)
+    exported-one _ (Ok (length (text_of (book_in s)))) (ap (λ (a : Answered ℕ). a.told) (p ∙ q) ∙ w)

@@ -5,14 +5,15 @@ use mathlib.Core.List.{List, []}
 use Prim.Native.Nat.{ℕ, ◌<◌, ◌≤◌}
 use native.Mathlib.Omega.{arith}
 use lib.ListN.{length, take, length-append}
+use Rattle.std.specs.Prelude.{Result, Err}
 use Rattle.meaning.specs.Books.{Rule, Book}
 use Rattle.meaning.specs.Told.{Told, success, refused_at, refused, Answered}
 use Rattle.meaning.proofs.Tests.{apart}
 use Rattle.meaning.proofs.Told.{success-one}
 use Rattle.meaning.proofs.Choice.{lt_yes, lt_no, lt-either}
 use Rattle.book.specs.Format.{BookRead, good, bad, read_of, book_of, book_in}
-use Rattle.aspif.specs.declared.answer.Restored.{Restored}
-use Rattle.aspif.specs.declared.answer.Restored.TheVariants.{Outside, NoFit}
+use Rattle.aspif.specs.declared.answer.Unrestored.{Unrestored}
+use Rattle.aspif.specs.declared.answer.Unrestored.TheVariants.{Outside, NoFit}
 use Rattle.aspif.specs.Text.{text_of, Formed}
 use Rattle.aspif.specs.Handing.{told_book, at_front, hand_text, export_read, export_of, Restores}
 use Rattle.aspif.specs.Sentences.{Caller, Keeps, Exports, RestoresAll, GoesRound}
@@ -26,7 +27,7 @@ answered a e k = rw (← e, ← k)
 
 -- every call of r meets the promise of restore
 pub record Meets (r : Caller) (s before : List ℕ) : Type 0 where
-  pub answer : Restored
+  pub answer : Result ℕ Unrestored
   pub told : (r s before).told ≡ told_book answer
   pub holds : Restores s before answer (r s before).buffer
 
@@ -35,11 +36,11 @@ pub record Meets (r : Caller) (s before : List ℕ) : Type 0 where
 pub restores-all : (r : Caller) → ((s before : List ℕ) → Meets r s before) → RestoresAll r
 restores-all r meets = record {
   none = λ s before. let m = meets s before in (
-    (λ e. (refused-34 m.holds).0 (restored-one _ Outside (sym m.told ∙ e))),
+    (λ e. (refused-34 m.holds).0 (restored-one _ (Err Outside) (sym m.told ∙ e))),
     (λ n. m.told ∙ ap told_book (restored-none m.holds n).0),
   );
   over = λ s before. let m = meets s before in (
-    (λ e. (refused-35 m.holds).0 (restored-one _ NoFit (sym m.told ∙ e))),
+    (λ e. (refused-35 m.holds).0 (restored-one _ (Err NoFit) (sym m.told ∙ e))),
     (λ w. m.told ∙ ap told_book (restored-not w.1 m.holds w.2).0),
   );
   gives = λ s before b f g h.

@@ -59,7 +59,7 @@ outputs-short k (suc n) h =
       outputs-short (suc k) n (omega arith),
     ))
 
-pub short : (b : Book) → b.atoms ≤ 255 → count b ≤ 255 → ((r : Rule) → Memᴰ r b.rules → RuleFits b.atoms r)
+short : (b : Book) → b.atoms ≤ 255 → count b ≤ 255 → ((r : Rule) → Memᴰ r b.rules → RuleFits b.atoms r)
     → length (text_of b) ≤ 44382
 unfolding text_of count
 short b h g f = simp length-append (omega (arith, rules-short b.rules b.atoms h f, outputs-short 0 b.atoms (omega arith)))

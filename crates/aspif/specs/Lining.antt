@@ -8,20 +8,15 @@ use Rattle.std.specs.Prelude.{◌≡◌, List, [], ◌∷◌, ℕ, suc, ◌-◌,
 use Rattle.meaning.specs.Books.{Rule, Book}
 use Rattle.book.specs.declared.making.Making.{Making}
 use Rattle.book.specs.Making.{Made, Adds}
-use Rattle.aspif.specs.declared.rule.Ruled.{Ruled}
-use Rattle.aspif.specs.declared.rule.Ruled.TheVariants.{Outside}
-use Rattle.aspif.specs.declared.rule.Ruled.TheVariants.{Rule as Added}
+use Rattle.std.specs.Prelude.{Option, Some, None}
 use Rattle.aspif.specs.declared.rules.Rules.{Rules}
 use Rattle.aspif.specs.declared.outputs.Outputs.{Outputs}
-use Rattle.aspif.specs.declared.whole.Whole.{Whole}
-use Rattle.aspif.specs.declared.whole.Whole.TheVariants.{Outside as NoBook}
-use Rattle.aspif.specs.declared.whole.Whole.TheVariants.{Book as BookMade}
 use Rattle.aspif.specs.Reading.{Got, got, outside, rules_in, outputs_in, top_rule, top_rules, book_from}
 
-pub data Lined (s : List ℕ) (x : Got Rule) (at : ℕ) (m : Making) (before : List ℕ) : Ruled → List ℕ → Type 0 where
+pub data Lined (s : List ℕ) (x : Got Rule) (at : ℕ) (m : Making) (before : List ℕ) : Option (Making × ℕ × ℕ) → List ℕ → Type 0 where
   lined : {r : Rule} {n : Making} {top next : ℕ} {after : List ℕ} → x ≡ got r (drop next s) → Adds (r ∷ []) m before n after
-      → top ≡ top_rule r → at < next → next ≤ length s → Lined s x at m before (Added n top next) after
-  other : x ≡ outside → Lined s x at m before Outside before
+      → top ≡ top_rule r → at < next → next ≤ length s → Lined s x at m before (Some (n, top, next)) after
+  other : x ≡ outside → Lined s x at m before None before
 
 pub record RulesSeen (s : List ℕ) (at : ℕ) (r : Rules) (draft : List ℕ) : Type 0 where
   pub rules : List Rule
@@ -34,6 +29,6 @@ pub record OutputsSeen (s : List ℕ) (at : ℕ) (r : Outputs) : Type 0 where
   pub read : outputs_in (suc (length s - at)) 0 (drop at s) ≡ got r.count (drop r.next s)
   pub inside : r.next ≤ length s
 
-pub data TextSeen (s : List ℕ) : Whole → List ℕ → Type 0 where
-  whole : {b : Book} {m : Making} {draft : List ℕ} → book_from s ≡ got b [] → Made b.rules m draft → TextSeen s (BookMade m b.atoms) draft
-  none : {draft : List ℕ} → book_from s ≡ outside → TextSeen s NoBook draft
+pub data TextSeen (s : List ℕ) : Option (Making × ℕ) → List ℕ → Type 0 where
+  whole : {b : Book} {m : Making} {draft : List ℕ} → book_from s ≡ got b [] → Made b.rules m draft → TextSeen s (Some (m, b.atoms)) draft
+  none : {draft : List ℕ} → book_from s ≡ outside → TextSeen s None draft

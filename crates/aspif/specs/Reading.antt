@@ -14,8 +14,7 @@ use Prim.{Unit, tt}
 use Rattle.meaning.specs.declared.AtomNo.{AtomNo}
 use Rattle.meaning.specs.Books.{atom_no, Rule, Book}
 use Rattle.meaning.specs.Choice.{if_lt, if_eq}
-use Rattle.decimal.specs.declared.Digits.{Digits}
-use Rattle.decimal.specs.declared.Digits.TheVariants.{Value, Nothing}
+use Rattle.std.specs.Prelude.{Option, Some, None}
 use Rattle.decimal.specs.Digits.{plain_of}
 use Rattle.aspif.specs.Text.{header, opening, normal, plus, minus, line_end, last, output_line}
 
@@ -41,9 +40,9 @@ unfoldable pub digit_count : List ℕ → ℕ
 digit_count [] = 0
 digit_count (x ∷ l) = if_lt x 48 0 (if_lt 57 x 0 (suc (digit_count l)))
 
-unfoldable pub numbered : Digits → List ℕ → Got ℕ
-numbered (Value v) l = got v l
-numbered Nothing l = outside
+unfoldable pub numbered : Option ℕ → List ℕ → Got ℕ
+numbered (Some v) l = got v l
+numbered None l = outside
 
 unfoldable pub number_in : ℕ → List ℕ → Got ℕ
 number_in most l = numbered (plain_of most (take (digit_count l) l)) (drop (digit_count l) l)

@@ -12,6 +12,6 @@ mod scan;
 mod whole;
 mod write;
 
-pub use answer::{Exported, Restored};
+pub use answer::{Unexported, Unrestored};
 pub use read::restore;
 pub use write::{TEXT_ROOM, export};

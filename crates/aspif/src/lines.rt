@@ -1,11 +1,11 @@
 // The lines of a text, written into a buffer that has room for them.
 ghost use Rattle.std.specs.Prelude.{◌++◌, map, ◌+◌, ◌≤◌, ◌<◌, length};
 ghost use Rattle.meaning.specs.Books.{atom_no, rule};
-ghost use Rattle.book.specs.Format.{book_in, ReadAs};
+ghost use Rattle.book.specs.ReadBook.{the_book};
 ghost use Rattle.decimal.specs.Fewest.{decimal, Stored};
 ghost use Rattle.aspif.specs.Text.{part_bytes, rule_line, rule_lines, output_line, output_lines};
 
-use book::{Shape, head, negatives, positives, wide};
+use book::{ReadBook, wide};
 use decimal::put_number;
 use meaning::RuleNo;
 
@@ -14,12 +14,9 @@ pub fn put_text(word: &[u8], out: &mut [u8], at: usize) -> usize
     requires { at + length word.now ≤ length out.old }
     ensures { Stored word.now at out.old result out.new }
 {
-    let mut i = 0;
-    while i < word.len() {
-        out[at + i] = word[i];
-        i += 1;
-    }
-    at + i
+    let end = at + word.len();
+    out[at..end].copy_from_slice(word);
+    end
 }
 
 // Writes the word and the number behind it; where they end.
@@ -33,30 +30,28 @@ fn put_item(word: &[u8], n: usize, out: &mut [u8], at: usize) -> usize
 }
 
 // Writes the atoms of one part of a body, each one more and behind the sign.
-fn put_part<'a>(part: &'a [u8], sign: &'a [u8], out: &mut [u8], at: usize) -> usize
+fn put_part(part: &[u8], sign: &[u8], out: &mut [u8], at: usize) -> usize
     requires { at + length (part_bytes sign.now (map atom_no part.now)) ≤ length out.old }
     ensures { Stored (part_bytes sign.now (map atom_no part.now)) at
         out.old result out.new }
 {
     let mut end = at;
-    let mut i = 0;
-    while i < part.len() {
-        end = put_item(sign, wide(part[i]) + 1, out, end);
-        i += 1;
+    for n in part {
+        end = put_item(sign, wide(*n) + 1, out, end);
     }
     end
 }
 
 // Writes the line of rule r.
-fn put_rule(book: &[u8], shape: Shape, r: RuleNo, out: &mut [u8], at: usize) -> usize
-    requires { ReadAs book.now shape × (r.0 < shape.rules)
-        × (at + length (rule_line (rule (book_in book.now) r)) ≤ length out.old) }
-    ensures { Stored (rule_line (rule (book_in book.now) r)) at
+fn put_rule(book: &ReadBook, r: RuleNo, out: &mut [u8], at: usize) -> usize
+    requires { (r.0 < book.now.shape.rules)
+        × (at + length (rule_line (rule (the_book book.now) r)) ≤ length out.old) }
+    ensures { Stored (rule_line (rule (the_book book.now) r)) at
         out.old result out.new }
 {
-    let pos = positives(book, shape, r);
-    let neg = negatives(book, shape, r);
-    let headed = put_item(b"1 0 1 ", wide(head(book, shape, r).0) + 1, out, at);
+    let pos = book.positives(r);
+    let neg = book.negatives(r);
+    let headed = put_item(b"1 0 1 ", wide(book.head(r).0) + 1, out, at);
     let counted = put_item(b" 0 ", pos.len() + neg.len(), out, headed);
     let positive = put_part(pos, b" ", out, counted);
     let negative = put_part(neg, b" -", out, positive);
@@ -64,17 +59,14 @@ fn put_rule(book: &[u8], shape: Shape, r: RuleNo, out: &mut [u8], at: usize) -> 
 }
 
 // Writes the lines of all rules.
-pub fn put_rules(book: &[u8], shape: Shape, out: &mut [u8], at: usize) -> usize
-    requires { ReadAs book.now shape
-        × (at + length (rule_lines (book_in book.now).rules) ≤ length out.old) }
-    ensures { Stored (rule_lines (book_in book.now).rules) at
+pub fn put_rules(book: &ReadBook, out: &mut [u8], at: usize) -> usize
+    requires { at + length (rule_lines (the_book book.now).rules) ≤ length out.old }
+    ensures { Stored (rule_lines (the_book book.now).rules) at
         out.old result out.new }
 {
     let mut end = at;
-    let mut r: u8 = 0;
-    while r < shape.rules {
-        end = put_rule(book, shape, RuleNo(r), out, end);
-        r += 1;
+    for r in 0..book.shape.rules {
+        end = put_rule(book, RuleNo(r), out, end);
     }
     end
 }
@@ -99,10 +91,8 @@ pub fn put_outputs(atoms: u8, out: &mut [u8], at: usize) -> usize
     ensures { Stored (output_lines 0 atoms) at out.old result out.new }
 {
     let mut end = at;
-    let mut n: u8 = 0;
-    while n < atoms {
+    for n in 0..atoms {
         end = put_output(wide(n), out, end);
-        n += 1;
     }
     end
 }

@@ -3,7 +3,7 @@ ghost use Rattle.std.specs.Prelude.{◌≤◌, length};
 ghost use Rattle.aspif.specs.Lining.{OutputsSeen};
 
 use crate::lines::put_output;
-use crate::scan::{Went, skip_text};
+use crate::scan::skip_text;
 
 // How many output lines there are, and where the text goes on.
 #[derive(Clone, Copy)]
@@ -23,7 +23,7 @@ pub fn read_outputs(text: &[u8], at: usize) -> Outputs
     let mut next = at;
     loop {
         let size = put_output(count, &mut line, 0);
-        let Went::To(end) = skip_text(text, next, &line[..size]) else {
+        let Some(end) = skip_text(text, next, &line[..size]) else {
             return Outputs { count, next };
         };
         count += 1;

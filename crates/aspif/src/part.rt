@@ -4,11 +4,11 @@ ghost use Rattle.meaning.specs.declared.AtomNo.{AtomNo};
 ghost use Rattle.meaning.specs.Books.{atom_no};
 ghost use Rattle.aspif.specs.Gathering.{Held, PartSeen};
 
-use crate::scan::{Number, read_item};
+use crate::scan::read_item;
 use meaning::Colouring;
 
 // How many atoms a part has, the largest number of them, where the text goes on, and whether all
-// of them are below 255.
+// of them are below 255. The atoms are in the caller's table, so an Option here would hold nothing.
 #[derive(Clone, Copy)]
 pub struct Part {
     pub count: usize,
@@ -32,12 +32,7 @@ fn keep_atom(small: bool, value: usize, table: &mut [bool; Colouring::ATOMS]) ->
 
 // Reads the literals at `at`, each behind the sign, as many as there are, and puts their atoms
 // into the table.
-pub fn read_part<'a>(
-    text: &'a [u8],
-    at: usize,
-    sign: &'a [u8],
-    table: &mut [bool; Colouring::ATOMS],
-) -> Part
+pub fn read_part(text: &[u8], at: usize, sign: &[u8], table: &mut [bool; Colouring::ATOMS]) -> Part
     requires { (at ≤ length text.now) × (table.old ≡ replicate 255 false) }
     ensures { PartSeen text.now sign.now at result table.new }
 {
@@ -46,7 +41,7 @@ pub fn read_part<'a>(
     let mut next = at;
     let mut small = true;
     loop {
-        let Number::Value(value, end) = read_item(text, next, sign, top + 1) else {
+        let Some((value, end)) = read_item(text, next, sign, top + 1) else {
             return Part {
                 count,
                 top,

@@ -3,7 +3,7 @@ ghost use Rattle.std.specs.Prelude.{◌≤◌, ◌≡◌, length};
 ghost use Rattle.book.specs.Format.{book_bytes};
 ghost use Rattle.aspif.specs.Lining.{RulesSeen};
 
-use crate::rule::{Ruled, larger, read_rule};
+use crate::rule::read_rule;
 use book::{BOOK_BYTES, Making};
 
 // The book that is made of the rules, the largest number in them, and where the text goes on.
@@ -23,11 +23,11 @@ pub fn read_rules(text: &[u8], at: usize, draft: &mut [u8; BOOK_BYTES]) -> Rules
     let mut top = 0;
     let mut next = at;
     loop {
-        let Ruled::Rule(made, most, end) = read_rule(text, next, draft, making) else {
+        let Some((made, most, end)) = read_rule(text, next, draft, making) else {
             return Rules { making, top, next };
         };
         making = made;
-        top = larger(top, most);
+        top = top.max(most);
         next = end;
     }
 }

@@ -5,35 +5,24 @@ ghost use Rattle.aspif.specs.Lining.{TextSeen};
 
 use crate::outputs::read_outputs;
 use crate::rules::read_rules;
-use crate::scan::{Went, skip_text};
+use crate::scan::skip_text;
 use book::{BOOK_BYTES, Making};
 
-// The book that is made of the text's rules, and how many atoms it has.
-#[derive(Clone, Copy)]
-pub enum Whole {
-    Book(Making, usize),
-    Outside,
-}
-
-// Reads the text from its first byte to its last.
-pub fn read_text(text: &[u8], draft: &mut [u8; BOOK_BYTES]) -> Whole
+// Reads the text from its first byte to its last: the book that is made of its rules, and how many
+// atoms it has.
+pub fn read_text(text: &[u8], draft: &mut [u8; BOOK_BYTES]) -> Option<(Making, usize)>
     requires { length draft.old ≡ book_bytes }
     ensures { TextSeen text.now result draft.new }
 {
-    let Went::To(started) = skip_text(text, 0, b"asp 1 0 0\n") else {
-        return Whole::Outside;
-    };
+    let started = skip_text(text, 0, b"asp 1 0 0\n")?;
     let rules = read_rules(text, started, draft);
     let outputs = read_outputs(text, rules.next);
-    let Went::To(end) = skip_text(text, outputs.next, b"0\n") else {
-        return Whole::Outside;
-    };
+    let end = skip_text(text, outputs.next, b"0\n")?;
     if end != text.len() {
-        return Whole::Outside;
+        return None;
     }
     if outputs.count < rules.top {
-        return Whole::Outside;
+        return None;
     }
-    let making = rules.making;
-    Whole::Book(making, outputs.count)
+    Some((rules.making, outputs.count))
 }

@@ -19,7 +19,7 @@ use Rattle.meaning.proofs.Tests.{or_left, or_right}
 use Rattle.meaning.proofs.Sets.{all-next}
 use Rattle.meaning.proofs.Rules.{atom-same}
 use Rattle.meaning.proofs.Listed.{table-long, table_at}
-use Rattle.book.specs.Tables.{atom_table, atoms_in}
+use Rattle.book.specs.Tables.{atom_table, atoms_in, said_by}
 
 -- ---- reading
 
@@ -69,21 +69,21 @@ unfoldable pub heads_to : Book → Rules → ℕ → Atoms
 heads_to b s k a = some_below k (λ n. s (rule_no n) && same_atom (rule b (rule_no n)).head a)
 
 module _ (b : Book) (s : Rules) where
-  pub heads-none : replicate 255 false ≡ atom_table (heads_to b s 0)
+  heads-none : replicate 255 false ≡ atom_table (heads_to b s 0)
   unfolding heads_to some_below
   heads-none = table_filled false
 
-  pub heads-skip : (k : ℕ) → s (rule_no k) ≡ false → atom_table (heads_to b s k) ≡ atom_table (heads_to b s (k + 1))
+  heads-skip : (k : ℕ) → s (rule_no k) ≡ false → atom_table (heads_to b s k) ≡ atom_table (heads_to b s (k + 1))
   unfolding heads_to some_below
   heads-skip k e = table_same _ _ (λ a. rw (add-one, e))
 
-  pub heads-store : (k : ℕ) (a : AtomNo) → a ≡ (rule b (rule_no k)).head → a.0 < 255 → s (rule_no k) ≡ true
+  heads-store : (k : ℕ) (a : AtomNo) → a ≡ (rule b (rule_no k)).head → a.0 < 255 → s (rule_no k) ≡ true
       → (l : List Bool) (n : ℕ) → l ≡ atom_table (heads_to b s k) → n ≡ a.0 → set l n true ≡ atom_table (heads_to b s (k + 1))
   unfolding heads_to some_below
   heads-store k a q h e l n f p =
       rw (f, p) (table-set _ _ a true h (rw (add-one, e) (or_left _ (atom-same (sym q)))) (λ c d. rw (add-one, e, ← q, other-atom a c d)))
 
-  pub heads-end : (k : ℕ) → k ≡ count b → atom_table (heads_to b s k) ≡ atom_table (heads b s)
+  heads-end : (k : ℕ) → k ≡ count b → atom_table (heads_to b s k) ≡ atom_table (heads b s)
   unfolding heads heads_to some_rule
   heads-end k e = rw e
 
@@ -93,21 +93,21 @@ unfoldable pub all_to : Book → Rules → ℕ → Atoms
 all_to b s k a = every_below k (λ n. not (same_atom (rule b (rule_no n)).head a) || s (rule_no n))
 
 module _ (b : Book) (s : Rules) where
-  pub all_none : replicate 255 true ≡ atom_table (all_to b s 0)
+  all_none : replicate 255 true ≡ atom_table (all_to b s 0)
   unfolding all_to every_below
   all_none = table_filled true
 
-  pub all-skip : (k : ℕ) → s (rule_no k) ≡ true → atom_table (all_to b s k) ≡ atom_table (all_to b s (k + 1))
+  all-skip : (k : ℕ) → s (rule_no k) ≡ true → atom_table (all_to b s k) ≡ atom_table (all_to b s (k + 1))
   unfolding all_to every_below
   all-skip k e = table_same _ _ (λ a. rw (add-one, or_right (not (same_atom (rule b (rule_no k)).head a)) e))
 
-  pub all-store : (k : ℕ) (a : AtomNo) → a ≡ (rule b (rule_no k)).head → a.0 < 255 → s (rule_no k) ≡ false
+  all-store : (k : ℕ) (a : AtomNo) → a ≡ (rule b (rule_no k)).head → a.0 < 255 → s (rule_no k) ≡ false
       → (l : List Bool) (n : ℕ) → l ≡ atom_table (all_to b s k) → n ≡ a.0 → set l n false ≡ atom_table (all_to b s (k + 1))
   unfolding all_to every_below
   all-store k a q h e l n f p =
       rw (f, p) (table-set _ _ a false h (rw (add-one, e, atom-same (sym q))) (λ c d. rw (add-one, e, ← q, other-atom a c d)))
 
-  pub all_end : (k : ℕ) → k ≡ count b → atom_table (all_to b s k) ≡ atom_table (all_in b s)
+  all_end : (k : ℕ) → k ≡ count b → atom_table (all_to b s k) ≡ atom_table (all_in b s)
   unfolding all_in all_to every_rule
   all_end k e = rw e
 
@@ -129,3 +129,27 @@ module _ (b : Book) (s : Rules) where
     pub all-at-end : k ≡ count b → all_to b s k a ≡ true → all_in b s a ≡ true
     unfolding all_in all_to every_rule
     all-at-end e t = rw (← e) t
+
+-- ---- either table, as far as rule k
+
+abbrev pub said_to : Bool → Book → Rules → ℕ → Atoms
+said_to true = heads_to
+said_to false = all_to
+
+module _ (b : Book) (s : Rules) where
+  pub said-none : (v : Bool) → replicate 255 (not v) ≡ atom_table (said_to v b s 0)
+  said-none true = heads-none b s
+  said-none false = all_none b s
+
+  pub said-skip : (v : Bool) (k : ℕ) → s (rule_no k) ≡ not v → atom_table (said_to v b s k) ≡ atom_table (said_to v b s (k + 1))
+  said-skip true = heads-skip b s
+  said-skip false = all-skip b s
+
+  pub said-store : (v : Bool) (k : ℕ) (a : AtomNo) → a ≡ (rule b (rule_no k)).head → a.0 < 255 → s (rule_no k) ≡ v
+      → (l : List Bool) (n : ℕ) → l ≡ atom_table (said_to v b s k) → n ≡ a.0 → set l n v ≡ atom_table (said_to v b s (k + 1))
+  said-store true = heads-store b s
+  said-store false = all-store b s
+
+  pub said-end : (v : Bool) (k : ℕ) → k ≡ count b → atom_table (said_to v b s k) ≡ atom_table (said_by v b s)
+  said-end true = heads-end b s
+  said-end false = all_end b s

@@ -9,6 +9,7 @@ use native.Mathlib.Nat.{not-suc-le-zero, le_of_suc-le-suc}
 use native.Mathlib.Numerals.{add-one}
 use lib.ListN.{length, get_or, drop, drop_of_length-le}
 use lib.Seq.{drop-cons}
+use Rattle.std.specs.List.{list_all}
 use Rattle.meaning.specs.declared.AtomNo.{AtomNo}
 use Rattle.meaning.specs.Sets.{every, some}
 use Rattle.meaning.specs.Books.{Atoms, Rules, atom_no, rule_no, Book, count, rule}
@@ -17,6 +18,13 @@ use Rattle.meaning.proofs.Tests.{true-and-false, refuted}
 use Rattle.meaning.proofs.Rules.{all_in-at}
 use Rattle.book.specs.Tables.{atoms_in, Below}
 use Rattle.book.specs.Writing.{atom_bytes}
+
+-- ---- a whole part
+
+pub all-every : (x : Atoms) (l : List ℕ) → list_all (λ n. x (atom_no n)) l ≡ every x (map atom_no l)
+unfolding every
+all-every x [] = refl
+all-every x (n ∷ l) = ap (λ (t : Bool). x (atom_no n) && t) (all-every x l)
 
 -- ---- one turn of a search
 

@@ -1,14 +1,13 @@
--- Runs of bytes (specs/Making): one behind the other they are one run, and what stands before a run is what stood there; bytes copied to a
--- buffer's front; and the atoms of a table, counted and written.
+-- Runs of bytes (specs/Making): one behind the other they are one run, and what stands before a run is what stood there; and the
+-- atoms of a table, counted and written.
 use mathlib.Core.Path.{◌≡◌, refl, sym, ◌∙◌, ap}
 use mathlib.Core.Bool.{Bool, true, false}
 use mathlib.Core.List.{List, [], ◌∷◌, ◌++◌, append_assoc, append-nil}
 use Prim.Native.Nat.{ℕ, ◌+◌, ◌≤◌, ◌<◌}
-use native.Mathlib.Nat.{zero-add}
 use native.Mathlib.Numerals.{add-one}
 use native.Mathlib.Omega.{arith}
-use lib.ListN.{length, get_or, take, drop, set, length-append, length-map, length-set}
-use lib.Seq.{paste-suc, take-length, length-take-le, take-suc-set, take-take, take-append-le, get_or-take}
+use lib.ListN.{length, get_or, take, set, length-append, length-map, length-set}
+use lib.Seq.{length-take-le, take-suc-set, take-take, take-append-le, get_or-take}
 use Rattle.meaning.specs.declared.AtomNo.{AtomNo}
 use Rattle.book.specs.Format.{book_bytes}
 use Rattle.book.specs.Writing.{atom_bytes}
@@ -50,18 +49,6 @@ pub puts-byte : {l : List ℕ} {at n i : ℕ} {a b : List ℕ} → Puts l at a n
     → get_or b i 0 ≡ get_or a i 0
 puts-byte {at = at} {i = i} {a} {b} v e h g =
     sym (get_or-take at b i 0 g) ∙ ap (λ (t : List ℕ). get_or t i 0) (puts-kept v e h) ∙ get_or-take at a i 0 g
-
--- the buffer with the first i bytes copied to its front
-abbrev pub copied : List ℕ → List ℕ → ℕ → List ℕ
-copied bytes out i = take i bytes ++ drop i out
-
-pub copy-turn : (bytes out : List ℕ) (i : ℕ) → i < length bytes → i < length out → {w : List ℕ} → w ≡ copied bytes out i
-    → set w i (get_or bytes i 0) ≡ copied bytes out (i + 1)
-copy-turn bytes out i k h e = rw (e, add-one) (simp zero-add at (paste-suc out 0 bytes i 0 (omega arith) k))
-
-pub copy-end : (bytes out : List ℕ) (i : ℕ) → i ≡ length bytes → {w : List ℕ} → w ≡ copied bytes out i
-    → w ≡ bytes ++ drop (length bytes) out
-copy-end bytes out i f e = e ∙ rw (f, take-length)
 
 -- ---- the atoms of a table, counted and written
 

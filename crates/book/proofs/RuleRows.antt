@@ -81,12 +81,12 @@ module _ (b : Book) (t : List ℕ) (k : RuleRows b t) (s : List ℕ) where
   every-lost (a ∷ l) f =
       ap₂ ◌&&◌ (lost-by a (omega (arith, f a (Memᴰ.head refl)))) (every-lost l (λ c m. f c (Memᴰ.tail m)))
 
--- as the code asks: the row and the set by value
-module _ {x : Bool} (t s w v : List ℕ) (a : AtomNo) (f : w ≡ row t a.0) (g : v ≡ s) where
-  pub headed-asked : x ≡ some_below 256 (both-in (members w) (members v)) → x ≡ headed_by t s a
+-- as the code asks: the row by value
+module _ {x : Bool} (t s w : List ℕ) (a : AtomNo) (f : w ≡ row t a.0) where
+  pub headed-asked : x ≡ some_below 256 (both-in (members w) (members s)) → x ≡ headed_by t s a
   unfolding sets headed_by
-  headed-asked e = e ∙ ap₂ (λ (p q : List ℕ). some_below 256 (both-in (members p) (members q))) f g
+  headed-asked e = e ∙ ap (λ (p : List ℕ). some_below 256 (both-in (members p) (members s))) f
 
-  pub lost-asked : x ≡ every_below 256 (implied-in (members w) (members v)) → x ≡ lost_by t s a
+  pub lost-asked : x ≡ every_below 256 (implied-in (members w) (members s)) → x ≡ lost_by t s a
   unfolding sets lost_by
-  lost-asked e = e ∙ ap₂ (λ (p q : List ℕ). every_below 256 (implied-in (members p) (members q))) f g
+  lost-asked e = e ∙ ap (λ (p : List ℕ). every_below 256 (implied-in (members p) (members s))) f

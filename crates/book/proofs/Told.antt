@@ -8,8 +8,7 @@ use Rattle.meaning.proofs.Told.{again, one_again}
 use Rattle.book.specs.declared.refusal.Refusal.{Refusal}
 use Rattle.book.specs.declared.refusal.Refusal.TheVariants.{Length, Mark, Trailer, Entry, Record, Atom, Order}
 use Rattle.book.specs.declared.reader.Shape.{Shape}
-use Rattle.book.specs.declared.reader.Read.{Read}
-use Rattle.book.specs.declared.reader.Read.TheVariants.{Good, Refused}
+use Rattle.std.specs.Prelude.{Result, Ok, Err}
 use Rattle.book.specs.Numbers.{number_of, place_of, told}
 
 abbrev pub refusal_at : ℕ → ℕ → Refusal
@@ -24,12 +23,12 @@ refusal-again (Record at) = refl
 refusal-again (Atom at) = refl
 refusal-again (Order at) = refl
 
-abbrev read_at : Told Shape → Read
-read_at = again Good (λ values. Refused Length) (λ number at. Refused (refusal_at number at)) (λ number. Refused Length)
+abbrev read_at : Told Shape → Result Shape Refusal
+read_at = again Ok (λ values. Err Length) (λ number at. Err (refusal_at number at)) (λ number. Err Length)
 
-read_again : (r : Read) → read_at (told r) ≡ r
-read_again (Good s) = refl
-read_again (Refused f) = ap Refused (refusal-again f)
+read_again : (r : Result Shape Refusal) → read_at (told r) ≡ r
+read_again (Ok s) = refl
+read_again (Err f) = ap Err (refusal-again f)
 
-pub told-one : (r q : Read) → told r ≡ told q → r ≡ q
+pub told-one : (r q : Result Shape Refusal) → told r ≡ told q → r ≡ q
 told-one = one_again told read_at read_again

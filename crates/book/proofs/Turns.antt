@@ -1,15 +1,22 @@
 -- The definitions of the format as the reader goes through them: one turn of each loop, its end, and what a check's answer makes of
 -- the check that stands before it. Each is its definition unfolded once. Document 01, "The rule book" and "Numbers given back".
-use mathlib.Core.Path.{◌≡◌, ◌∙◌}
-use mathlib.Core.List.{List}
+use mathlib.Core.Path.{◌≡◌, refl, sym, ap, ◌∙◌}
+use mathlib.Core.Bool.{Bool, true, false}
+use mathlib.Core.List.{List, [], ◌∷◌}
 use Prim.Native.Nat.{ℕ, suc, ◌+◌, ◌*◌, ◌-◌, ◌<◌, ◌≤◌}
 use native.Mathlib.Numerals.{add-one}
 use native.Mathlib.Omega.{arith}
 use lib.ListN.{length, get_or, drop, drop_of_length-le}
 use lib.Seq.{drop-cons}
+use lib.Dec.{eqb}
+use Rattle.std.specs.Bool.{Decides}
+use Rattle.std.specs.List.{ends_with}
+use Rattle.std.proofs.lemmas.Bool.Decides.{Decides-eqb}
+use Rattle.std.proofs.lemmas.Slice.Eq.{slice_eq-Decides}
 use Rattle.meaning.specs.Choice.{if_lt, if_eq}
 use Rattle.meaning.specs.Told.{refused_at}
-use Rattle.meaning.proofs.Choice.{lt_yes, lt_no, eq_yes}
+use Rattle.meaning.proofs.Choice.{lt_yes, lt_no, eq_yes, eq-either}
+use Rattle.meaning.proofs.Tests.{true-and-false}
 use Rattle.book.specs.Numbers.{shape}
 use Rattle.book.specs.Format.{u16_at, Check, fine, wrong, part_of, and_then, positive_bytes, negative_bytes, bytes_of, record_of, length_of, book_bytes}
 use Rattle.book.specs.Format.{part_from, records_of, rules_of, BookRead, good, bad, if_fine, body_of, read_of, told_of}
@@ -69,6 +76,31 @@ module _ (c d x : Check) (e : x ≡ c) where
 pub told-bad : (x : BookRead) (i at : ℕ) → x ≡ bad i at → refused_at i at ≡ told_of x
 unfolding told_of
 told-bad x i at e = rw e
+
+-- the test of the mark is one of the last two bytes
+module _ (s : List ℕ) (long : 6 ≤ length s) {r : Bool} (e : r ≡ ends_with eqb s (0x52 ∷ (0x42 ∷ []))) where
+  last-two : drop (length s - 2) s ≡ get_or s (length s - 2) 0 ∷ (get_or s (length s - 1) 0 ∷ [])
+  last-two =
+      let m : suc (length s - 2) ≡ length s - 1 = omega arith in
+      drop-cons s (length s - 2) 0 (omega arith)
+      ∙ rw m (ap (λ (l : List ℕ). get_or s (length s - 2) 0 ∷ l)
+      (drop-cons s (length s - 1) 0 (omega arith)
+      ∙ ap (λ (l : List ℕ). get_or s (length s - 1) 0 ∷ l) (drop_of_length-le s {i = suc (length s - 1)} (omega arith))))
+
+  ends : Decides r (0x52 ∷ (0x42 ∷ []) ≡ drop (length s - 2) s)
+  ends = slice_eq-Decides Decides-eqb _ _ r e
+
+  pub marked : r ≡ true → (get_or s (length s - 2) 0 ≡ 0x52) × (get_or s (length s - 1) 0 ≡ 0x42)
+  marked t = let h = ends.0 t ∙ last-two in (cc, cc)
+
+  pub unmarked : r ≡ false → {A : Type 0} (a b : A)
+      → if_eq (get_or s (length s - 2) 0) 0x52 (if_eq (get_or s (length s - 1) 0) 0x42 a b) b ≡ b
+  unmarked f a b =
+      eq-either (λ x. x ≡ b) _ _ _ _
+      (λ p. eq-either (λ x. x ≡ b) _ _ _ _
+      (λ q. true-and-false (ends.1 (sym (last-two ∙ rw (p, q)))) f)
+      (λ n. refl))
+      (λ n. refl)
 
 -- the length, the mark and the trailer are right
 pub record FrameRead (s : List ℕ) (k index : ℕ) : Type 0 where

@@ -8,3 +8,4 @@ pub mod Places
 pub mod Tables
 pub mod Making
 pub mod RuleRows
+pub mod ReadBook

@@ -1,11 +1,9 @@
 -- What reading a book tells. Document 01, "Numbers given back": "Every answer names the place too, where the table gives one."
-use Rattle.std.specs.Prelude.{ℕ}
+use Rattle.std.specs.Prelude.{ℕ, Result, Ok, Err}
 use Rattle.meaning.specs.Told.{Told, success, refused_at}
 use Rattle.book.specs.declared.refusal.Refusal.{Refusal}
 use Rattle.book.specs.declared.refusal.Refusal.TheVariants.{Length, Mark, Trailer, Entry, Record, Atom, Order}
 use Rattle.book.specs.declared.reader.Shape.{Shape}
-use Rattle.book.specs.declared.reader.Read.{Read}
-use Rattle.book.specs.declared.reader.Read.TheVariants.{Good, Refused}
 
 -- success tells a good book's atom count, rule count and start of the index
 abbrev pub shape : ℕ → ℕ → ℕ → Told Shape
@@ -29,6 +27,6 @@ place_of (Record at) = at
 place_of (Atom at) = at
 place_of (Order at) = at
 
-abbrev pub told : Read → Told Shape
-told (Good s) = success s
-told (Refused f) = refused_at (number_of f) (place_of f)
+abbrev pub told : Result Shape Refusal → Told Shape
+told (Ok s) = success s
+told (Err f) = refused_at (number_of f) (place_of f)

@@ -2,27 +2,24 @@
 // of a good book are handed out in place. Stands on meaning.
 #![tactic(auto)]
 
-mod asking;
 mod conditions;
 mod making;
 mod number;
 mod part;
+mod read;
 mod reader;
 mod record;
 mod refusal;
-mod rules;
+mod rowed;
 mod standing;
-mod tables;
 
-pub use asking::{every_headed, is_headed, is_lost, may_go_on};
-pub use conditions::{every_in, goes_on, is_blocked, is_starved, some_in};
+pub use conditions::{every_in, some_in};
 pub use making::{Making, add_rule, copy_front, count_atoms, finish_book};
 pub use number::{u16_at, wide};
-pub use reader::{Read, Shape, read_book};
+pub use read::ReadBook;
+pub use reader::{Shape, read_book};
 pub use refusal::Refusal;
-pub use rules::{head, negatives, positives};
-pub use standing::{head_row, make_rows, neg_row, pos_row};
-pub use tables::{heads_of, lost_in};
+pub use rowed::RowedBook;
 
 // The last two bytes of every book: 52 42.
 pub const BOOK_MARK: [u8; 2] = [0x52, 0x42];

@@ -38,9 +38,8 @@ impl Making {
         ensures { result ≡ record { length = self.length; rules = self.rules; fits = false } }
     {
         Making {
-            length: self.length,
-            rules: self.rules,
             fits: false,
+            ..self
         }
     }
 }
@@ -50,12 +49,10 @@ pub fn count_atoms(table: &[bool; Colouring::ATOMS]) -> usize
     ensures { result ≡ length (listed table.now) }
 {
     let mut n = 0;
-    let mut a = 0;
-    while a < Colouring::ATOMS {
-        if table[a] {
+    for said in table {
+        if *said {
             n += 1;
         }
-        a += 1;
     }
     n
 }
@@ -86,12 +83,10 @@ fn write_atoms(draft: &mut [u8; BOOK_BYTES], at: usize, table: &[bool; Colouring
         draft.old result draft.new }
 {
     let mut n = at;
-    let mut a: u8 = 0;
-    while a < 255 {
-        if table[wide(a)] {
-            n = write_byte(draft, n, a);
+    for (a, said) in table.iter().enumerate() {
+        if *said {
+            n = write_byte(draft, n, a as u8);
         }
-        a += 1;
     }
     n
 }
@@ -177,11 +172,9 @@ fn write_index(draft: &mut [u8; BOOK_BYTES], m: Making) -> usize
 {
     let mut at = m.length;
     let mut start = 0;
-    let mut rule = 0;
-    while rule < m.rules {
+    for _rule in 0..m.rules {
         at = write_number(draft, at, start);
         start += size_at(draft, start);
-        rule += 1;
     }
     at
 }
@@ -206,9 +199,5 @@ pub fn copy_front(bytes: &[u8], out: &mut [u8])
     ensures { out.new ≡
         bytes.now ++ drop (length bytes.now) out.old }
 {
-    let mut i = 0;
-    while i < bytes.len() {
-        out[i] = bytes[i];
-        i += 1;
-    }
+    out[..bytes.len()].copy_from_slice(bytes);
 }

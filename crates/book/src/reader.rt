@@ -4,7 +4,6 @@ ghost use Rattle.book.specs.Numbers.{told};
 ghost use Rattle.book.specs.Format.{read_of, told_of};
 
 use crate::number::{u16_at, wide};
-use crate::part::Checked;
 use crate::record::check_records;
 use crate::refusal::Refusal;
 use crate::{BOOK_BYTES, BOOK_MARK};
@@ -17,43 +16,32 @@ pub struct Shape {
     pub index: usize,
 }
 
-#[derive(Clone, Copy)]
-pub enum Read {
-    Good(Shape),
-    Refused(Refusal),
-}
-
 // The shape of a good book, or the first thing that is wrong: the trailer first, then each record
 // in turn, then where the last one ends.
-pub fn read_book(book: &[u8]) -> Read
+pub fn read_book(book: &[u8]) -> Result<Shape, Refusal>
     ensures { told result ≡ told_of (read_of book.now) }
 {
     let len = book.len();
     if len < 6 {
-        return Read::Refused(Refusal::Length);
+        return Err(Refusal::Length);
     }
     if BOOK_BYTES < len {
-        return Read::Refused(Refusal::Length);
+        return Err(Refusal::Length);
     }
-    if book[len - 2] != BOOK_MARK[0] {
-        return Read::Refused(Refusal::Mark(len - 2));
-    }
-    if book[len - 1] != BOOK_MARK[1] {
-        return Read::Refused(Refusal::Mark(len - 2));
+    if !book.ends_with(&BOOK_MARK) {
+        return Err(Refusal::Mark(len - 2));
     }
     let atoms = book[len - 6];
     let rules = book[len - 5];
     let count = wide(rules);
     let index = u16_at(book, len - 4);
     if index + 2 * count + 6 != len {
-        return Read::Refused(Refusal::Trailer(len - 4));
+        return Err(Refusal::Trailer(len - 4));
     }
-    match check_records(book, atoms, index, count) {
-        Checked::Wrong(why) => Read::Refused(why),
-        Checked::Fine => Read::Good(Shape {
-            atoms,
-            rules,
-            index,
-        }),
-    }
+    check_records(book, atoms, index, count)?;
+    Ok(Shape {
+        atoms,
+        rules,
+        index,
+    })
 }

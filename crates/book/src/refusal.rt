@@ -42,12 +42,12 @@ impl Refusal {
     {
         match self {
             Refusal::Length => 0,
-            Refusal::Mark(at) => at,
-            Refusal::Trailer(at) => at,
-            Refusal::Entry(at) => at,
-            Refusal::Record(at) => at,
-            Refusal::Atom(at) => at,
-            Refusal::Order(at) => at,
+            Refusal::Mark(at)
+            | Refusal::Trailer(at)
+            | Refusal::Entry(at)
+            | Refusal::Record(at)
+            | Refusal::Atom(at)
+            | Refusal::Order(at) => at,
         }
     }
 }

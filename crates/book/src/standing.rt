@@ -1,53 +1,19 @@
 // Where each atom of a good book stands: for each atom the set of rules with that head, the set of
-// rules with it among their positive atoms, and among their negative ones. Made once for a book, and
-// lent to whoever asks of an atom.
+// rules with it among their positive atoms, and among their negative ones. 768 rows of four words: row
+// a for the rules with head a, row 256 + a for those with a among their positive atoms, row 512 + a
+// among the negative ones.
 ghost use Rattle.std.specs.Prelude.{◌≡◌, ◌+◌, ◌<◌, ◌≤◌, length};
 ghost use Rattle.meaning.specs.Books.{rule, rule_no};
 ghost use Rattle.meaning.specs.Bits.{one};
-ghost use Rattle.book.specs.Format.{book_in, ReadAs};
-ghost use Rattle.book.specs.RuleRows.{row, sets, entered, in_part, in_rows, RuleRows};
+ghost use Rattle.book.specs.ReadBook.{the_book};
+ghost use Rattle.book.specs.RuleRows.{row, sets, entered, in_part, in_rows};
 
 use crate::number::wide;
-use crate::reader::Shape;
-use crate::rules::{head, negatives, positives};
-use meaning::{AtomNo, Bits, RuleNo};
+use crate::read::ReadBook;
+use meaning::{Bits, RuleNo};
 
-// 768 rows of four words: row a for the rules with head a, row 256 + a for those with a among their
-// positive atoms, row 512 + a among the negative ones. Writes them over whatever the table held.
-pub fn make_rows(book: &[u8], shape: Shape, rows: &mut [u64; 3072])
-    requires { ReadAs book.now shape }
-    ensures { RuleRows (book_in book.now) rows.new }
-{
-    *rows = [0; 3072];
-    let mut r: u8 = 0;
-    while r < shape.rules {
-        enter_rule(book, shape, r, rows);
-        r += 1;
-    }
-}
-
-// The rules with that head.
-pub fn head_row(rows: &[u64; 3072], a: AtomNo) -> Bits
-    ensures { result.w ≡ row rows.now a.0 }
-{
-    row_at(rows, wide(a.0))
-}
-
-// The rules with that atom among their positive ones.
-pub fn pos_row(rows: &[u64; 3072], a: AtomNo) -> Bits
-    ensures { result.w ≡ row rows.now (256 + a.0) }
-{
-    row_at(rows, 256 + wide(a.0))
-}
-
-// The rules with that atom among their negative ones.
-pub fn neg_row(rows: &[u64; 3072], a: AtomNo) -> Bits
-    ensures { result.w ≡ row rows.now (512 + a.0) }
-{
-    row_at(rows, 512 + wide(a.0))
-}
-
-fn row_at(rows: &[u64; 3072], k: usize) -> Bits
+// Row k, in a set by value.
+pub fn row_at(rows: &[u64; 3072], k: usize) -> Bits
     requires { k < 768 }
     ensures { result.w ≡ row rows.now k }
 {
@@ -58,15 +24,15 @@ fn row_at(rows: &[u64; 3072], k: usize) -> Bits
 }
 
 // Enters the rule in the rows of its head and of its body's atoms.
-fn enter_rule(book: &[u8], shape: Shape, r: u8, rows: &mut [u64; 3072])
-    requires { ReadAs book.now shape × (r < shape.rules) × (length rows.old ≡ 3072) }
+pub fn enter_rule(book: &ReadBook, r: u8, rows: &mut [u64; 3072])
+    requires { (r < book.now.shape.rules) × (length rows.old ≡ 3072) }
     ensures { (sets rows.new ≡
-        entered r (in_rows (rule (book_in book.now) (rule_no r))) (sets rows.old))
+        entered r (in_rows (rule (the_book book.now) (rule_no r))) (sets rows.old))
         × (length rows.new ≡ 3072) }
 {
-    enter(rows, wide(head(book, shape, RuleNo(r)).0), r);
-    enter_part(rows, 256, positives(book, shape, RuleNo(r)), r);
-    enter_part(rows, 512, negatives(book, shape, RuleNo(r)), r);
+    enter(rows, wide(book.head(RuleNo(r)).0), r);
+    enter_part(rows, 256, book.positives(RuleNo(r)), r);
+    enter_part(rows, 512, book.negatives(RuleNo(r)), r);
 }
 
 // Enters the rule in the row `first` + a of each atom a of the part.
@@ -76,10 +42,8 @@ fn enter_part(rows: &mut [u64; 3072], first: usize, part: &[u8], r: u8)
         entered r (in_part first part.now) (sets rows.old))
         × (length rows.new ≡ 3072) }
 {
-    let mut i = 0;
-    while i < part.len() {
-        enter(rows, first + wide(part[i]), r);
-        i += 1;
+    for a in part {
+        enter(rows, first + wide(*a), r);
     }
 }
 
@@ -91,5 +55,5 @@ fn enter(rows: &mut [u64; 3072], k: usize, r: u8)
 {
     let n = wide(r);
     let at = k * 4 + n / 64;
-    rows[at] = rows[at] | (1u64 << (n % 64));
+    rows[at] |= 1u64 << (n % 64);
 }

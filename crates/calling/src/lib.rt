@@ -21,8 +21,8 @@ mod worded;
 
 pub use described::put_whose;
 pub use grounded::explain_text;
-pub use opened::{Asked, Opened};
-pub use quiet::{Made, make_quietly};
+pub use opened::{Opened, Unasked};
+pub use quiet::{Unmade, make_quietly};
 pub use source::{Source, open_at, open_book, shift, shift_at, source_at};
 pub use text::{TEXT_ROOM, read_text};
 pub use worded::open_words;

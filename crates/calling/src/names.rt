@@ -38,9 +38,7 @@ pub fn put_rows(text: &[u8], from: &[usize; 255], to: &[usize; 255], names: &mut
     ensures { names.new ≡
         rows_of 255 text.now from.now to.now names.old }
 {
-    let mut a: u8 = 0;
-    while a < 255 {
+    for a in 0..255u8 {
         put_part(text, from[a as usize], to[a as usize], a, names);
-        a += 1;
     }
 }

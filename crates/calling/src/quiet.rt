@@ -1,51 +1,47 @@
 // A book made of words or of a text without a line on it, for a table of many.
 use crate::grounded::refused_text;
-use lparse::{Imported, import};
-use talk::Refused;
-use words::{Worded, make};
+use lparse::{Unimported, import};
+use words::{Unworded, make};
 
+// Why no book was made.
 #[derive(Clone, Copy)]
-pub enum Made {
-    // How many bytes the book has, at the start of the buffer.
-    Book(usize),
+pub enum Unmade {
+    Words(Unworded),
+    Text(Unimported),
+}
+
+impl Unmade {
     // The number of the refusal.
-    Refused(u8),
-}
-
-// The number of a refusal.
-fn number_of(refused: Refused) -> u8 {
-    match refused {
-        Refused::At(number, _) => number,
-        Refused::Plain(number) => number,
+    pub fn number(self) -> u8 {
+        match self {
+            Unmade::Words(Unworded::Form(_)) => 40,
+            Unmade::Words(Unworded::Name(_)) => 41,
+            Unmade::Words(Unworded::TooMany(_)) => 42,
+            Unmade::Words(Unworded::NoRoom) => 43,
+            Unmade::Text(why) => refused_text(why).number,
+        }
     }
 }
 
-// Makes the book of rules in words.
-fn make_words(text: &[u8], book: &mut [u8]) -> Made {
-    let mut from = [0usize; 255];
-    let mut to = [0usize; 255];
-    match make(text, book, &mut from, &mut to) {
-        Worded::Book(n) => Made::Book(n),
-        Worded::Form(_) => Made::Refused(40),
-        Worded::Name(_) => Made::Refused(41),
-        Worded::TooMany(_) => Made::Refused(42),
-        Worded::NoRoom => Made::Refused(43),
+impl From<Unworded> for Unmade {
+    fn from(why: Unworded) -> Unmade {
+        Unmade::Words(why)
     }
 }
 
-// Makes the book of a text that a grounder wrote.
-fn make_imported(text: &[u8], book: &mut [u8]) -> Made {
-    let answer = import(text, book);
-    let Imported::Book(n) = answer else {
-        return Made::Refused(number_of(refused_text(answer)));
-    };
-    Made::Book(n)
+impl From<Unimported> for Unmade {
+    fn from(why: Unimported) -> Unmade {
+        Unmade::Text(why)
+    }
 }
 
-// Makes the book of rules in words, or of a grounder's text.
-pub fn make_quietly(are_words: bool, text: &[u8], book: &mut [u8]) -> Made {
+// Makes the book of rules in words, or of a grounder's text, and gives how many bytes it has, at the
+// start of the buffer.
+pub fn make_quietly(are_words: bool, text: &[u8], book: &mut [u8]) -> Result<usize, Unmade> {
     if are_words {
-        return make_words(text, book);
+        let mut from = [0usize; 255];
+        let mut to = [0usize; 255];
+        return Ok(make(text, book, &mut from, &mut to)?);
     }
-    make_imported(text, book)
+    Ok(import(text, book)?)
 }

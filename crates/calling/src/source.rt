@@ -1,9 +1,8 @@
 // Where the book of a call comes from, and how it is opened.
 ghost use Rattle.std.specs.Prelude.{◌≤◌};
-ghost use Rattle.system.specs.Counts.{IsPrefixLen};
 
 use crate::grounded::open_text;
-use crate::opened::{Asked, Opened};
+use crate::opened::{Opened, Unasked};
 use crate::worded::open_words;
 use std::rt::{Env, Files};
 use system::arg;
@@ -23,13 +22,11 @@ pub enum Source {
 pub fn source_at(rt: &impl Env, i: usize) -> Source {
     let mut word = [0u8; 16];
     let n = arg(rt, i, &mut word);
-    if &word[..n] == b"--words".as_slice() {
-        return Source::Words;
+    match &word[..n] {
+        b"--words" => Source::Words,
+        b"--text" => Source::Text,
+        _ => Source::Book,
     }
-    if &word[..n] == b"--text".as_slice() {
-        return Source::Text;
-    }
-    Source::Book
 }
 
 // 1 where the argument is `--words` or `--text`, and the others stand one further back; otherwise 0.
@@ -38,8 +35,7 @@ pub fn shift_at(rt: &impl Env, i: usize) -> usize
 {
     match source_at(rt, i) {
         Source::Book => 0,
-        Source::Words => 1,
-        Source::Text => 1,
+        Source::Words | Source::Text => 1,
     }
 }
 
@@ -52,27 +48,24 @@ pub fn shift(rt: &impl Env) -> usize
 
 // Opens the book whose place in the call is i: its file, or `--words` or `--text` and the file behind
 // it. Where there is none a line says why; `whose` says there which book it is, where there are two.
-pub fn open_at(
+pub fn open_at<'a>(
     rt: &(impl Env + Files + Print),
     i: usize,
     whose: &[u8],
-    book: &mut [u8],
-    names: &mut [u8],
-) -> Opened
+    book: &'a mut [u8],
+    names: &'a mut [u8],
+) -> Option<Opened<'a>>
     requires { i ≤ 3 }
-    ensures { IsPrefixLen result.count book.new
-        × IsPrefixLen result.names names.new }
 {
     match source_at(rt, i) {
         Source::Book => {
-            let taken = read_argument(rt, i, book);
-            Opened {
-                good: taken.good,
-                count: taken.count,
-                names: 0,
+            let n = read_argument(rt, i, book)?;
+            Some(Opened {
+                book: &book[..n],
+                names: b"",
                 is_listed: false,
-                asked: Asked::Nobody,
-            }
+                asked: Err(Unasked::Nobody),
+            })
         }
         Source::Words => open_words(rt, i + 1, whose, book, names),
         Source::Text => open_text(rt, i + 1, whose, book, names),
@@ -81,19 +74,16 @@ pub fn open_at(
 
 // How the programs for people open: where the call is right, the book in the first place of the call
 // is opened. Otherwise a line says what is wrong.
-pub fn open_book(
+pub fn open_book<'a>(
     rt: &(impl Env + Files + Print),
     is_right: bool,
     usage: &[u8],
-    book: &mut [u8],
-    names: &mut [u8],
-) -> Opened
-    ensures { IsPrefixLen result.count book.new
-        × IsPrefixLen result.names names.new }
-{
+    book: &'a mut [u8],
+    names: &'a mut [u8],
+) -> Option<Opened<'a>> {
     if !is_right {
         complain_of_call(rt, usage);
-        return Opened::NOTHING;
+        return None;
     }
     open_at(rt, 1, b"", book, names)
 }

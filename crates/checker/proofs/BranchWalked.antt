@@ -16,9 +16,7 @@ use Rattle.checker.specs.Branches.{Walked, done, wrong_at, and_then, after_step,
 use Rattle.checker.specs.declared.step.Stop.{Stop}
 use Rattle.checker.specs.declared.step.Stop.TheVariants.{End, Split}
 use Rattle.checker.specs.declared.run.Ran.{Ran}
-use Rattle.checker.specs.declared.branch.Walked.{Walked as Branched}
-use Rattle.checker.specs.declared.branch.Walked.TheVariants.{Done}
-use Rattle.checker.specs.Parts.{stopped_by, RuleWithin, StopWithin, Leads, Runs, walked, Ends}
+use Rattle.checker.specs.Parts.{stopped_by, RuleWithin, StopWithin, Leads, Runs, Ends}
 use Rattle.checker.specs.Parts.Leads.{here, further}
 use Rattle.checker.specs.Parts.Ends.{past, refused}
 
@@ -70,11 +68,8 @@ ends-from : {at i from : ℕ} {w : Walked} → at ≤ i → Ends i from w → En
 ends-from h (past {m = m} x y) = past {m = m} (omega arith) y
 ends-from h refused = refused
 
-pub ends-done : {at from m : ℕ} {w : Branched} → Ends at from (walked w) → w ≡ Done m → (at < m) × (m ≤ from)
-ends-done {at} {from} x e = ends (subst (λ v. Ends at from (walked v)) e x)
-  where
-    ends : {m : ℕ} → Ends at from (done m) → (at < m) × (m ≤ from)
-    ends (past y z) = (y, z)
+pub ends-done : {at from m : ℕ} → Ends at from (done m) → (at < m) × (m ≤ from)
+ends-done (past y z) = (y, z)
 
 -- what is promised of a branch
 abbrev pub Branches : Book → Claim → List ℕ → ℕ → ℕ → Pair → Walked → Type 0
@@ -112,30 +107,30 @@ module _ {b : Book} {k : Claim} {s : List ℕ} {from at : ℕ} {c : Pair} {ran :
 -- ---- after a split
 
 -- the split on r at byte `at` with the colouring c; its first branch starts with `first` and has come to w
-pub record Parted (b : Book) (k : Claim) (s : List ℕ) (from at : ℕ) (r : RuleNo) (c first : Tables) (w : Branched) : Type 0 where
+pub record Parted (b : Book) (k : Claim) (s : List ℕ) (from at : ℕ) (r : RuleNo) (c first : Tables) (w : Walked) : Type 0 where
   pub within : RuleWithin b from at r
   pub splits : step_of b k s from at (pair c) ≡ parts (at + 2) r
   pub few : count b ≤ 255
   pub on-long : length c.on ≡ 256
   pub off-long : length c.off ≡ 256
   pub on : first ≡ colour_on r c
-  pub comes : Branches b k s from (at + 2) (pair first) (walked w)
+  pub comes : Branches b k s from (at + 2) (pair first) w
 
-module _ {b : Book} {k : Claim} {s : List ℕ} {from at : ℕ} {r : RuleNo} {c first : Tables} {w : Branched}
+module _ {b : Book} {k : Claim} {s : List ℕ} {from at : ℕ} {r : RuleNo} {c first : Tables} {w : Walked}
     (p : Parted b k s from at r c first w) where
-  first-branch : BranchTo b k s from (at + 2) (put on_side (r ∷ []) (pair c)) (walked w)
+  first-branch : BranchTo b k s from (at + 2) (put on_side (r ∷ []) (pair c)) w
   first-branch = rw (ap pair p.on ∙ pair-on c r (omega (arith, p.within.0, p.few, p.on-long))) at p.comes.0
 
-  pub split-refused : (i place : ℕ) → walked w ≡ wrong_at i place → Branches b k s from at (pair c) (wrong_at i place)
+  pub split-refused : (i place : ℕ) → w ≡ wrong_at i place → Branches b k s from at (pair c) (wrong_at i place)
   split-refused i place q =
       (split-first b k s from at _ _ r _ (omega arith) p.within.1 p.splits first-branch i place q, refused)
 
   -- the second branch starts with `second`
-  pub split_done : (m : ℕ) → w ≡ Done m → (second : Tables) → second ≡ colour_off r c → (v : Walked)
+  pub split_done : (m : ℕ) → w ≡ done m → (second : Tables) → second ≡ colour_off r c → (v : Walked)
       → Branches b k s from m (pair second) v → Branches b k s from at (pair c) v
   split_done m q second off v (t, u) =
-      let (h, g) = ends-done p.comes.1 q in (
-        split-second b k s from at _ _ r _ (omega arith) p.within.1 p.splits first-branch m v (ap walked q) (omega arith) g
+      let (h, g) = ends-done (subst (Ends (at + 2) from) q p.comes.1) in (
+        split-second b k s from at _ _ r _ (omega arith) p.within.1 p.splits first-branch m v q (omega arith) g
             (rw (ap pair off ∙ pair-off c r (omega (arith, p.within.0, p.few, p.off-long))) at t),
         ends-from (omega arith) u,
       )

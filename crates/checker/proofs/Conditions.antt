@@ -10,7 +10,7 @@ use borrow.Author.Tests.{ne_eqb, ltb-true, lt-ltb}
 use Rattle.meaning.specs.declared.AtomNo.{AtomNo}
 use Rattle.meaning.specs.declared.RuleNo.{RuleNo}
 use Rattle.meaning.specs.Sets.{Set, every, some, some_below}
-use Rattle.meaning.specs.Books.{Atoms, Rules, rule_no, same_atom, Book, count, rule, some_rule}
+use Rattle.meaning.specs.Books.{Atoms, Rules, rule_no, same_atom, Book, count, rule, some_rule, InBook}
 use Rattle.meaning.specs.Colours.{heads, all_in, plus, clashing, uncoloured}
 use Rattle.meaning.specs.declared.kind.Kind.{Kind}
 use Rattle.meaning.specs.declared.kind.Kind.TheVariants.{Naming, Clearing}
@@ -18,12 +18,12 @@ use Rattle.meaning.specs.declared.kind.Claim.{Claim}
 use Rattle.meaning.specs.declared.kind.Claim.TheVariants.{NoReading}
 use Rattle.meaning.specs.Claim.{claim, shown_by, shown, ended}
 use Rattle.meaning.specs.Paper.{unfounded}
-use Rattle.meaning.specs.Bits.{below, members, listed}
+use Rattle.meaning.specs.Bits.{below, less, members, listed}
 use Rattle.meaning.specs.Bits.{both as both-in}
 use Rattle.meaning.specs.Written.{of, lent}
 use Rattle.meaning.proofs.Tests.{both, and_left, and_right, same, or_left, not_first, not-second}
 use Rattle.meaning.proofs.Sets.{every_here, every-all-next, every-all-end, below-some, below_one}
-use Rattle.meaning.proofs.Rules.{heads-of, all-in-not-heads}
+use Rattle.meaning.proofs.Rules.{heads-of, heads-mono, all-in-not-heads}
 use Rattle.meaning.proofs.Listed.{listed-members}
 use Rattle.book.specs.declared.reader.Shape.{Shape}
 use Rattle.book.specs.Format.{book_in, ReadAs}
@@ -77,9 +77,17 @@ module _ (b : Book) (s : Rules) (a : AtomNo) where
   unfolding heads some_rule
   head-none n e h = rw e h
 
--- all rules of an atom are in the set where it is no head of the others
-pub lost-by : (b : Book) (set : List Bool) (a : AtomNo) (v : Bool) → heads b (λ r. not (of set r)) a ≡ v → not v ≡ all_in b (of set) a
-lost-by b set a v e = sym (all-in-not-heads b (of set) a ∙ ap not e)
+-- all rules of an atom are in the set where it is no head of the others, which the code makes of the numbers below n
+module _ (b : Book) (n : ℕ) (e : n ≡ count b) (set below_n others : List ℕ) (p : members below_n ≡ below n)
+    (q : members others ≡ less (members below_n) (members set)) where
+  is-other : (r : RuleNo) → InBook b r → of (listed others) r ≡ not (of (listed set) r)
+  is-other r h =
+      let at = λ (w : List ℕ). ap (λ (s : Set ℕ). s r.0) (listed-members w) in
+      at others ∙ ap (λ (s : Set ℕ). s r.0) q ∙ rw (ap (λ (s : Set ℕ). s r.0) p, lt-ltb r.0 n (omega arith)) (ap not (sym (at set)))
+
+  pub lost-asked : (a : AtomNo) {v : Bool} → v ≡ heads b (of (listed others)) a → not v ≡ all_in b (of (listed set)) a
+  lost-asked a h = ap not (h ∙ same _ _ (heads-mono b (λ r l m. sym (is-other r l) ∙ m) a) (heads-mono b (λ r l m. is-other r l ∙ m) a))
+      ∙ sym (all-in-not-heads b (of (listed set)) a)
 
 -- the claim by its cases
 module _ (b : Book) (on off : List Bool) (k : Claim) where

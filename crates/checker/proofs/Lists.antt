@@ -9,7 +9,7 @@ use native.Mathlib.Numerals.{add-one}
 use native.Mathlib.Omega.{arith}
 use lib.Dec.{ltb, leb}
 use lib.ListN.{length, get_or, set, take, drop, drop_of_length-le}
-use lib.Seq.{take-suc, take_all, drop-cons}
+use lib.Seq.{take-suc, drop-cons}
 use borrow.Author.Tests.{ltb-true, lt-ltb, le-ltb, le-leb, lt-leb}
 use Rattle.meaning.specs.declared.RuleNo.{RuleNo}
 use Rattle.meaning.specs.Sets.{Set, every, some, ascending}
@@ -111,10 +111,6 @@ add-next s t l i n h e g p = of-set t (rule_no n) g ∙ rw (p, e) (plus-next s l
 pub add-put : (s : Rules) (t u : List Bool) (l : List ℕ) (i : ℕ) → i < length l → get_or l i 0 < length t → u ≡ set t (get_or l i 0) true
     → of t ≡ plus s (map rule_no (take i l)) → of u ≡ plus s (map rule_no (take (i + 1) l))
 add-put s t u l i h g e p = rw e (add-next s t l i _ h refl g p)
-
-pub add-end : (s : Rules) (t : List Bool) (l : List ℕ) (i : ℕ) → length l ≤ i → of t ≡ plus s (map rule_no (take i l))
-    → of t ≡ plus s (map rule_no l)
-add-end s t l i h p = rw (take_all i l h) at p
 
 -- ---- a test of every rule of a list
 

@@ -3,6 +3,7 @@
 use mathlib.Core.Path.{◌≡◌, refl, sym, ◌∙◌, ap, subst}
 use mathlib.Core.Bool.{Bool, true, false}
 use mathlib.Core.List.{List}
+use Rattle.std.specs.Prelude.{Result}
 use Prim.Native.Nat.{ℕ, suc, ◌+◌, ◌-◌, ◌≤◌, ◌<◌}
 use native.Mathlib.Omega.{arith}
 use lib.Dec.{ltb, eqb}
@@ -25,37 +26,35 @@ use Rattle.meaning.specs.Paper.{paper_bytes}
 use Rattle.book.specs.declared.reader.Shape.{Shape}
 use Rattle.book.specs.Numbers.{shape}
 use Rattle.book.specs.Format.{u16_at, BookRead, good, bad, read_of, told_of, book_of, book_in, ReadAs}
-use Rattle.checker.specs.declared.witness.Verdict.{Verdict}
-use Rattle.checker.specs.declared.witness.Verdict.TheVariants.{Right, Wrong}
 use Rattle.checker.specs.Branches.{Walked, done, BranchTo}
 use Rattle.checker.specs.Witness.{Check, fine, wrong, witness_verdict, grounds_verdict}
-use Rattle.checker.specs.declared.trailer.Ending.{Ending}
-use Rattle.checker.specs.Parts.{verdict, end_told, EndFits, EndsAs}
+use Rattle.checker.specs.declared.answer.Rejected.{Rejected}
+use Rattle.checker.specs.declared.trailer.Trailer.{Trailer}
+use Rattle.checker.specs.Parts.{EndFits, EndsAs}
 use Rattle.checker.specs.Check.{witness_told, branch_told, steps_told, stated, trailer_told, marked_told, paper_of, check_read, check_of}
 use Rattle.checker.proofs.Marked.{mark_in}
 
 -- ---- the steps and the witness, where the first branch, from the empty colouring, has come to x
 
-pub steps-are : (b : Book) (k : Claim) (s : List ℕ) (w from : ℕ) {c : Tables} {x y : Walked} → c ≡ nothing
-    → BranchTo b k s from 0 (pair c) x → x ≡ y → branch_told b k s w from y ≡ steps_told b k s w from
+pub steps-are : (b : Book) (k : Claim) (s : List ℕ) (w from : ℕ) {c : Tables} {x : Walked} → c ≡ nothing
+    → BranchTo b k s from 0 (pair c) x → branch_told b k s w from x ≡ steps_told b k s w from
 unfolding steps_told
-steps-are b k s w from e p q =
-    ap (branch_told b k s w from) (sym q ∙ rw (ap pair e ∙ pair-nothing) at (p (suc from) (omega arith)))
+steps-are b k s w from e p =
+    ap (branch_told b k s w from) (rw (ap pair e ∙ pair-nothing) at (p (suc from) (omega arith)))
 
 module _ (b : Book) (k : Claim) (s : List ℕ) (w from at : ℕ) where
   pub told-gap : (at ≡ from → ⊥) → refused_at 26 at ≡ branch_told b k s w from (done at)
   unfolding branch_told
   told-gap n = sym (eq_no _ _ _ _ n)
 
-  -- v is what the code found of the witness
-  module _ (h : at ≡ from) (v : Verdict) (p : verdict v ≡ grounds_verdict k b s from w) where
-    pub told-wrong : (place : ℕ) → v ≡ Wrong place → refused_at 27 place ≡ branch_told b k s w from (done at)
+  module _ (h : at ≡ from) where
+    pub told-wrong : {place : ℕ} → wrong place ≡ grounds_verdict k b s from w → refused_at 27 place ≡ branch_told b k s w from (done at)
     unfolding branch_told witness_told
-    told-wrong place e = sym (rw (← p, e) (eq_yes _ _ _ _ h))
+    told-wrong e = sym (rw (← e) (eq_yes _ _ _ _ h))
 
-    pub told-fine : v ≡ Right → success k ≡ branch_told b k s w from (done at)
+    pub told-fine : fine ≡ grounds_verdict k b s from w → success k ≡ branch_told b k s w from (done at)
     unfolding branch_told witness_told
-    told-fine e = sym (rw (← p, e) (eq_yes _ _ _ _ h))
+    told-fine e = sym (rw (← e) (eq_yes _ _ _ _ h))
 
 -- ---- what the claim asks behind the steps
 
@@ -76,14 +75,11 @@ module _ (b : Book) (k : Claim) (s : List ℕ) (from w : ℕ) where
 
 -- ---- what the last bytes come to
 
-module _ {b : Book} {s : List ℕ} {x : Told Claim} {e : Ending} (p : EndsAs b s x e) where
+module _ {b : Book} {s : List ℕ} {x : Told Claim} {e : Result Trailer Rejected} (p : EndsAs b s x e) where
   pub ends-told : {y : Told Claim} → x ≡ y → EndsAs b s y e
   ends-told q = record { told = p.told ∙ q; fits = p.fits }
 
-  pub ends_by : {f : Ending} → e ≡ f → end_told b s f ≡ x
-  ends_by q = ap (end_told b s) (sym q) ∙ p.told
-
-  pub ends-fit : {f : Ending} → e ≡ f → EndFits s f
+  pub ends-fit : {f : Result Trailer Rejected} → e ≡ f → EndFits s f
   ends-fit q = subst (EndFits s) q p.fits
 
 -- ---- the length, the mark and the trailer

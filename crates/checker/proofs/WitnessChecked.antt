@@ -31,9 +31,6 @@ use Rattle.book.proofs.Asked.{every-table}
 use Rattle.book.specs.declared.reader.Shape.{Shape}
 use Rattle.book.specs.Format.{book_in, ReadAs}
 use Rattle.book.proofs.Places.{in-shape}
-use Rattle.checker.specs.declared.witness.Verdict.{Verdict}
-use Rattle.checker.specs.declared.witness.Verdict.TheVariants.{Right, Wrong}
-use Rattle.checker.specs.Parts.{verdict}
 use Rattle.checker.specs.Witness.{fine, wrong, and_then, follows, order_of, blocked_of, rest_fails, list_of, witness_verdict}
 use Rattle.checker.proofs.Witnesses.{then-both}
 use Rattle.checker.proofs.Lists.{part-is, below_rest}
@@ -232,9 +229,9 @@ module _ (b : Book) (s : List ℕ) (from w : ℕ) (l : List ℕ) (part : l ≡ t
   unfolding witness_verdict
   listed-part = rw (part, part-is s from w)
 
-  pub finds-order : (v : Verdict) → verdict v ≡ order_of b from [] l → (at : ℕ) → v ≡ Wrong at → wrong at ≡ witness_verdict b s from w
+  pub finds-order : {at : ℕ} → wrong at ≡ order_of b from [] l → wrong at ≡ witness_verdict b s from w
   unfolding list_of and_then
-  finds-order v o at e = sym (listed-part ∙ rw (← o, e))
+  finds-order o = sym (listed-part ∙ rw (← o))
 
 -- the witness whose order is right, and the tables that the code makes then: of the listed rules, and of their heads
 pub record Tabled (s : List ℕ) (h : Shape) (paper : List ℕ) (from w : ℕ) (l : List ℕ) (listed headed : List Bool) : Type 0 where
@@ -274,17 +271,17 @@ module _ {s : List ℕ} {h : Shape} {paper : List ℕ} {from w : ℕ} {l : List 
   unfolding list_of and_then
   passes = listed-part _ _ _ _ _ t.part ∙ rw (t.order, blocked-is, rest-is)
 
-  module _ (v : Verdict) (p : verdict v ≡ blocked_of (book_in s) (atoms_in headed) from l) where
-    pub finds-blocked : (at : ℕ) → v ≡ Wrong at → wrong at ≡ witness_verdict (book_in s) paper from w
+  pub finds-blocked : {at : ℕ} → wrong at ≡ blocked_of (book_in s) (atoms_in headed) from l
+      → wrong at ≡ witness_verdict (book_in s) paper from w
+  unfolding and_then
+  finds-blocked p = sym (passes ∙ rw (← p))
+
+  module _ (p : fine ≡ blocked_of (book_in s) (atoms_in headed) from l) (f : Bool)
+      (q : f ≡ every_rule (book_in s) (λ r. of listed r || fails (atoms_in headed) (rule (book_in s) r))) where
+    pub finds-rest : f ≡ false → wrong (length paper - 6) ≡ witness_verdict (book_in s) paper from w
     unfolding and_then
-    finds-blocked at e = sym (passes ∙ rw (← p, e))
+    finds-rest z = sym (passes ∙ rw (← p) (b-no _ _ _ (sym q ∙ z)))
 
-    module _ (e : v ≡ Right) (f : Bool)
-        (q : f ≡ every_rule (book_in s) (λ r. of listed r || fails (atoms_in headed) (rule (book_in s) r))) where
-      pub finds-rest : f ≡ false → wrong (length paper - 6) ≡ witness_verdict (book_in s) paper from w
-      unfolding and_then
-      finds-rest z = sym (passes ∙ rw (← p, e) (b-no _ _ _ (sym q ∙ z)))
-
-      pub finds-right : f ≡ true → fine ≡ witness_verdict (book_in s) paper from w
-      unfolding and_then
-      finds-right z = sym (passes ∙ rw (← p, e) (b-yes _ _ _ (sym q ∙ z)))
+    pub finds-right : f ≡ true → fine ≡ witness_verdict (book_in s) paper from w
+    unfolding and_then
+    finds-right z = sym (passes ∙ rw (← p) (b-yes _ _ _ (sym q ∙ z)))

@@ -3,14 +3,14 @@
 --   stepped s at c x      the step x at byte `at` of the paper s, with the pair c
 --   StepWithin b s from at x   the step's rules are in the book, and it ends before the witness
 --   Leads b k s from at c i d   steps lead from byte `at` with the pair c to byte i with the pair d
---   Ready book shape paper from   what every part asks: a good book, and a witness start within the paper
+--   Ready paper from   what every part asks: a witness start within the paper
 --   Finds b k s from at c x    what checking a step promises
 --   Runs b k s from at c ran   what running the steps of a branch promises
 --   walked w, verdict v   what a branch and a witness come to
 --   Ends at from w        a branch that is done ends past its start, and not past the witness
 --   end_told b s e         what is told of a paper whose last bytes come to e: what its steps come to, or 20 to 23
 --   EndsAs b s x e        what reading a trailer promises: this is x, and the witness of a good one ends at it
-use Rattle.std.specs.Prelude.{◌≡◌, List, [], ◌∷◌, map, ℕ, ◌+◌, ◌<◌, ◌≤◌, length, take, drop}
+use Rattle.std.specs.Prelude.{Result, Ok, Err, ⊤, ◌≡◌, List, [], ◌∷◌, map, ℕ, ◌+◌, ◌<◌, ◌≤◌, length, take, drop}
 use Rattle.meaning.specs.declared.RuleNo.{RuleNo}
 use Rattle.meaning.specs.Books.{rule_no, Book, count, InBook}
 use Rattle.meaning.specs.Colours.{Pair, on_side, off_side, put}
@@ -18,20 +18,15 @@ use Rattle.meaning.specs.declared.kind.Claim.{Claim}
 use Rattle.meaning.specs.Written.{written, pair}
 use Rattle.meaning.specs.Told.{Told, refused_at}
 use Rattle.meaning.specs.Paper.{paper_bytes}
-use Rattle.book.specs.declared.reader.Shape.{Shape}
-use Rattle.book.specs.Format.{ReadAs}
 use Rattle.book.specs.Tables.{Below}
 use Rattle.checker.specs.declared.step.Step.{Step}
 use Rattle.checker.specs.declared.step.Step.TheVariants.{On, Off, Unfounded, Stops}
 use Rattle.checker.specs.declared.step.Stop.{Stop}
 use Rattle.checker.specs.declared.step.Stop.TheVariants.{End, Split, Form, Fails}
 use Rattle.checker.specs.declared.run.Ran.{Ran}
-use Rattle.checker.specs.declared.branch.Walked.{Walked as Branched}
-use Rattle.checker.specs.declared.branch.Walked.TheVariants.{Done, Form as BadForm, Fails as BadFails}
-use Rattle.checker.specs.declared.trailer.Ending.{Ending}
-use Rattle.checker.specs.declared.trailer.Ending.TheVariants.{Good, Length, Mark, Count, Atom}
-use Rattle.checker.specs.declared.witness.Verdict.{Verdict}
-use Rattle.checker.specs.declared.witness.Verdict.TheVariants.{Right, Wrong}
+use Rattle.checker.specs.declared.answer.Rejected.{Rejected}
+use Rattle.checker.specs.declared.trailer.Trailer.{Trailer}
+use Rattle.checker.specs.Numbers.{number_of, place_of}
 use Rattle.checker.specs.Steps.{Stepped, goes, parts, ends, fails, step_of}
 use Rattle.checker.specs.Branches.{Walked, done, wrong_at}
 use Rattle.checker.specs.Witness.{Check, fine, wrong}
@@ -69,8 +64,7 @@ StepWithin b s from at (Off r) = RuleWithin b from at r
 StepWithin b s from at (Unfounded m) = (at + 2 + m ≤ from) × Below (count b) (take m (drop (at + 2) s))
 StepWithin b s from at (Stops x) = StopWithin b from at x
 
-pub record Ready (book : List ℕ) (shape : Shape) (paper : List ℕ) (from : ℕ) : Type 0 where
-  pub read : ReadAs book shape
+pub record Ready (paper : List ℕ) (from : ℕ) : Type 0 where
   pub within : from ≤ length paper
   pub small : from < 65536
 
@@ -88,33 +82,26 @@ pub record Runs (b : Book) (k : Claim) (s : List ℕ) (from at : ℕ) (c : Pair)
   pub stops : step_of b k s from ran.at (pair (written ran.colours)) ≡ stopped_by ran.at ran.stop
   pub within : StopWithin b from ran.at ran.stop
 
-abbrev pub walked : Branched → Walked
-walked (Done at) = done at
-walked (BadForm at) = wrong_at 24 at
-walked (BadFails at) = wrong_at 25 at
+abbrev pub walked : Result ℕ Rejected → Walked
+walked (Ok at) = done at
+walked (Err f) = wrong_at (number_of f) (place_of f)
 
 pub data Ends (at from : ℕ) : Walked → Type 0 where
   past : {m : ℕ} → at < m → m ≤ from → Ends at from (done m)
   refused : {i place : ℕ} → Ends at from (wrong_at i place)
 
-abbrev pub verdict : Verdict → Check
-verdict Right = fine
-verdict (Wrong at) = wrong at
+abbrev pub verdict : Result ⊤ ℕ → Check
+verdict (Ok u) = fine
+verdict (Err at) = wrong at
 
-abbrev pub end_told : Book → List ℕ → Ending → Told Claim
-end_told b s (Good t) = steps_told b t.claim s t.count t.from
-end_told b s Length = refused_at 20 0
-end_told b s (Mark at) = refused_at 21 at
-end_told b s (Count at) = refused_at 22 at
-end_told b s (Atom at) = refused_at 23 at
+abbrev pub end_told : Book → List ℕ → Result Trailer Rejected → Told Claim
+end_told b s (Ok t) = steps_told b t.claim s t.count t.from
+end_told b s (Err f) = refused_at (number_of f) (place_of f)
 
-abbrev pub EndFits : List ℕ → Ending → Type 0
-EndFits s (Good t) = (t.from + t.count + 6 ≡ length s) × (length s ≤ paper_bytes)
-EndFits s Length = Unit {0}
-EndFits s (Mark at) = Unit {0}
-EndFits s (Count at) = Unit {0}
-EndFits s (Atom at) = Unit {0}
+abbrev pub EndFits : List ℕ → Result Trailer Rejected → Type 0
+EndFits s (Ok t) = (t.from + t.count + 6 ≡ length s) × (length s ≤ paper_bytes)
+EndFits s (Err f) = Unit {0}
 
-pub record EndsAs (b : Book) (s : List ℕ) (x : Told Claim) (e : Ending) : Type 0 where
+pub record EndsAs (b : Book) (s : List ℕ) (x : Told Claim) (e : Result Trailer Rejected) : Type 0 where
   pub told : end_told b s e ≡ x
   pub fits : EndFits s e

@@ -1,12 +1,11 @@
-// What checking a paper answers: the claim that holds, or why the paper is refused.
+// Why a paper is refused, where checking doesn't answer with the claim that holds.
+ghost use Rattle.std.specs.Prelude.{◌≡◌};
+ghost use Rattle.checker.specs.declared.answer.Rejected.TheVariants.{Book};
+
 use book::Refusal;
-use meaning::Claim;
 
 #[derive(Clone, Copy)]
-pub enum Checked {
-    // The book has a reading, and the claimed atom is in all of them or in none, by the claim's kind;
-    // or the book has none.
-    Accepted(Claim),
+pub enum Rejected {
     // 1 to 7: the book is refused.
     Book(Refusal),
     // 20: under 6 or over 60,000 bytes.
@@ -26,4 +25,12 @@ pub enum Checked {
     Gap(usize),
     // 27: the witness is wrong; or, where the book is said to have no reading, there is one.
     Witness(usize),
+}
+
+impl From<Refusal> for Rejected {
+    ghost from_gives = { λ why it. it ≡ Book why };
+
+    fn from(why: Refusal) -> Rejected {
+        Rejected::Book(why)
+    }
 }

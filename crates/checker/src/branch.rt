@@ -3,52 +3,39 @@
 // level holds is its colourings: about 5 KB, and under 1.5 MB for the deepest paper.
 ghost use Rattle.std.specs.Prelude.{◌≡◌, ◌+◌};
 ghost use Rattle.meaning.specs.Written.{written, pair};
-ghost use Rattle.book.specs.Format.{book_in};
+ghost use Rattle.book.specs.ReadBook.{the_book};
 ghost use Rattle.checker.specs.Steps.{parts, step_of};
 ghost use Rattle.checker.specs.Branches.{BranchTo};
 ghost use Rattle.checker.specs.Parts.{Ready, RuleWithin, walked, Ends};
 
+use crate::answer::Rejected;
 use crate::run::run_steps;
 use crate::step::Stop;
 use crate::trailer::Trailer;
-use book::Shape;
-use meaning::{Colouring, RuleNo};
+use book::ReadBook;
+use meaning::{Colouring, RuleNo, Side};
 
-#[derive(Clone, Copy)]
-pub enum Walked {
-    // The branch is right and ends before this byte.
-    Done(usize),
-    // Numbers 24 and 25, with the step's place.
-    Form(usize),
-    Fails(usize),
-}
-
-// The branch at byte `at`, which starts with the colouring c.
+// The branch at byte `at`, which starts with the colouring c: where it ends if it is right, and the
+// step that is not otherwise, with number 24 or 25.
 #[cycle(branch_split)]
 pub fn branch(
-    book: &[u8],
-    shape: Shape,
+    book: &ReadBook,
     paper: &[u8],
     trailer: Trailer,
     at: usize,
     c: Colouring,
-) -> Walked
-    requires { Ready book.now shape paper.now trailer.from }
-    ensures { BranchTo (book_in book.now) trailer.claim
+) -> Result<usize, Rejected>
+    requires { Ready paper.now trailer.from }
+    ensures { BranchTo (the_book book.now) trailer.claim
         paper.now trailer.from at (pair (written c)) (walked result)
         × Ends at trailer.from (walked result) }
 {
-    let ran = run_steps(book, shape, paper, trailer, at, c);
-    let stop = ran.stop;
-    let last = ran.at;
-    match stop {
-        Stop::End => Walked::Done(last + 1),
-        Stop::Split(r) => {
-            let colours = ran.colours;
-            split(book, shape, paper, trailer, last, r, colours)
-        }
-        Stop::Form => Walked::Form(last),
-        Stop::Fails => Walked::Fails(last),
+    let ran = run_steps(book, paper, trailer, at, c);
+    match ran.stop {
+        Stop::End => Ok(ran.at + 1),
+        Stop::Split(r) => split(book, paper, trailer, ran.at, r, ran.colours),
+        Stop::Form => Err(Rejected::Form(ran.at)),
+        Stop::Fails => Err(Rejected::Fails(ran.at)),
     }
 }
 
@@ -56,27 +43,21 @@ pub fn branch(
 // with r off.
 #[cycle(branch_split)]
 fn split(
-    book: &[u8],
-    shape: Shape,
+    book: &ReadBook,
     paper: &[u8],
     trailer: Trailer,
     at: usize,
     r: RuleNo,
     c: Colouring,
-) -> Walked
-    requires { Ready book.now shape paper.now trailer.from
-        × RuleWithin (book_in book.now) trailer.from at r
-        × (step_of (book_in book.now) trailer.claim paper.now trailer.from at
+) -> Result<usize, Rejected>
+    requires { Ready paper.now trailer.from
+        × RuleWithin (the_book book.now) trailer.from at r
+        × (step_of (the_book book.now) trailer.claim paper.now trailer.from at
         (pair (written c)) ≡ parts (at + 2) r) }
-    ensures { BranchTo (book_in book.now) trailer.claim
+    ensures { BranchTo (the_book book.now) trailer.claim
         paper.now trailer.from at (pair (written c)) (walked result)
         × Ends at trailer.from (walked result) }
 {
-    let start = at + 2;
-    let first = c.with_on(r);
-    match branch(book, shape, paper, trailer, start, first) {
-        Walked::Done(next) => branch(book, shape, paper, trailer, next, c.with_off(r)),
-        Walked::Form(place) => Walked::Form(place),
-        Walked::Fails(place) => Walked::Fails(place),
-    }
+    let next = branch(book, paper, trailer, at + 2, c.with(Side::On, r))?;
+    branch(book, paper, trailer, next, c.with(Side::Off, r))
 }

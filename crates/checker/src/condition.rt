@@ -7,131 +7,91 @@ ghost use Rattle.meaning.specs.Colours.{heads, all_in, may_on, uncoloured};
 ghost use Rattle.meaning.specs.Claim.{shown, ended};
 ghost use Rattle.meaning.specs.Bits.{listed};
 ghost use Rattle.meaning.specs.Written.{of, lent};
-ghost use Rattle.book.specs.Format.{book_in, ReadAs};
+ghost use Rattle.book.specs.ReadBook.{the_book};
 
-use book::{Shape, goes_on, head, heads_of, is_blocked, lost_in};
-use meaning::{AtomNo, Bits, Claim, Colouring, Kind, RuleNo, has, whole};
+use book::ReadBook;
+use meaning::{AtomNo, Bits, Claim, Colouring, Kind, RuleNo};
 
 // 41: each positive atom is the head of an on rule, and for each negative atom all rules with that
 // head are off.
-pub fn may_go_on<'a>(
-    book: &[u8],
-    shape: Shape,
-    r: RuleNo,
-    on: &'a [u64; 4],
-    off: &'a [u64; 4],
-) -> bool
-    requires { ReadAs book.now shape × (r.0 < shape.rules) }
+pub fn may_go_on<'a>(book: &ReadBook, r: RuleNo, on: &'a Bits, off: &'a Bits) -> bool
+    requires { r.0 < book.now.shape.rules }
     ensures { result ≡
-        may_on (book_in book.now) (lent (listed on.now) (listed off.now)) r }
+        may_on (the_book book.now) (lent (listed on.now.w) (listed off.now.w)) r }
 {
     let mut headed = [false; Colouring::ATOMS];
-    heads_of(book, shape, on, &mut headed);
+    book.heads_of(on, &mut headed);
     let mut lost = [false; Colouring::ATOMS];
-    lost_in(book, shape, off, &mut lost);
-    goes_on(book, shape, r, &headed, &lost)
+    book.lost_in(off, &mut lost);
+    book.goes_on(r, &headed, &lost)
 }
 
 // 42: some negative atom is the head of an on rule.
-pub fn may_go_off(book: &[u8], shape: Shape, r: RuleNo, on: &[u64; 4]) -> bool
-    requires { ReadAs book.now shape × (r.0 < shape.rules) }
-    ensures { result ≡ some (heads (book_in book.now) (of (listed on.now)))
-        (rule (book_in book.now) r).neg }
+pub fn may_go_off(book: &ReadBook, r: RuleNo, on: &Bits) -> bool
+    requires { r.0 < book.now.shape.rules }
+    ensures { result ≡ some (heads (the_book book.now) (of (listed on.now.w)))
+        (rule (the_book book.now) r).neg }
 {
     let mut headed = [false; Colouring::ATOMS];
-    heads_of(book, shape, on, &mut headed);
-    is_blocked(book, shape, r, &headed)
+    book.heads_of(on, &mut headed);
+    book.is_blocked(r, &headed)
 }
 
 // 53: the rule has no colour.
-pub fn is_uncoloured<'a>(r: RuleNo, on: &'a [u64; 4], off: &'a [u64; 4]) -> bool
-    ensures { result ≡ uncoloured (lent (listed on.now) (listed off.now)) r }
+pub fn is_uncoloured<'a>(r: RuleNo, on: &'a Bits, off: &'a Bits) -> bool
+    ensures { result ≡ uncoloured (lent (listed on.now.w) (listed off.now.w)) r }
 {
-    if has(on, r.0) {
-        return false;
-    }
-    !has(off, r.0)
+    !on.has(r.0) && !off.has(r.0)
 }
 
 // Some rule is in both sets.
-pub fn is_clashing<'a>(rules: u8, on: &'a [u64; 4], off: &'a [u64; 4]) -> bool
+pub fn is_clashing<'a>(rules: u8, on: &'a Bits, off: &'a Bits) -> bool
     ensures { result ≡ some_below rules (λ n.
-        of (listed on.now) (rule_no n) && of (listed off.now) (rule_no n)) }
+        of (listed on.now.w) (rule_no n) && of (listed off.now.w) (rule_no n)) }
 {
-    let both = whole(on).intersection(whole(off));
+    let both = on.intersection(*off);
     both.meets(Bits::below(rules))
 }
 
 // The atom is the head of a rule of the set.
-pub fn is_head(book: &[u8], shape: Shape, a: AtomNo, set: &[u64; 4]) -> bool
-    requires { ReadAs book.now shape }
-    ensures { result ≡ heads (book_in book.now) (of (listed set.now)) a }
+pub fn is_head(book: &ReadBook, a: AtomNo, set: &Bits) -> bool
+    ensures { result ≡ heads (the_book book.now) (of (listed set.now.w)) a }
 {
-    let mut r: u8 = 0;
-    while r < shape.rules {
-        if has(set, r) {
-            if head(book, shape, RuleNo(r)).0 == a.0 {
-                return true;
-            }
+    for r in 0..book.shape.rules {
+        if set.has(r) && book.head(RuleNo(r)) == a {
+            return true;
         }
-        r += 1;
     }
     false
 }
 
 // All rules with the atom as head are in the set.
-pub fn is_lost(book: &[u8], shape: Shape, a: AtomNo, set: &[u64; 4]) -> bool
-    requires { ReadAs book.now shape }
-    ensures { result ≡ all_in (book_in book.now) (of (listed set.now)) a }
+pub fn is_lost(book: &ReadBook, a: AtomNo, set: &Bits) -> bool
+    ensures { result ≡ all_in (the_book book.now) (of (listed set.now.w)) a }
 {
-    let mut r: u8 = 0;
-    while r < shape.rules {
-        if !has(set, r) {
-            if head(book, shape, RuleNo(r)).0 == a.0 {
-                return false;
-            }
-        }
-        r += 1;
-    }
-    true
+    let others = Bits::below(book.shape.rules).difference(*set);
+    !is_head(book, a, &others)
 }
 
 // The claim is shown: an on rule has the claimed atom as head, or all rules with it as head are off.
 // That the book has no reading is shown by no colouring.
-fn is_shown<'a>(
-    book: &[u8],
-    shape: Shape,
-    claim: Claim,
-    on: &'a [u64; 4],
-    off: &'a [u64; 4],
-) -> bool
-    requires { ReadAs book.now shape }
+fn is_shown<'a>(book: &ReadBook, claim: Claim, on: &'a Bits, off: &'a Bits) -> bool
     ensures { result ≡
-        shown (book_in book.now) claim (lent (listed on.now) (listed off.now)) }
+        shown (the_book book.now) claim (lent (listed on.now.w) (listed off.now.w)) }
 {
     match claim {
         Claim::About(kind, atom) => match kind {
-            Kind::Naming => is_head(book, shape, atom, on),
-            Kind::Clearing => is_lost(book, shape, atom, off),
+            Kind::Naming => is_head(book, atom, on),
+            Kind::Clearing => is_lost(book, atom, off),
         },
         Claim::NoReading => false,
     }
 }
 
 // 45: some rule is in both sets, or the claim is shown.
-pub fn is_ended<'a>(
-    book: &[u8],
-    shape: Shape,
-    claim: Claim,
-    on: &'a [u64; 4],
-    off: &'a [u64; 4],
-) -> bool
-    requires { ReadAs book.now shape }
+pub fn is_ended<'a>(book: &ReadBook, claim: Claim, on: &'a Bits, off: &'a Bits) -> bool
     ensures { result ≡
-        ended (book_in book.now) claim (lent (listed on.now) (listed off.now)) }
+        ended (the_book book.now) claim (lent (listed on.now.w) (listed off.now.w)) }
 {
-    if is_clashing(shape.rules, on, off) {
-        return true;
-    }
-    is_shown(book, shape, claim, on, off)
+    is_clashing(book.shape.rules, on, off) || is_shown(book, claim, on, off)
 }

@@ -23,12 +23,11 @@ mod step;
 mod trailer;
 mod witness;
 
-pub use answer::Checked;
-pub use branch::Walked;
+pub use answer::Rejected;
 pub use condition::{is_clashing, is_head, is_lost};
 pub use list::with_rules;
 pub use paper::check;
 pub use run::Ran;
 pub use step::{Step, Stop, check_step};
-pub use trailer::{Ending, Trailer, read_trailer};
-pub use witness::{Verdict, check_witness};
+pub use trailer::{Trailer, read_trailer};
+pub use witness::check_witness;

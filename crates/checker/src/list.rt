@@ -6,11 +6,11 @@ ghost use Rattle.meaning.specs.Bits.{listed};
 ghost use Rattle.meaning.specs.Colours.{plus, all_in};
 ghost use Rattle.meaning.specs.Paper.{unfounded};
 ghost use Rattle.meaning.specs.Written.{of};
-ghost use Rattle.book.specs.Format.{book_in, ReadAs};
+ghost use Rattle.book.specs.ReadBook.{the_book};
 ghost use Rattle.book.specs.Tables.{Below};
 
-use book::{Shape, is_starved};
-use meaning::{Bits, RuleNo, put, whole};
+use book::ReadBook;
+use meaning::{Bits, RuleNo};
 
 // The list is strictly ascending, and each of its rules is below R.
 pub fn is_proper(list: &[u8], rules: u8) -> bool
@@ -18,17 +18,11 @@ pub fn is_proper(list: &[u8], rules: u8) -> bool
         (ascending list.now && every (λ n. ltb n rules) list.now) }
 {
     let mut least: u8 = 0;
-    let mut i = 0;
-    while i < list.len() {
-        let n = list[i];
-        if rules <= n {
-            return false;
-        }
-        if n < least {
+    for &n in list {
+        if rules <= n || n < least {
             return false;
         }
         least = n + 1;
-        i += 1;
     }
     true
 }
@@ -39,40 +33,35 @@ pub fn with_rules(set: Bits, list: &[u8]) -> Bits
     ensures { of (listed result.w) ≡
         plus (of (listed set.w)) (map rule_no list.now) }
 {
-    let mut w = set.w;
-    let mut i = 0;
-    while i < list.len() {
-        put(&mut w, list[i]);
-        i += 1;
+    let mut all = set;
+    for &n in list {
+        all.put(n);
     }
-    Bits { w }
+    all
 }
 
 // Each listed rule has a positive atom all of whose rules are in the set.
-fn each_starves(book: &[u8], shape: Shape, list: &[u8], gone: &[u64; 4]) -> bool
-    requires { ReadAs book.now shape × Below shape.rules list.now }
+fn each_starves(book: &ReadBook, list: &[u8], gone: &Bits) -> bool
+    requires { Below book.now.shape.rules list.now }
     ensures { result ≡ every (λ r.
-        some (all_in (book_in book.now) (of (listed gone.now)))
-        (rule (book_in book.now) r).pos) (map rule_no list.now) }
+        some (all_in (the_book book.now) (of (listed gone.now.w)))
+        (rule (the_book book.now) r).pos) (map rule_no list.now) }
 {
-    let mut i = 0;
-    while i < list.len() {
-        if !is_starved(book, shape, RuleNo(list[i]), gone) {
+    for &n in list {
+        if !book.is_starved(RuleNo(n), gone) {
             return false;
         }
-        i += 1;
     }
     true
 }
 
 // 55: each listed rule has a positive atom all of whose rules are off or listed.
-pub fn is_unfounded(book: &[u8], shape: Shape, list: &[u8], off: &[u64; 4]) -> bool
-    requires { ReadAs book.now shape × Below shape.rules list.now }
+pub fn is_unfounded(book: &ReadBook, list: &[u8], off: &Bits) -> bool
+    requires { Below book.now.shape.rules list.now }
     ensures { result ≡
-        unfounded (book_in book.now) (of (listed off.now))
+        unfounded (the_book book.now) (of (listed off.now.w))
         (map rule_no list.now) }
 {
-    let gone = with_rules(whole(off), list);
-    let w = gone.w;
-    each_starves(book, shape, list, &w)
+    let gone = with_rules(*off, list);
+    each_starves(book, list, &gone)
 }

@@ -2,62 +2,47 @@
 // its steps, then its witness.
 ghost use Rattle.std.specs.Prelude.{◌≡◌, ◌+◌, ◌≤◌, length};
 ghost use Rattle.meaning.specs.Paper.{paper_bytes};
-ghost use Rattle.book.specs.Format.{book_in, ReadAs};
+ghost use Rattle.book.specs.ReadBook.{the_book};
 ghost use Rattle.checker.specs.Numbers.{told};
 ghost use Rattle.checker.specs.Check.{steps_told, paper_of, check_of};
 
-use crate::answer::Checked;
-use crate::branch::{Walked, branch};
-use crate::trailer::{Ending, Trailer, read_trailer};
-use crate::witness::{Verdict, check_grounds};
-use book::{Read, Shape, read_book};
-use meaning::Colouring;
+use crate::answer::Rejected;
+use crate::branch::branch;
+use crate::trailer::{Trailer, read_trailer};
+use crate::witness::check_grounds;
+use book::ReadBook;
+use meaning::{Claim, Colouring};
 
 // The steps from the empty colouring, then that nothing stands between them and the witness, then
 // the witness.
-fn check_steps(book: &[u8], shape: Shape, paper: &[u8], trailer: Trailer) -> Checked
-    requires { ReadAs book.now shape
-        × (trailer.from + trailer.count + 6 ≡ length paper.now)
+fn check_steps(book: &ReadBook, paper: &[u8], trailer: Trailer) -> Result<Claim, Rejected>
+    requires { (trailer.from + trailer.count + 6 ≡ length paper.now)
         × (length paper.now ≤ paper_bytes) }
-    ensures { told result ≡ steps_told (book_in book.now) trailer.claim
+    ensures { told result ≡ steps_told (the_book book.now) trailer.claim
         paper.now trailer.count trailer.from }
 {
-    let claim = trailer.claim;
-    match branch(book, shape, paper, trailer, 0, Colouring::empty()) {
-        Walked::Form(at) => Checked::Form(at),
-        Walked::Fails(at) => Checked::Fails(at),
-        Walked::Done(end) => {
-            if end != trailer.from {
-                return Checked::Gap(end);
-            }
-            match check_grounds(book, shape, paper, trailer) {
-                Verdict::Wrong(at) => Checked::Witness(at),
-                Verdict::Right => Checked::Accepted(claim),
-            }
-        }
+    let end = branch(book, paper, trailer, 0, Colouring::empty())?;
+    if end != trailer.from {
+        return Err(Rejected::Gap(end));
+    }
+    match check_grounds(book, paper, trailer) {
+        Ok(()) => Ok(trailer.claim),
+        Err(at) => Err(Rejected::Witness(at)),
     }
 }
 
 // A paper for a good book: its length, mark and trailer first, then its steps and its witness.
-fn check_paper(book: &[u8], shape: Shape, paper: &[u8]) -> Checked
-    requires { ReadAs book.now shape }
-    ensures { told result ≡ paper_of (book_in book.now) paper.now }
+fn check_paper(book: &ReadBook, paper: &[u8]) -> Result<Claim, Rejected>
+    ensures { told result ≡ paper_of (the_book book.now) paper.now }
 {
-    match read_trailer(shape.atoms, paper) {
-        Ending::Good(trailer) => check_steps(book, shape, paper, trailer),
-        Ending::Length => Checked::Length,
-        Ending::Mark(at) => Checked::Mark(at),
-        Ending::Count(at) => Checked::Trailer(at),
-        Ending::Atom(at) => Checked::Atom(at),
-    }
+    let trailer = read_trailer(book.shape.atoms, paper)?;
+    check_steps(book, paper, trailer)
 }
 
 // The claim that the paper proves, or the first thing that is wrong with the book or the paper.
-pub fn check(book: &[u8], paper: &[u8]) -> Checked
+pub fn check(book: &[u8], paper: &[u8]) -> Result<Claim, Rejected>
     ensures { told result ≡ check_of book.now paper.now }
 {
-    match read_book(book) {
-        Read::Refused(why) => Checked::Book(why),
-        Read::Good(shape) => check_paper(book, shape, paper),
-    }
+    let book = ReadBook::read(book)?;
+    check_paper(&book, paper)
 }

@@ -3,14 +3,14 @@ ghost use Rattle.std.specs.Prelude.{◌≡◌, Bool, List, ◌<◌, get_or};
 ghost use Rattle.meaning.specs.Paper.{code_unfounded, code_end};
 ghost use Rattle.meaning.specs.Bits.{listed};
 ghost use Rattle.meaning.specs.Written.{lent};
-ghost use Rattle.book.specs.Format.{book_in};
+ghost use Rattle.book.specs.ReadBook.{the_book};
 ghost use Rattle.checker.specs.Parts.{Ready, Finds};
 
 use crate::condition::{is_ended, is_uncoloured, may_go_off, may_go_on};
 use crate::list::{is_proper, is_unfounded};
 use crate::trailer::Trailer;
-use book::{Shape, wide};
-use meaning::{RuleNo, STEP_END, STEP_OFF, STEP_ON, STEP_SPLIT, STEP_UNFOUNDED};
+use book::{ReadBook, wide};
+use meaning::{Bits, RuleNo, STEP_END, STEP_OFF, STEP_ON, STEP_SPLIT, STEP_UNFOUNDED};
 
 // A step that a branch goes on after, or what it stops by.
 #[derive(Clone, Copy)]
@@ -38,64 +38,44 @@ pub enum Stop {
 
 // A step of code 41, 42 or 53, or of an unknown code.
 fn check_rule_step<'a>(
-    book: &[u8],
-    shape: Shape,
+    book: &ReadBook,
     paper: &[u8],
     trailer: Trailer,
     at: usize,
-    on: &'a [u64; 4],
-    off: &'a [u64; 4],
+    on: &'a Bits,
+    off: &'a Bits,
 ) -> Step
-    requires { Ready book.now shape paper.now trailer.from × (at < trailer.from)
+    requires { Ready paper.now trailer.from × (at < trailer.from)
         × (get_or paper.now at 0 ≡ code_unfounded → ⊥) × (get_or paper.now at 0 ≡ code_end → ⊥) }
-    ensures { Finds (book_in book.now) trailer.claim
+    ensures { Finds (the_book book.now) trailer.claim
         paper.now trailer.from at
-        (lent (listed on.now) (listed off.now)) result }
+        (lent (listed on.now.w) (listed off.now.w)) result }
 {
+    if trailer.from <= at + 1 || book.shape.rules <= paper[at + 1] {
+        return Step::Stops(Stop::Form);
+    }
     let code = paper[at];
-    if trailer.from <= at + 1 {
-        return Step::Stops(Stop::Form);
+    let r = RuleNo(paper[at + 1]);
+    let (holds, step) = match code {
+        STEP_ON => (may_go_on(book, r, on, off), Step::On(r)),
+        STEP_OFF => (may_go_off(book, r, on), Step::Off(r)),
+        STEP_SPLIT => (is_uncoloured(r, on, off), Step::Stops(Stop::Split(r))),
+        _ => return Step::Stops(Stop::Form),
+    };
+    if holds {
+        step
+    } else {
+        Step::Stops(Stop::Fails)
     }
-    let n = paper[at + 1];
-    if shape.rules <= n {
-        return Step::Stops(Stop::Form);
-    }
-    let r = RuleNo(n);
-    if code == STEP_ON {
-        if may_go_on(book, shape, r, on, off) {
-            return Step::On(r);
-        }
-        return Step::Stops(Stop::Fails);
-    }
-    if code == STEP_OFF {
-        if may_go_off(book, shape, r, on) {
-            return Step::Off(r);
-        }
-        return Step::Stops(Stop::Fails);
-    }
-    if code == STEP_SPLIT {
-        if is_uncoloured(r, on, off) {
-            return Step::Stops(Stop::Split(r));
-        }
-        return Step::Stops(Stop::Fails);
-    }
-    Step::Stops(Stop::Form)
 }
 
 // A step of code 55. Whatever is on, it asks only of what is off.
-fn check_list_step(
-    book: &[u8],
-    shape: Shape,
-    paper: &[u8],
-    trailer: Trailer,
-    at: usize,
-    off: &[u64; 4],
-) -> Step
-    requires { Ready book.now shape paper.now trailer.from × (at < trailer.from)
+fn check_list_step(book: &ReadBook, paper: &[u8], trailer: Trailer, at: usize, off: &Bits) -> Step
+    requires { Ready paper.now trailer.from × (at < trailer.from)
         × (get_or paper.now at 0 ≡ code_unfounded) }
-    ensures { (on : List Bool) → Finds (book_in book.now)
+    ensures { (on : List Bool) → Finds (the_book book.now)
         trailer.claim paper.now trailer.from at
-        (lent on (listed off.now)) result }
+        (lent on (listed off.now.w)) result }
 {
     if trailer.from <= at + 1 {
         return Step::Stops(Stop::Form);
@@ -109,10 +89,10 @@ fn check_list_step(
     if trailer.from < end {
         return Step::Stops(Stop::Form);
     }
-    if !is_proper(&paper[first..end], shape.rules) {
+    if !is_proper(&paper[first..end], book.shape.rules) {
         return Step::Stops(Stop::Form);
     }
-    if !is_unfounded(book, shape, &paper[first..end], off) {
+    if !is_unfounded(book, &paper[first..end], off) {
         return Step::Stops(Stop::Fails);
     }
     Step::Unfounded(m)
@@ -120,32 +100,25 @@ fn check_list_step(
 
 // The step at byte `at`: its form first, then its condition.
 pub fn check_step<'a>(
-    book: &[u8],
-    shape: Shape,
+    book: &ReadBook,
     paper: &[u8],
     trailer: Trailer,
     at: usize,
-    on: &'a [u64; 4],
-    off: &'a [u64; 4],
+    on: &'a Bits,
+    off: &'a Bits,
 ) -> Step
-    requires { Ready book.now shape paper.now trailer.from }
-    ensures { Finds (book_in book.now) trailer.claim
+    requires { Ready paper.now trailer.from }
+    ensures { Finds (the_book book.now) trailer.claim
         paper.now trailer.from at
-        (lent (listed on.now) (listed off.now)) result }
+        (lent (listed on.now.w) (listed off.now.w)) result }
 {
     if trailer.from <= at {
         return Step::Stops(Stop::Form);
     }
-    let code = paper[at];
-    if code == STEP_UNFOUNDED {
-        return check_list_step(book, shape, paper, trailer, at, off);
+    match paper[at] {
+        STEP_UNFOUNDED => check_list_step(book, paper, trailer, at, off),
+        STEP_END if is_ended(book, trailer.claim, on, off) => Step::Stops(Stop::End),
+        STEP_END => Step::Stops(Stop::Fails),
+        _ => check_rule_step(book, paper, trailer, at, on, off),
     }
-    if code == STEP_END {
-        let claim = trailer.claim;
-        if is_ended(book, shape, claim, on, off) {
-            return Step::Stops(Stop::End);
-        }
-        return Step::Stops(Stop::Fails);
-    }
-    check_rule_step(book, shape, paper, trailer, at, on, off)
 }

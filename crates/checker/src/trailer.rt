@@ -6,6 +6,7 @@ ghost use Rattle.book.specs.Format.{u16_at};
 ghost use Rattle.checker.specs.Check.{stated, trailer_told, paper_of};
 ghost use Rattle.checker.specs.Parts.{EndsAs};
 
+use crate::answer::Rejected;
 use book::{u16_at, wide};
 use meaning::{AtomNo, Claim, Kind, Marked, PAPER_BYTES};
 
@@ -15,20 +16,6 @@ pub struct Trailer {
     pub claim: Claim,
     pub count: usize,
     pub from: usize,
-}
-
-// What the last bytes come to: a trailer that fits, or what is wrong with them and where.
-#[derive(Clone, Copy)]
-pub enum Ending {
-    Good(Trailer),
-    // 20.
-    Length,
-    // 21.
-    Mark(usize),
-    // 22.
-    Count(usize),
-    // 23.
-    Atom(usize),
 }
 
 // The trailer's first byte fits the claim: the claimed atom is one of the book; or, where no atom is
@@ -43,7 +30,7 @@ fn is_stated(atoms: u8, claim: Claim, byte: u8) -> bool
 }
 
 // The trailer of a paper whose mark and atom make this claim, for a book with so many atoms.
-fn read_claim(atoms: u8, paper: &[u8], claim: Claim) -> Ending
+fn read_claim(atoms: u8, paper: &[u8], claim: Claim) -> Result<Trailer, Rejected>
     requires { (6 ≤ length paper.now) × (length paper.now ≤ paper_bytes) }
     ensures { (b : Book) → b.atoms ≡ atoms → EndsAs b paper.now
         (trailer_told b claim paper.now
@@ -55,28 +42,25 @@ fn read_claim(atoms: u8, paper: &[u8], claim: Claim) -> Ending
     let count = wide(paper[len - 5]);
     let from = u16_at(paper, len - 4);
     if from + count + 6 != len {
-        return Ending::Count(len - 4);
+        return Err(Rejected::Trailer(len - 4));
     }
     if !is_stated(atoms, claim, byte) {
-        return Ending::Atom(len - 6);
+        return Err(Rejected::Atom(len - 6));
     }
-    Ending::Good(Trailer { claim, count, from })
+    Ok(Trailer { claim, count, from })
 }
 
 // The trailer of a paper for a book with so many atoms: the paper's length and its mark first.
-pub fn read_trailer(atoms: u8, paper: &[u8]) -> Ending
+pub fn read_trailer(atoms: u8, paper: &[u8]) -> Result<Trailer, Rejected>
     ensures { (b : Book) → b.atoms ≡ atoms
         → EndsAs b paper.now (paper_of b paper.now) result }
 {
     let len = paper.len();
-    if len < 6 {
-        return Ending::Length;
-    }
-    if PAPER_BYTES < len {
-        return Ending::Length;
+    if len < 6 || PAPER_BYTES < len {
+        return Err(Rejected::Length);
     }
     match Kind::by_mark(paper[len - 2], paper[len - 1]) {
-        Marked::Neither => Ending::Mark(len - 2),
+        Marked::Neither => Err(Rejected::Mark(len - 2)),
         Marked::NoReading => read_claim(atoms, paper, Claim::NoReading),
         Marked::Of(kind) => {
             let claim = Claim::About(kind, AtomNo(paper[len - 6]));

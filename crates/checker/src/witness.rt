@@ -5,148 +5,109 @@ ghost use Rattle.meaning.specs.Books.{rule, every_rule};
 ghost use Rattle.meaning.specs.Paper.{fails, paper_bytes};
 ghost use Rattle.meaning.specs.Bits.{listed};
 ghost use Rattle.meaning.specs.Written.{of};
-ghost use Rattle.book.specs.Format.{book_in, ReadAs};
+ghost use Rattle.book.specs.ReadBook.{the_book};
 ghost use Rattle.book.specs.Tables.{atoms_in, Below};
 ghost use Rattle.checker.specs.Witness.{order_of, blocked_of, witness_verdict, grounds_verdict};
 ghost use Rattle.checker.specs.Parts.{verdict};
 
 use crate::list::with_rules;
 use crate::trailer::Trailer;
-use book::{Shape, every_in, head, heads_of, is_blocked, negatives, positives, some_in, wide};
-use meaning::{Bits, Claim, Colouring, RuleNo, has, put};
-
-#[derive(Clone, Copy)]
-pub enum Verdict {
-    Right,
-    // The place of what is wrong.
-    Wrong(usize),
-}
+use book::{ReadBook, every_in, some_in, wide};
+use meaning::{Bits, Claim, Colouring, RuleNo};
 
 // Each byte in turn: its number, repetition and positive atoms. The list starts at byte `from` of
 // the paper.
-fn check_order(book: &[u8], shape: Shape, list: &[u8], from: usize) -> Verdict
-    requires { ReadAs book.now shape × (from + length list.now < 65536) }
+fn check_order(book: &ReadBook, list: &[u8], from: usize) -> Result<(), usize>
+    requires { from + length list.now < 65536 }
     ensures { verdict result ≡
-        order_of (book_in book.now) from [] list.now }
+        order_of (the_book book.now) from [] list.now }
 {
-    let mut before = [0u64; 4];
+    let mut before = Bits::EMPTY;
     let mut headed = [false; Colouring::ATOMS];
-    let mut i = 0;
-    while i < list.len() {
-        let n = list[i];
-        if shape.rules <= n {
-            return Verdict::Wrong(from + i);
+    for (i, &n) in list.iter().enumerate() {
+        if book.shape.rules <= n || before.has(n) || !every_in(book.positives(RuleNo(n)), &headed) {
+            return Err(from + i);
         }
-        if has(&before, n) {
-            return Verdict::Wrong(from + i);
-        }
-        if !every_in(positives(book, shape, RuleNo(n)), &headed) {
-            return Verdict::Wrong(from + i);
-        }
-        put(&mut before, n);
-        headed[wide(head(book, shape, RuleNo(n)).0)] = true;
-        i += 1;
+        before.put(n);
+        headed[wide(book.head(RuleNo(n)).0)] = true;
     }
-    Verdict::Right
+    Ok(())
 }
 
 // Each byte once more: no negative atom of its rule is in the table.
 fn check_unblocked(
-    book: &[u8],
-    shape: Shape,
+    book: &ReadBook,
     list: &[u8],
     from: usize,
     headed: &[bool; Colouring::ATOMS],
-) -> Verdict
-    requires { ReadAs book.now shape × Below shape.rules list.now
+) -> Result<(), usize>
+    requires { Below book.now.shape.rules list.now
         × (from + length list.now < 65536) }
     ensures { verdict result ≡
-        blocked_of (book_in book.now) (atoms_in headed.now) from
+        blocked_of (the_book book.now) (atoms_in headed.now) from
         list.now }
 {
-    let mut i = 0;
-    while i < list.len() {
-        if is_blocked(book, shape, RuleNo(list[i]), headed) {
-            return Verdict::Wrong(from + i);
+    for (i, &n) in list.iter().enumerate() {
+        if book.is_blocked(RuleNo(n), headed) {
+            return Err(from + i);
         }
-        i += 1;
     }
-    Verdict::Right
+    Ok(())
 }
 
 // The rule has a positive atom outside the table or a negative atom in it.
-fn fails_in(book: &[u8], shape: Shape, r: RuleNo, headed: &[bool; Colouring::ATOMS]) -> bool
-    requires { ReadAs book.now shape × (r.0 < shape.rules) }
+fn fails_in(book: &ReadBook, r: RuleNo, headed: &[bool; Colouring::ATOMS]) -> bool
+    requires { r.0 < book.now.shape.rules }
     ensures { result ≡
-        fails (atoms_in headed.now) (rule (book_in book.now) r) }
+        fails (atoms_in headed.now) (rule (the_book book.now) r) }
 {
-    if !every_in(positives(book, shape, r), headed) {
-        return true;
-    }
-    some_in(negatives(book, shape, r), headed)
+    !every_in(book.positives(r), headed) || some_in(book.negatives(r), headed)
 }
 
 // Every rule that is not listed fails.
-fn rest_fails(book: &[u8], shape: Shape, set: &[u64; 4], headed: &[bool; Colouring::ATOMS]) -> bool
-    requires { ReadAs book.now shape }
-    ensures { result ≡ every_rule (book_in book.now)
-        (λ r. of (listed set.now) r
-        || fails (atoms_in headed.now) (rule (book_in book.now) r)) }
+fn rest_fails(book: &ReadBook, set: &Bits, headed: &[bool; Colouring::ATOMS]) -> bool
+    ensures { result ≡ every_rule (the_book book.now)
+        (λ r. of (listed set.now.w) r
+        || fails (atoms_in headed.now) (rule (the_book book.now) r)) }
 {
-    let mut r: u8 = 0;
-    while r < shape.rules {
-        if !has(set, r) {
-            if !fails_in(book, shape, RuleNo(r), headed) {
-                return false;
-            }
+    for r in 0..book.shape.rules {
+        if !set.has(r) && !fails_in(book, RuleNo(r), headed) {
+            return false;
         }
-        r += 1;
     }
     true
 }
 
 // The whole witness: its order, its negative atoms, then the rules that it doesn't list.
-pub fn check_witness(book: &[u8], shape: Shape, paper: &[u8], trailer: Trailer) -> Verdict
-    requires { ReadAs book.now shape
-        × (trailer.from + trailer.count + 6 ≡ length paper.now)
+pub fn check_witness(book: &ReadBook, paper: &[u8], trailer: Trailer) -> Result<(), usize>
+    requires { (trailer.from + trailer.count + 6 ≡ length paper.now)
         × (length paper.now ≤ paper_bytes) }
-    ensures { verdict result ≡ witness_verdict (book_in book.now) paper.now
+    ensures { verdict result ≡ witness_verdict (the_book book.now) paper.now
         trailer.from trailer.count }
 {
     let from = trailer.from;
     let end = from + trailer.count;
-    if let Verdict::Wrong(at) = check_order(book, shape, &paper[from..end], from) {
-        return Verdict::Wrong(at);
-    }
+    check_order(book, &paper[from..end], from)?;
     let all = with_rules(Bits::empty(), &paper[from..end]);
-    let set = all.w;
     let mut headed = [false; Colouring::ATOMS];
-    heads_of(book, shape, &set, &mut headed);
-    if let Verdict::Wrong(at) = check_unblocked(book, shape, &paper[from..end], from, &headed) {
-        return Verdict::Wrong(at);
+    book.heads_of(&all, &mut headed);
+    check_unblocked(book, &paper[from..end], from, &headed)?;
+    if !rest_fails(book, &all, &headed) {
+        return Err(paper.len() - 6);
     }
-    if !rest_fails(book, shape, &set, &headed) {
-        return Verdict::Wrong(paper.len() - 6);
-    }
-    Verdict::Right
+    Ok(())
 }
 
 // What the claim asks behind the steps: a witness, or that nothing is listed.
-pub fn check_grounds(book: &[u8], shape: Shape, paper: &[u8], trailer: Trailer) -> Verdict
-    requires { ReadAs book.now shape
-        × (trailer.from + trailer.count + 6 ≡ length paper.now)
+pub fn check_grounds(book: &ReadBook, paper: &[u8], trailer: Trailer) -> Result<(), usize>
+    requires { (trailer.from + trailer.count + 6 ≡ length paper.now)
         × (length paper.now ≤ paper_bytes) }
-    ensures { verdict result ≡ grounds_verdict trailer.claim (book_in book.now)
+    ensures { verdict result ≡ grounds_verdict trailer.claim (the_book book.now)
         paper.now trailer.from trailer.count }
 {
-    let claim = trailer.claim;
-    match claim {
-        Claim::About(_, _) => check_witness(book, shape, paper, trailer),
-        Claim::NoReading => {
-            if trailer.count != 0 {
-                return Verdict::Wrong(trailer.from);
-            }
-            Verdict::Right
-        }
+    match trailer.claim {
+        Claim::About(_, _) => check_witness(book, paper, trailer),
+        Claim::NoReading if trailer.count != 0 => Err(trailer.from),
+        Claim::NoReading => Ok(()),
     }
 }

@@ -15,9 +15,7 @@ use talk::{BOOK_ROOM, NAMES_ROOM, PAPER_ROOM, read_argument, tell_checked};
 // Reads the paper, and checks it.
 fn check_argument(rt: &(impl Env + Files + Print), book: &[u8], names: &[u8]) {
     let mut paper = [0u8; PAPER_ROOM];
-    let taken = read_argument(rt, 2 + shift(rt), &mut paper);
-    if taken.good {
-        let n = taken.count;
+    if let Some(n) = read_argument(rt, 2 + shift(rt), &mut paper) {
         tell_checked(rt, book, names, &paper[..n]);
     }
 }
@@ -26,16 +24,8 @@ fn main(rt: HostRuntime) {
     let is_right = arg_count(&rt) == 3 + shift(&rt);
     let mut book = [0u8; BOOK_ROOM];
     let mut names = [0u8; NAMES_ROOM];
-    let opened = open_book(
-        &rt,
-        is_right,
-        b"checking BOOKFILE PAPERFILE",
-        &mut book,
-        &mut names,
-    );
-    if opened.good {
-        let n = opened.count;
-        let m = opened.names;
-        check_argument(&rt, &book[..n], &names[..m]);
+    let usage = b"checking BOOKFILE PAPERFILE";
+    if let Some(opened) = open_book(&rt, is_right, usage, &mut book, &mut names) {
+        check_argument(&rt, opened.book, opened.names);
     }
 }

@@ -2,7 +2,7 @@
 -- stand on what was held then; if it does now, one of its positive atoms has become the head of a rule that is held, and has woken it.
 use mathlib.Core.Path.{◌≡◌, refl, sym, ap, ap₂, ◌∙◌, fun_ext, subst}
 use mathlib.Core.Logic.{◌⊎◌, ⊎_elim}
-use mathlib.Core.Bool.{Bool, true, false, not, ◌&&◌, ◌||◌, or-false}
+use mathlib.Core.Bool.{Bool, true, false, not, ◌&&◌, ◌||◌}
 use mathlib.Core.List.{List, [], ◌∷◌}
 use Prim.Native.Nat.{ℕ, ◌+◌, ◌<◌}
 use native.Mathlib.Omega.{arith}
@@ -34,17 +34,6 @@ use Rattle.closing.proofs.Spreading.{outside}
 use Rattle.closing.proofs.Raising.{onward, less-listed, onward-first, behind}
 
 -- ---- one look
-
--- the rules that stand on an atom are joined unless it is the head of a rule that is held
-module _ (t held : List ℕ) (a : AtomNo) {x : Bool} (e : x ≡ headed_by t held a) where
-  abbrev called : Set ℕ
-  called r = not (headed_by t held a) && sets t (256 + a.0) r
-
-  pub wake-not : x ≡ true → (v : Set ℕ) → v ≡ plus v called
-  wake-not y v = fun_ext (λ r. sym (ap (λ (z : Bool). v r || (not z && sets t (256 + a.0) r)) (sym e ∙ y) ∙ or-false (v r)))
-
-  pub wake-row : x ≡ false → (v : Set ℕ) {w : Set ℕ} → w ≡ plus v (sets t (256 + a.0)) → w ≡ plus v called
-  wake-row y v f = f ∙ fun_ext (λ r. ap (λ (z : Bool). v r || (not z && sets t (256 + a.0) r)) (sym y ∙ e))
 
 -- the rules of the row, in the book
 standing-at : (b : Book) (t : List ℕ) → RuleRows b t → (a : AtomNo) → a.0 < 256 → (q : RuleNo)

@@ -8,15 +8,14 @@ use Prim.Native.Nat.{ℕ, ◌≤◌, ◌<◌}
 use native.Mathlib.Nat.{zero-add}
 use native.Mathlib.Omega.{arith}
 use lib.Dec.{ltb}
-use lib.ListN.{set}
 use lib.Seq.{ext_get_or}
 use borrow.Author.Tests.{not-true, le-ltb, lt-ltb}
 use Rattle.meaning.specs.declared.RuleNo.{RuleNo}
 use Rattle.meaning.specs.Sets.{◌∈◌, ◌∉◌}
 use Rattle.meaning.specs.Books.{Rules, Book, rule_no, count, InBook}
-use Rattle.meaning.specs.Colours.{Pair, Under, Closed}
+use Rattle.meaning.specs.Colours.{Pair, Side, on_side, off_side, Under, Closed}
 use Rattle.meaning.specs.Bits.{below, less, table_from, listed}
-use Rattle.meaning.specs.Written.{Tables, of, stamp_from, lent, pair}
+use Rattle.meaning.specs.Written.{Tables, of, stamp_from, coloured, colour, chosen, lent, pair}
 use Rattle.meaning.specs.Lowest.{Pick, lowest_from, lowest, in_both, clashed}
 use Rattle.meaning.specs.Computed.{support, newly, new_levels, close}
 use Rattle.meaning.specs.Propagation.{Propagated, Propagation, propagate}
@@ -70,8 +69,15 @@ module _ (b : Book) (few : count b ≤ 255) (c : Tables) (sized : Sized c) {on o
   propagated-no-more = remaining-more b propagated-to.good.above
 
 -- a rule that is put in takes none away
-pub put-stays : (w : List ℕ) (r : RuleNo) → r.0 < 256 → (q : RuleNo) → q ∈ of (listed w) → q ∈ of (set (listed w) r.0 true)
-put-stays w r low q m = ap (λ (s : Rules). s q) (of-set (listed w) r (omega (arith, listed-long w))) ∙ or_left _ m
+pub put-stays : (x : Side) (r : RuleNo) (on off : List ℕ) → r.0 < 256 → (q : RuleNo) → q ∈ of (listed off)
+    → q ∈ of (colour x r (coloured (listed on) (listed off))).off
+put-stays on_side r on off low q m = m
+put-stays off_side r on off low q m = ap (λ (s : Rules). s q) (of-set (listed off) r (omega (arith, listed-long off))) ∙ or_left _ m
+
+-- a choice puts its rule on its side
+pub pair-chosen : (x : Side) (r : RuleNo) (c : Tables) → pair (colour x r (coloured c.on c.off)) ≡ pair (chosen x r c)
+pair-chosen on_side r c = refl
+pair-chosen off_side r c = refl
 
 -- ---- what nothing holds up goes off
 

@@ -8,6 +8,7 @@ use Rattle.meaning.specs.declared.RuleNo.{RuleNo}
 use Rattle.meaning.specs.Sets.{every}
 use Rattle.meaning.specs.Books.{Atoms, Book, count, rule, InBook}
 use Rattle.book.specs.declared.reader.Shape.{Shape}
+use Rattle.book.specs.declared.read.ReadBook.{ReadBook}
 use Rattle.book.specs.Format.{book_in, ReadAs}
 use Rattle.book.specs.Tables.{atom_table, atoms_in, Below}
 use Rattle.book.specs.Writing.{atom_bytes, RuleFits}
@@ -18,6 +19,10 @@ pub record Good (s : List ℕ) (h : Shape) : Type 0 where
   pub read : ReadAs s h
   pub atoms : h.atoms < 256
   pub rules : h.rules < 256
+
+-- a book that was read is good
+pub good-book : (b : ReadBook) → Good b.bytes.now b.shape
+good-book b = record { read = b.read_as; atoms = b.small.0; rules = b.small.1 }
 
 module _ {s : List ℕ} {h : Shape} (g : Good s h) where
   pub good-count : count (book_in s) ≡ h.rules

@@ -46,14 +46,6 @@ module _ {b : Book} {k : Condition} where
     forced = λ w g h. q.forced w g (p.forced w g h);
   }
 
-  pub pass-start : (l : List Bool) → Pass b k 0 l l false
-  pass-start l = record {
-    grown = grown-start l;
-    more-differs = λ e. absurd (true≢false (sym e));
-    none-same = λ e. refl;
-    none-rests = λ e r h. absurd (omega arith);
-  }
-
   -- one rule is added
   grown-set : Monotone b k → (r : RuleNo) (m : List Bool) → InBook b r → r.0 < length m → r ∈ k (of m)
       → Grown b k m (set m r.0 true)

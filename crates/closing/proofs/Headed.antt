@@ -15,19 +15,19 @@ use Rattle.meaning.proofs.Tests.{either, or_left, or_right, same}
 use Rattle.meaning.proofs.Rules.{among_one, one-among, heads-of, heads-by, heads-mono}
 use Rattle.meaning.proofs.Written.{of_none, of-set}
 use Rattle.book.specs.Tables.{atom_table}
-use Rattle.book.proofs.AtomSets.{heads_to, heads-none, heads-skip, heads-end, table-set}
+use Rattle.book.proofs.AtomSets.{heads_to, said-none, said-skip, said-end, table-set}
 
 module _ (b : Book) where
   -- no rule is in the set
   pub headed-none : (l : List Bool) → l ≡ replicate 256 false → replicate 255 false ≡ atom_table (heads b (of l))
-  headed-none l e = rw e (heads-none b none ∙ skipped (count b) ∙ heads-end b none (count b) refl)
+  headed-none l e = rw e (said-none b none true ∙ skipped (count b) ∙ said-end b none true (count b) refl)
     where
       none : Rules
       none = of (replicate 256 false)
 
       skipped : (k : ℕ) → atom_table (heads_to b none 0) ≡ atom_table (heads_to b none k)
       skipped zero = refl
-      skipped (suc k) = skipped k ∙ rw add-one at (heads-skip b none k (of_none 256 (rule_no k)))
+      skipped (suc k) = skipped k ∙ rw add-one at (said-skip b none true k (of_none 256 (rule_no k)))
 
   -- the heads of one rule more are the same but for its own head
   heads-plus : (s : Rules) (r : RuleNo) (a : AtomNo) → (a.0 ≡ (rule b r).head.0 → ⊥) → heads b s a ≡ heads b (plus s (r ∷ [])) a

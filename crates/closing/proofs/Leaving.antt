@@ -4,6 +4,7 @@ use mathlib.Core.Path.{◌≡◌, refl, sym, ◌∙◌, ap₂, subst}
 use mathlib.Core.Bool.{Bool, true, false, ◌&&◌}
 use mathlib.Core.List.{List}
 use Prim.Native.Nat.{ℕ, ◌≤◌}
+use Rattle.std.specs.Prelude.{Option, Some, None, is_some}
 use Rattle.meaning.specs.declared.RuleNo.{RuleNo}
 use Rattle.meaning.specs.Books.{Book, count}
 use Rattle.meaning.specs.Colours.{Pair, on_side, off_side, side, Closing, clashing}
@@ -18,24 +19,22 @@ use Rattle.meaning.proofs.Written.{Sized}
 use Rattle.meaning.proofs.Closing.{closing-unique, closed-closing, close-is}
 use Rattle.meaning.proofs.Alike.{lowest-same}
 use Rattle.closing.specs.Ended.{ClosedTo, left_at, EndsAt, Ends, at-end, at_clash}
+use Rattle.closing.specs.Picked.{picked}
 use Rattle.closing.proofs.Searches.{lowest-in}
 use Rattle.closing.proofs.Propagating.{sized-coloured}
 use Rattle.closing.proofs.Closed.{UnderWay, closed-behind}
 
 -- ---- the test
 
-pub not_left : {early : Bool} (p : Pick) → early ≡ false → false ≡ left_at early p
+pub not_left : {early : Bool} (p : Pick) → early ≡ false → early ≡ left_at early p
 unfolding left_at
-not_left none e = refl
-not_left (one r) e = sym e
+not_left none e = e
+not_left (one r) e = refl
 
-pub left-none : (early : Bool) {p : Pick} → p ≡ none → false ≡ left_at early p
+pub left_told : {early told : Bool} {p : Pick} → early ≡ true → (v : Option RuleNo) → picked v ≡ p → told ≡ is_some v → told ≡ left_at early p
 unfolding left_at
-left-none early e = rw e
-
-pub left_one : {early : Bool} {p : Pick} {r : RuleNo} → early ≡ true → p ≡ one r → true ≡ left_at early p
-unfolding left_at
-left_one e f = rw f (sym e)
+left_told e None f g = rw (g, ← f) refl
+left_told e (Some r) f g = rw (g, ← f) (sym e)
 
 left_by : {early : Bool} (p : Pick) → left_at early p ≡ true → (early ≡ true) × (r : RuleNo) × (p ≡ one r)
 unfolding left_at

@@ -1,7 +1,7 @@
 -- Atoms noted in a set, and the heads of rules noted one after the other (src/propagation.rt).
 use mathlib.Core.Path.{◌≡◌, sym, ap, ◌∙◌, fun_ext}
 use mathlib.Core.Logic.{⊎_elim}
-use mathlib.Core.Bool.{Bool, true, false, ◌&&◌, ◌||◌, or-false}
+use mathlib.Core.Bool.{Bool, true, false, ◌&&◌, ◌||◌}
 use mathlib.Core.List.{List, [], ◌∷◌}
 use Prim.Native.Nat.{ℕ, ◌+◌, ◌≤◌, ◌<◌}
 use native.Mathlib.Decide.{ℕ_discrete, dec_lt}
@@ -28,7 +28,7 @@ use Rattle.closing.proofs.Stamping.{before}
 -- ---- one atom
 
 -- the set of atoms and the list say the same
-said : (w : List ℕ) (a : AtomNo) → atom_set w a ≡ of (listed w) (rule_no a.0)
+pub said : (w : List ℕ) (a : AtomNo) → atom_set w a ≡ of (listed w) (rule_no a.0)
 said w a = ap (λ (s : Set ℕ). s a.0) (sym (listed-members w))
 
 pub put-atom : (w v : List ℕ) (h : AtomNo) → h.0 < 256 → listed w ≡ set (listed v) h.0 true
@@ -57,9 +57,6 @@ no-atoms = atoms-of (replicate 4 0) members-nothing
 
 -- an atom is put in if so told
 module _ (told : Bool) (h : AtomNo) where
-  pub note-not : (v : Atoms) → told ≡ false → v ≡ (λ a. v a || (told && same_atom h a))
-  note-not v e = fun_ext (λ a. sym (ap (λ (t : Bool). v a || (t && same_atom h a)) e ∙ or-false (v a)))
-
   pub note-put : (w v : List ℕ) → told ≡ true → h.0 < 256 → listed w ≡ set (listed v) h.0 true
       → atom_set w ≡ (λ a. atom_set v a || (told && same_atom h a))
   note-put w v e low f = put-atom w v h low f ∙ fun_ext (λ a. ap (λ (t : Bool). atom_set v a || (t && same_atom h a)) (sym e))

@@ -1,5 +1,5 @@
--- Propagation by what is new, as the loop of `propagate_from` goes through it (src/propagation.rt): the start, the two steps, the measure
--- and the end. What is reached lies within every propagated pair above the start, and what is pending is in the three sets.
+-- Propagation by what is new, as the loop of `propagate_from` goes through it (src/propagation.rt): the two steps, the measure and the
+-- end. What is reached lies within every propagated pair above the start, and what is pending is in the three sets.
 use mathlib.Core.Path.{◌≡◌, refl, sym, ap, subst, ◌∙◌}
 use mathlib.Core.Logic.{⊎_elim}
 use mathlib.Core.Bool.{Bool, true, false, ◌||◌, or-false}
@@ -10,19 +10,18 @@ use Rattle.meaning.specs.declared.AtomNo.{AtomNo}
 use Rattle.meaning.specs.declared.RuleNo.{RuleNo}
 use Rattle.meaning.specs.Sets.{Set, ◌∈◌, ◌∉◌, every_below, some_below}
 use Rattle.meaning.specs.Books.{Atoms, Rules, Book, atom_no, count, InBook}
-use Rattle.meaning.specs.Colours.{Pair}
+use Rattle.meaning.specs.Colours.{Pair, Side, on_side, off_side}
 use Rattle.meaning.specs.Bits.{none, implied, members, listed}
-use Rattle.meaning.specs.Written.{Tables, coloured, lent}
+use Rattle.meaning.specs.Written.{Tables, coloured, colour, lent}
 use Rattle.meaning.specs.Propagation.{propagate}
 use Rattle.meaning.specs.Pending.{Forced, Pending, no_atoms, hit, dropped, newly_lost}
 use Rattle.meaning.proofs.Tests.{or_left, true-and-false, refuted, implies, decided}
 use Rattle.meaning.proofs.Tests.{implied as implied-by}
 use Rattle.meaning.proofs.Sets.{below_at, below_all, below-some, below_one}
 use Rattle.meaning.proofs.Rules.{within_both}
-use Rattle.meaning.proofs.Written.{Sized}
+use Rattle.meaning.proofs.Written.{Sized, sized_on, sized-off}
 use Rattle.meaning.proofs.Four.{members-small}
 use Rattle.meaning.proofs.Listed.{listed-long}
-use Rattle.meaning.proofs.Propagation.{forced-start}
 use Rattle.meaning.proofs.Propagate.{propagation-computed}
 use Rattle.meaning.proofs.Pending.{pending-drop, forced-drop, pending-propagation}
 use Rattle.meaning.proofs.Remaining.{remaining, remaining-more, remaining-on, remaining-drop}
@@ -33,11 +32,6 @@ pub record Propagating (b : Book) (start c : Pair) (nt nl : Atoms) (cand : Rules
   pub pending : Pending b c nt nl cand
   pub on-outside : (r : RuleNo) → count b ≤ r.0 → c.on r ≡ start.on r
   pub off-outside : (r : RuleNo) → count b ≤ r.0 → c.off r ≡ start.off r
-
--- ---- the start, with what is handed in
-
-pub propagating-start : (b : Book) (c : Pair) {nt nl : Atoms} {cand : Rules} → Pending b c nt nl cand → Propagating b c c nt nl cand
-propagating-start b c p = record { forced = forced-start b c; pending = p; on-outside = λ r l. refl; off-outside = λ r l. refl }
 
 -- ---- step 1
 
@@ -111,6 +105,10 @@ module _ (w v z : List ℕ) (e : v ≡ w) (n : members z ≡ none) {x : Bool} (f
 pub sized-coloured : (on off : List ℕ) → Sized (coloured (listed on) (listed off))
 sized-coloured on off =
     record { on = listed-long on; off = listed-long off; marks = length-replicate 256 false; levels = length-replicate {A = ℕ} 255 0 }
+
+pub sized-colour : (x : Side) (r : RuleNo) {c : Tables} → Sized c → Sized (colour x r c)
+sized-colour on_side r s = sized_on r s
+sized-colour off_side r s = sized-off r s
 
 pub propagating-end : (b : Book) → count b ≤ 255 → (on₀ off₀ on off : List ℕ) {nt nl : Atoms} {cand : Rules}
     → Propagating b (lent (listed on₀) (listed off₀)) (lent (listed on) (listed off)) nt nl cand

@@ -9,6 +9,7 @@ use native.Mathlib.Omega.{arith}
 use borrow.Author.Tests.{not-false}
 use lib.ListN.{get_or, get_or-append}
 use lib.Seq.{get_or-append-add}
+use Rattle.std.specs.Prelude.{Result, Ok, Err}
 use Rattle.meaning.specs.declared.AtomNo.{AtomNo}
 use Rattle.meaning.specs.declared.RuleNo.{RuleNo}
 use Rattle.meaning.specs.Sets.{◌∈◌, ◌∉◌}
@@ -22,9 +23,10 @@ use Rattle.meaning.proofs.Choice.{lt-either}
 use Rattle.meaning.proofs.Tests.{true-and-false}
 use Rattle.meaning.proofs.Told.{again, one_again}
 use Rattle.meaning.proofs.WellFounded.{first-closing-well-founded, first-consistent, well-founded-one, well-founded-consistent}
+use Rattle.book.specs.declared.refusal.Refusal.{Refusal}
 use Rattle.book.proofs.Told.{refusal_at, refusal-again}
-use Rattle.closing.specs.declared.first.Settled.{Settled}
-use Rattle.closing.specs.declared.first.Settled.TheVariants.{Rows, Book as BadBook, NoRoom}
+use Rattle.closing.specs.declared.first.Unsettled.{Unsettled}
+use Rattle.closing.specs.declared.first.Unsettled.TheVariants.{Book as BadBook, NoRoom}
 use Rattle.closing.specs.Settle.{settled_byte, rule_row, atom_row, settled_rows, told, settle_in}
 use Rattle.closing.proofs.Settling.{settled_at, rule-row-length}
 
@@ -82,13 +84,13 @@ settle-keeps b out =
 
 -- ---- an answer is found again from what is told of it
 
-abbrev settled_again : Told (Unit {0}) → Settled
-settled_again = again (λ u. Rows) (λ values. NoRoom) (λ number at. BadBook (refusal_at number at)) (λ number. NoRoom)
+abbrev settled_again : Told (Unit {0}) → Result (Unit {0}) Unsettled
+settled_again = again (λ u. Ok u) (λ values. Err NoRoom) (λ number at. Err (BadBook (refusal_at number at))) (λ number. Err NoRoom)
 
-settled-again : (s : Settled) → settled_again (told s) ≡ s
-settled-again Rows = refl
-settled-again (BadBook f) = ap BadBook (refusal-again f)
-settled-again NoRoom = refl
+settled-again : (s : Result (Unit {0}) Unsettled) → settled_again (told s) ≡ s
+settled-again (Ok u) = refl
+settled-again (Err (BadBook f)) = ap (λ (g : Refusal). Err (BadBook g)) (refusal-again f)
+settled-again (Err NoRoom) = refl
 
-pub settled-one : (s t : Settled) → told s ≡ told t → s ≡ t
+pub settled-one : (s t : Result (Unit {0}) Unsettled) → told s ≡ told t → s ≡ t
 settled-one = one_again told settled_again settled-again

@@ -1,35 +1,40 @@
 -- From what the code of settling writes to what is answered (src/settle.rt, specs/Settle): a row byte by byte, two rows one behind the
 -- other, and the book refused or read.
 use mathlib.Core.Path.{◌≡◌, refl, sym, ◌∙◌, ap}
-use mathlib.Core.Bool.{Bool, false}
+use mathlib.Core.Bool.{Bool, false, ◌&&◌}
 use mathlib.Core.List.{List, ◌++◌}
 use Prim.Native.Nat.{ℕ, zero, suc, ◌+◌, ◌≤◌, ◌<◌}
 use native.Mathlib.Nat.{zero-add, add-zero, add-suc, suc-add, le_of_suc-le-suc, le_antisymm}
 use native.Mathlib.Omega.{arith}
+use lib.Dec.{ltb}
 use lib.ListN.{length, get_or, set, drop, length-append}
 use lib.Seq.{paste}
-use Rattle.meaning.specs.Written.{Tables}
+use borrow.Author.Tests.{lt-ltb}
+use Rattle.std.specs.Prelude.{Result, Ok, Err}
+use Rattle.meaning.specs.declared.colouring.Colouring.{Colouring}
+use Rattle.meaning.specs.Bits.{listed}
+use Rattle.meaning.specs.Written.{Tables, written}
 use Rattle.meaning.specs.Sets.{Set}
-use Rattle.meaning.specs.Books.{atom_no, Book, count}
+use Rattle.meaning.specs.Books.{Atoms, atom_no, Book, count}
 use Rattle.meaning.specs.Colours.{heads, all_in}
 use Rattle.meaning.specs.Told.{success, refused_at, refused, Answered}
 use Rattle.meaning.specs.Buffers.{write_at}
 use Rattle.meaning.specs.Written.{of, nothing}
 use Rattle.meaning.specs.Computed.{close}
 use Rattle.meaning.proofs.Choice.{lt_yes, lt_no}
-use Rattle.meaning.proofs.Buffers.{write-length, write-turn, write_done, write-next, write-front}
+use Rattle.meaning.proofs.Buffers.{write-turn, write_done, write-next, write-front}
 use Rattle.book.specs.declared.refusal.Refusal.{Refusal}
 use Rattle.book.specs.declared.reader.Shape.{Shape}
-use Rattle.book.specs.declared.reader.Read.{Read}
-use Rattle.book.specs.declared.reader.Read.TheVariants.{Good, Refused}
 use Rattle.book.specs.Numbers.{number_of, place_of, told as book_told}
 use Rattle.book.specs.Format.{read_of, told_of, book_of, book_in, ReadAs}
-use Rattle.book.specs.Tables.{atom_table, atoms_in}
+use Rattle.book.specs.RuleRows.{headed_by, lost_by, RuleRows}
 use Rattle.book.proofs.Shapes.{told-good}
 use Rattle.book.proofs.Verdict.{read_as, read-bad}
-use Rattle.book.proofs.AtomSets.{table-in}
+use Rattle.book.proofs.RuleRows.{headed-by, lost-by}
 use Rattle.book.proofs.Places.{shape-count, shape-atoms}
+use Rattle.closing.specs.News.{atom_set}
 use Rattle.closing.specs.Settle.{settled_byte, settled_from, settled_row, rule_row, atom_row, settled_rows, settle_in, settle_read, settle_of}
+use Rattle.closing.proofs.Noting.{said}
 
 -- ---- a row
 
@@ -66,12 +71,6 @@ module _ (holds fails : List Bool) (n at : ℕ) (out : List ℕ) where
       → w ≡ write_at at (settled_row n holds fails) out
   settled-written h k e = write_done at (settled_row n holds fails) out (le_antisymm h k ∙ sym (settled-length 0 n _ _)) e
 
--- the buffer keeps its length
-pub settled-kept : (n : ℕ) (holds fails : List Bool) (out u : List ℕ) → n ≤ length out → u ≡ write_at 0 (settled_row n holds fails) out
-    → length u ≡ length out
-settled-kept n holds fails out u h e =
-    ap length e ∙ write-length 0 (settled_row n holds fails) out (omega (arith, settled-length 0 n (λ j. get_or holds j false) (λ j. get_or fails j false)))
-
 -- ---- both rows
 
 pub rule-row-length : (b : Book) → length (rule_row b (close b nothing)) ≡ count b
@@ -89,24 +88,31 @@ module _ (s : List ℕ) (h : Shape) (e : ReadAs s h) (out : List ℕ) where
   settle-no-room l = sym (lt_yes _ _ _ _ (omega (arith, shape-count s h e, shape-atoms s h e)))
 
   -- the rules' row, and behind it the atoms' row
-  module _ (small : h.atoms < 256) (l : h.rules + h.atoms ≤ length out) {c d : Tables} (empty : c ≡ nothing)
-      (closed : d ≡ close (book_in s) c) where
-    first : d ≡ close (book_in s) nothing
+  module _ (small : h.atoms < 256) (l : h.rules + h.atoms ≤ length out) {c : Tables} (d : Colouring) (empty : c ≡ nothing)
+      (closed : written d ≡ close (book_in s) c) where
+    first : written d ≡ close (book_in s) nothing
     first = closed ∙ ap (close (book_in s)) empty
 
-    rules-are : settled_row h.rules d.on d.off ≡ rule_row (book_in s) (close (book_in s) nothing)
+    rules-are : settled_row h.rules (listed d.on.w) (listed d.off.w) ≡ rule_row (book_in s) (close (book_in s) nothing)
     unfolding of
-    rules-are = rw (first, shape-count s h e)
+    rules-are = rw (← first, shape-count s h e)
 
-    module _ {headed lost : List Bool} (p : headed ≡ atom_table (heads (book_in s) (of d.on)))
-        (q : lost ≡ atom_table (all_in (book_in s) (of d.off))) where
-      atoms_are : settled_row h.atoms headed lost ≡ atom_row (book_in s) (close (book_in s) nothing)
-      unfolding atoms_in
-      atoms_are = rw (p, q, first, shape-atoms s h e) (settled_same 0 h.atoms _ _ _ _
-          (λ j k. (table-in _ (atom_no j) (omega arith), table-in _ (atom_no j) (omega arith))))
+    module _ (rows nt nl : List ℕ) (k : RuleRows (book_in s) rows) (p : atom_set nt ≡ (λ a. ltb a.0 h.atoms && headed_by rows d.on.w a))
+        (q : atom_set nl ≡ (λ a. ltb a.0 h.atoms && lost_by rows d.off.w a)) where
+      byte-of : (w : List ℕ) (x y : Atoms) → atom_set w ≡ (λ a. ltb a.0 h.atoms && x a) → (j : ℕ) → j < h.atoms
+          → x (atom_no j) ≡ y (atom_no j) → get_or (listed w) j false ≡ y (atom_no j)
+      unfolding of
+      byte-of w x y f j m g = sym (said w (atom_no j)) ∙ ap (λ (z : Atoms). z (atom_no j)) f ∙ rw (lt-ltb j h.atoms m) g
 
-      pub settle-told : {u w : List ℕ} → u ≡ write_at 0 (settled_row h.rules d.on d.off) out
-          → w ≡ write_at h.rules (settled_row h.atoms headed lost) u
+      atoms_are : settled_row h.atoms (listed nt) (listed nl) ≡ atom_row (book_in s) (close (book_in s) nothing)
+      unfolding book_in book_of
+      atoms_are = rw (← first, shape-atoms s h e) (settled_same 0 h.atoms _ _ _ _ (λ j m. (
+        byte-of nt (headed_by rows d.on.w) (heads (book_in s) (of (listed d.on.w))) p j (omega arith) (headed-by _ rows k d.on.w (atom_no j) (omega arith)),
+        byte-of nl (lost_by rows d.off.w) (all_in (book_in s) (of (listed d.off.w))) q j (omega arith) (lost-by _ rows k d.off.w (atom_no j) (omega arith)),
+      )))
+
+      pub settle-told : {u w : List ℕ} → u ≡ write_at 0 (settled_row h.rules (listed d.on.w) (listed d.off.w)) out
+          → w ≡ write_at h.rules (settled_row h.atoms (listed nt) (listed nl)) u
           → record { told = success tt; buffer = w } ≡ settle_in (book_in s) out
       unfolding settle_in settled_rows
       settle-told {u} {w} f g =
@@ -119,11 +125,11 @@ module _ (s : List ℕ) (h : Shape) (e : ReadAs s h) (out : List ℕ) where
 
 -- ---- the book
 
-module _ (s : List ℕ) {x : Read} (e : book_told x ≡ told_of (read_of s)) (out : List ℕ) where
-  pub settle-refused : {f : Refusal} → x ≡ Refused f → record { told = refused_at (number_of f) (place_of f); buffer = out } ≡ settle_of s out
+module _ (s : List ℕ) {x : Result Shape Refusal} (e : book_told x ≡ told_of (read_of s)) (out : List ℕ) where
+  pub settle-refused : {f : Refusal} → x ≡ Err f → record { told = refused_at (number_of f) (place_of f); buffer = out } ≡ settle_of s out
   unfolding settle_of settle_read
   settle-refused f = sym (rw (read-bad s e f))
 
-  pub settle_read-good : {h : Shape} {p : Answered (Unit {0})} → x ≡ Good h → p ≡ settle_in (book_in s) out → p ≡ settle_of s out
+  pub settle_read-good : {h : Shape} {p : Answered (Unit {0})} → x ≡ Ok h → p ≡ settle_in (book_in s) out → p ≡ settle_of s out
   unfolding settle_of settle_read book_in book_of
   settle_read-good f g = g ∙ rw (told-good (read_of s) _ _ _ (read_as s e f))

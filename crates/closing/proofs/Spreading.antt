@@ -67,9 +67,6 @@ module _ (t : List ℕ) (first : ℕ) (s v : Set ℕ) where
         ]
       ]
 
-  pub rows_end : (from a : ℕ) {w : Set ℕ} → NextIn s from a → 256 ≤ a → w ≡ plus v (rows_below t first s a) → w ≡ plus v (rows_below t first s 256)
-  rows_end from a p h e = e ∙ ap (λ (n : ℕ). plus v (rows_below t first s n)) (omega (arith, p.bound))
-
 -- ---- in a book
 
 -- what is in a body is in the body of a rule of the book

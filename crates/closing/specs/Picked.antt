@@ -1,8 +1,8 @@
 -- What the functions that look for a rule hand their callers, in the words of the meaning.
+use Rattle.std.specs.Prelude.{Option, Some, None}
+use Rattle.meaning.specs.declared.RuleNo.{RuleNo}
 use Rattle.meaning.specs.Lowest.{Pick, none, one}
-use Rattle.closing.specs.declared.clash.Picked.{Picked}
-use Rattle.closing.specs.declared.clash.Picked.TheVariants.{Nothing, Rule}
 
-abbrev pub picked : Picked → Pick
-picked Nothing = none
-picked (Rule r) = one r
+abbrev pub picked : Option RuleNo → Pick
+picked None = none
+picked (Some r) = one r

@@ -5,7 +5,7 @@
 --   settled_rows b        a byte for each rule: 1 on, 0 off, 2 neither; then a byte for each atom: 1 true, 0 false, 2 neither
 --   told                 an answer's number and values, case by case
 --   settle_of book out    the answer and the buffer, of the bytes of the book and of the buffer before
-use Rattle.std.specs.Prelude.{Bool, false, List, [], ◌∷◌, ◌++◌, ℕ, zero, suc, ◌+◌, length, get_or, drop}
+use Rattle.std.specs.Prelude.{Bool, false, List, [], ◌∷◌, ◌++◌, ℕ, zero, suc, ◌+◌, length, get_or, drop, Result, Ok, Err}
 use Rattle.meaning.specs.Written.{Tables}
 use Rattle.meaning.specs.Sets.{Set}
 use Rattle.meaning.specs.Books.{rule_no, atom_no, Book, count}
@@ -16,8 +16,8 @@ use Rattle.meaning.specs.Written.{of, nothing}
 use Rattle.meaning.specs.Computed.{close}
 use Rattle.book.specs.Numbers.{number_of, place_of}
 use Rattle.book.specs.Format.{BookRead, good, bad, read_of}
-use Rattle.closing.specs.declared.first.Settled.{Settled}
-use Rattle.closing.specs.declared.first.Settled.TheVariants.{Rows, Book as BadBook, NoRoom}
+use Rattle.closing.specs.declared.first.Unsettled.{Unsettled}
+use Rattle.closing.specs.declared.first.Unsettled.TheVariants.{Book as BadBook, NoRoom}
 
 -- the byte of a thing that is in the one set or in the other
 unfoldable pub settled_byte : Bool → Bool → ℕ
@@ -42,10 +42,10 @@ unfoldable pub settled_rows : Book → List ℕ
 settled_rows b = rule_row b (close b nothing) ++ atom_row b (close b nothing)
 
 -- success tells nothing but itself: all is in the buffer
-abbrev pub told : Settled → Told (Unit {0})
-told Rows = success tt
-told (BadBook f) = refused_at (number_of f) (place_of f)
-told NoRoom = refused 8
+abbrev pub told : Result (Unit {0}) Unsettled → Told (Unit {0})
+told (Ok u) = success tt
+told (Err (BadBook f)) = refused_at (number_of f) (place_of f)
+told (Err NoRoom) = refused 8
 
 unfoldable pub settle_in : Book → List ℕ → Answered (Unit {0})
 settle_in b out =

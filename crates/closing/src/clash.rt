@@ -5,29 +5,21 @@ ghost use Rattle.meaning.specs.Written.{of, lent};
 ghost use Rattle.meaning.specs.Lowest.{lowest_from, in_both};
 ghost use Rattle.closing.specs.Picked.{picked};
 
-use meaning::{Bits, RuleNo, next_in};
-
-// No rule, or one.
-#[derive(Clone, Copy)]
-pub enum Picked {
-    Nothing,
-    Rule(RuleNo),
-}
+use meaning::{Bits, RuleNo};
 
 // The lowest of the first `rules` rules that is in the set.
-pub fn lowest_in(rules: u8, set: Bits) -> Picked
+pub fn lowest_in(rules: u8, set: Bits) -> Option<RuleNo>
     ensures { picked result ≡ lowest_from 0 rules (of (listed set.w)) }
 {
-    let w = set.w;
-    let r = next_in(&w, 0);
+    let r = set.next_in(0);
     if r < rules as usize {
-        return Picked::Rule(RuleNo(r as u8));
+        return Some(RuleNo(r as u8));
     }
-    Picked::Nothing
+    None
 }
 
 // The lowest of the first `rules` rules that is in both sets.
-pub fn lowest_clash(rules: u8, on: Bits, off: Bits) -> Picked
+pub fn lowest_clash(rules: u8, on: Bits, off: Bits) -> Option<RuleNo>
     ensures { picked result ≡
         lowest_from 0 rules (in_both (lent (listed on.w) (listed off.w))) }
 {

@@ -5,98 +5,70 @@ ghost use Rattle.meaning.specs.Colours.{Under};
 ghost use Rattle.meaning.specs.Bits.{plus, members, listed};
 ghost use Rattle.meaning.specs.Written.{of};
 ghost use Rattle.meaning.specs.Suspects.{Cleared};
-ghost use Rattle.book.specs.Format.{book_in, ReadAs};
-ghost use Rattle.book.specs.RuleRows.{sets, headed_by, RuleRows};
+ghost use Rattle.book.specs.ReadBook.{the_book};
+ghost use Rattle.book.specs.RuleRows.{sets, headed_by};
 ghost use Rattle.closing.specs.Clearing.{Tried, Swept, no_rules};
 
 use crate::suspected::join_standing;
-use book::{Shape, every_headed, head, is_headed, positives};
-use meaning::{AtomNo, Bits, RuleNo, next_in, put, whole};
+use book::RowedBook;
+use meaning::{AtomNo, Bits, RuleNo};
 
 // Joins the rules that stand on the atom into the one set, unless the atom is the head of a rule of
 // the other.
-fn wake(rows: &[u64; 3072], a: AtomNo, held: &[u64; 4], woken: &mut [u64; 4])
-    ensures { members woken.new ≡ plus (members woken.old)
-        (λ r. not (headed_by rows.now held.now a)
-        && sets rows.now (256 + a.0) r) }
+fn wake(rowed: &RowedBook, a: AtomNo, held: &Bits, woken: &mut Bits)
+    ensures { members woken.new.w ≡ plus (members woken.old.w)
+        (λ r. not (headed_by rowed.now.rows held.now.w a)
+        && sets rowed.now.rows (256 + a.0) r) }
 {
-    if is_headed(rows, a, held) {
+    if rowed.is_headed(a, held) {
         return;
     }
-    join_standing(rows, a, woken);
+    join_standing(rowed, a, woken);
 }
 
 // A suspect has its look: if it stands on rules that are held it is held too, and wakes those that
 // stand on its head.
-fn try_suspect(
-    book: &[u8],
-    shape: Shape,
-    rows: &[u64; 3072],
-    r: RuleNo,
-    held: &mut [u64; 4],
-    woken: &mut [u64; 4],
-)
-    requires { ReadAs book.now shape × (r.0 < shape.rules)
-        × RuleRows (book_in book.now) rows.now }
-    ensures { Tried (book_in book.now) r (of (listed held.old))
-        (of (listed woken.old)) (of (listed held.new))
-        (of (listed woken.new)) }
+fn try_suspect(rowed: &RowedBook, r: RuleNo, held: &mut Bits, woken: &mut Bits)
+    requires { r.0 < rowed.now.book.shape.rules }
+    ensures { Tried (the_book rowed.now.book) r (of (listed held.old.w))
+        (of (listed woken.old.w)) (of (listed held.new.w))
+        (of (listed woken.new.w)) }
 {
-    if !every_headed(positives(book, shape, r), rows, held) {
+    if !rowed.every_headed(rowed.book.positives(r), held) {
         return;
     }
-    wake(rows, head(book, shape, r), held, woken);
-    put(held, r.0);
+    wake(rowed, rowed.book.head(r), held, woken);
+    held.put(r.0);
 }
 
 // Every candidate has its look, in order. Candidates are then the suspects that were woken and are
 // not held.
-fn try_suspects(
-    book: &[u8],
-    shape: Shape,
-    rows: &[u64; 3072],
-    suspects: &[u64; 4],
-    cand: &mut [u64; 4],
-    held: &mut [u64; 4],
-)
-    requires { ReadAs book.now shape × RuleRows (book_in book.now) rows.now }
-    ensures { Swept (book_in book.now) (of (listed suspects.now))
-        (of (listed held.old)) (of (listed cand.old))
-        (of (listed held.new)) no_rules (of (listed cand.new))
-        × Under (book_in book.now) (of (listed cand.new))
-        (of (listed suspects.now)) }
+fn try_suspects(rowed: &RowedBook, suspects: &Bits, cand: &mut Bits, held: &mut Bits)
+    ensures { Swept (the_book rowed.now.book) (of (listed suspects.now.w))
+        (of (listed held.old.w)) (of (listed cand.old.w))
+        (of (listed held.new.w)) no_rules (of (listed cand.new.w))
+        × Under (the_book rowed.now.book) (of (listed cand.new.w))
+        (of (listed suspects.now.w)) }
 {
-    let mut woken = [0u64; 4];
-    let end = shape.rules as usize;
-    let mut r = next_in(cand, 0);
+    let mut woken = Bits::EMPTY;
+    let end = rowed.book.shape.rules as usize;
+    let mut r = cand.next_in(0);
     while r < end {
-        try_suspect(book, shape, rows, RuleNo(r as u8), held, &mut woken);
-        r = next_in(cand, r + 1);
+        try_suspect(rowed, RuleNo(r as u8), held, &mut woken);
+        r = cand.next_in(r + 1);
     }
-    let left = whole(&woken)
-        .intersection(whole(suspects))
-        .difference(whole(held));
-    let w = left.w;
-    *cand = w;
+    *cand = woken.intersection(*suspects).difference(*held);
 }
 
 // Adds to the rules that are held the suspects that stand on them, and so on until there is none.
-pub fn clear(
-    book: &[u8],
-    shape: Shape,
-    rows: &[u64; 3072],
-    suspects: &[u64; 4],
-    held: &mut [u64; 4],
-)
-    requires { ReadAs book.now shape × RuleRows (book_in book.now) rows.now }
-    ensures { Cleared (book_in book.now) (of (listed suspects.now))
-        (of (listed held.old)) (of (listed held.new)) }
+pub fn clear(rowed: &RowedBook, suspects: &Bits, held: &mut Bits)
+    ensures { Cleared (the_book rowed.now.book) (of (listed suspects.now.w))
+        (of (listed held.old.w)) (of (listed held.new.w)) }
 {
-    let all = whole(suspects);
-    let mut cand = all.w;
+    let mut cand = *suspects;
     loop {
-        try_suspects(book, shape, rows, suspects, &mut cand, held);
-        if whole(&cand).is_within(Bits::empty()) {
+        try_suspects(rowed, suspects, &mut cand, held);
+        if cand.is_within(Bits::empty()) {
             return;
         }
     }

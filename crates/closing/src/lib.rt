@@ -9,21 +9,20 @@
 ghost use Rattle.std.specs.Prelude.{◌≡◌, true};
 ghost use Rattle.meaning.specs.Bits.{listed};
 ghost use Rattle.meaning.specs.Written.{written, of, chosen, lent, pair};
-ghost use Rattle.meaning.specs.Colours.{on_side, off_side, Under};
+ghost use Rattle.meaning.specs.Colours.{side_of, Under};
 ghost use Rattle.meaning.specs.Computed.{close};
 ghost use Rattle.meaning.specs.Lowest.{lowest_from, in_both, clashed};
 ghost use Rattle.meaning.specs.Propagation.{Propagated};
 ghost use Rattle.meaning.specs.Suspects.{Settled as AllHeld};
-ghost use Rattle.book.specs.Format.{book_in, ReadAs};
-ghost use Rattle.book.specs.RuleRows.{RuleRows};
+ghost use Rattle.book.specs.ReadBook.{the_book};
 ghost use Rattle.closing.specs.Ended.{ended_at, left_at, EndsAt, Ends};
 ghost use Rattle.closing.specs.Picked.{picked};
 ghost use Rattle.closing.specs.Taken.{taken, Ready, Takes};
 
-use book::Shape;
+use book::RowedBook;
 use levels::stamp;
-use meaning::{Bits, Colouring, RuleNo, whole};
-use starting::{propagate, propagate_dropped, propagate_off, propagate_on};
+use meaning::{Bits, Colouring, RuleNo, Side};
+use starting::{propagate, propagate_dropped, propagate_put};
 use unsupported::{drop_suspects, drop_unsupported};
 
 mod choice;
@@ -38,8 +37,8 @@ mod suspected;
 mod unsupported;
 
 pub use choice::Choice;
-pub use clash::{Picked, lowest_clash, lowest_in};
-pub use first::{Settled, settle};
+pub use clash::{lowest_clash, lowest_in};
+pub use first::{Unsettled, settle};
 pub use marking::support;
 pub use starting::propagate_chosen;
 
@@ -47,191 +46,116 @@ pub use starting::propagate_chosen;
 #[derive(Clone, Copy)]
 pub struct Closure {
     pub colours: Colouring,
-    pub clash: Picked,
+    pub clash: Option<RuleNo>,
 }
 
 // The least closed colouring above c, also where a rule comes to be in both sets. Its marks are
 // the support set of its off rules, and the rules that got their colour here have c's level.
-pub fn close(book: &[u8], shape: Shape, rows: &[u64; 3072], c: Colouring) -> Closure
-    requires { ReadAs book.now shape × RuleRows (book_in book.now) rows.now }
-    ensures { (written result.colours ≡ close (book_in book.now) (written c))
-        × (picked result.clash ≡ clashed (book_in book.now)
-        (pair (close (book_in book.now) (written c)))) }
+pub fn close(rowed: &RowedBook, c: Colouring) -> Closure
+    ensures { (written result.colours ≡ close (the_book rowed.now.book) (written c))
+        × (picked result.clash ≡ clashed (the_book rowed.now.book)
+        (pair (close (the_book rowed.now.book) (written c)))) }
 {
-    let c_on = c.on;
-    let c_off = c.off;
-    let mut on = c_on.w;
-    let mut off = c_off.w;
-    propagate(book, shape, rows, &mut on, &mut off);
+    let mut on = c.on;
+    let mut off = c.off;
+    propagate(rowed, &mut on, &mut off);
     let before = off;
-    drop_unsupported(book, shape, &mut off);
-    let settled = Bits { w: off };
-    propagate_dropped(book, shape, rows, &before, &mut on, &mut off);
-    close_propagated(book, shape, rows, settled, &mut on, &mut off, false);
-    ended(shape.rules, c, Bits { w: on }, Bits { w: off })
+    drop_unsupported(&rowed.book, &mut off);
+    let settled = off;
+    propagate_dropped(rowed, &before, &mut on, &mut off);
+    close_propagated(rowed, settled, &mut on, &mut off, false);
+    ended(rowed.book.shape.rules, c, on, off)
 }
 
 // The same of d with the choice taken. Where a rule is chosen and d is closed, only what the rule
 // brings is looked at.
-pub fn close_chosen(
-    book: &[u8],
-    shape: Shape,
-    rows: &[u64; 3072],
-    d: Colouring,
-    choice: Choice,
-) -> Closure
-    requires { ReadAs book.now shape × RuleRows (book_in book.now) rows.now
-        × Takes (book_in book.now) (written d) choice }
+pub fn close_chosen(rowed: &RowedBook, d: Colouring, choice: Choice) -> Closure
+    requires { Takes (the_book rowed.now.book) (written d) choice }
     ensures { (written result.colours ≡
-        close (book_in book.now) (taken choice (written d)))
-        × (picked result.clash ≡ clashed (book_in book.now)
-        (pair (close (book_in book.now) (taken choice (written d))))) }
+        close (the_book rowed.now.book) (taken choice (written d)))
+        × (picked result.clash ≡ clashed (the_book rowed.now.book)
+        (pair (close (the_book rowed.now.book) (taken choice (written d))))) }
 {
-    close_taken(book, shape, rows, d, choice, false)
+    close_taken(rowed, d, choice, false)
 }
 
 // The same, left at the first contradiction: whoever only has to know that there is one need not wait
 // for the end of the closing. Then some rule is told, and the colouring is the one before the closing.
-pub fn close_or_clash(
-    book: &[u8],
-    shape: Shape,
-    rows: &[u64; 3072],
-    d: Colouring,
-    choice: Choice,
-) -> Closure
-    requires { ReadAs book.now shape × RuleRows (book_in book.now) rows.now
-        × Takes (book_in book.now) (written d) choice }
-    ensures { Ends (book_in book.now) true (taken choice (written d))
+pub fn close_or_clash(rowed: &RowedBook, d: Colouring, choice: Choice) -> Closure
+    requires { Takes (the_book rowed.now.book) (written d) choice }
+    ensures { Ends (the_book rowed.now.book) true (taken choice (written d))
         (written result.colours) (picked result.clash) }
 {
-    close_taken(book, shape, rows, d, choice, true)
+    close_taken(rowed, d, choice, true)
 }
 
 // Both of them: `early` says whether the closing may be left.
-fn close_taken(
-    book: &[u8],
-    shape: Shape,
-    rows: &[u64; 3072],
-    d: Colouring,
-    choice: Choice,
-    early: bool,
-) -> Closure
-    requires { ReadAs book.now shape × RuleRows (book_in book.now) rows.now
-        × Takes (book_in book.now) (written d) choice }
-    ensures { Ends (book_in book.now) early (taken choice (written d))
+fn close_taken(rowed: &RowedBook, d: Colouring, choice: Choice, early: bool) -> Closure
+    requires { Takes (the_book rowed.now.book) (written d) choice }
+    ensures { Ends (the_book rowed.now.book) early (taken choice (written d))
         (written result.colours) (picked result.clash) }
 {
     match choice {
-        Choice::Nothing => close(book, shape, rows, d),
-        Choice::On(r) => close_on(book, shape, rows, d, r, early),
-        Choice::Off(r) => close_off(book, shape, rows, d, r, early),
+        Choice::Nothing => close(rowed, d),
+        Choice::On(r) => close_put(rowed, d, Side::On, r, early),
+        Choice::Off(r) => close_put(rowed, d, Side::Off, r, early),
     }
 }
 
-// The same with the rule put on.
-fn close_on(
-    book: &[u8],
-    shape: Shape,
-    rows: &[u64; 3072],
-    d: Colouring,
-    r: RuleNo,
-    early: bool,
-) -> Closure
-    requires { ReadAs book.now shape × RuleRows (book_in book.now) rows.now
-        × Ready (book_in book.now) (written d) r }
-    ensures { Ends (book_in book.now) early (chosen on_side r (written d))
+// The same with the rule put on that side.
+fn close_put(rowed: &RowedBook, d: Colouring, side: Side, r: RuleNo, early: bool) -> Closure
+    requires { Ready (the_book rowed.now.book) (written d) r }
+    ensures { Ends (the_book rowed.now.book) early (chosen (side_of side) r (written d))
         (written result.colours) (picked result.clash) }
 {
-    let d_on = d.on;
-    let d_off = d.off;
-    let mut on = d_on.w;
-    let mut off = d_off.w;
-    propagate_on(book, shape, rows, r, &mut on, &mut off);
-    let c = d.choose_on(r);
-    if close_propagated(book, shape, rows, d_off, &mut on, &mut off, early) {
+    let mut on = d.on;
+    let mut off = d.off;
+    propagate_put(rowed, side, r, &mut on, &mut off);
+    let c = d.choose(side, r);
+    if close_propagated(rowed, d.off, &mut on, &mut off, early) {
         return Closure {
             colours: c,
-            clash: Picked::Rule(r),
+            clash: Some(r),
         };
     }
-    ended(shape.rules, c, Bits { w: on }, Bits { w: off })
-}
-
-// The same with the rule put off.
-fn close_off(
-    book: &[u8],
-    shape: Shape,
-    rows: &[u64; 3072],
-    d: Colouring,
-    r: RuleNo,
-    early: bool,
-) -> Closure
-    requires { ReadAs book.now shape × RuleRows (book_in book.now) rows.now
-        × Ready (book_in book.now) (written d) r }
-    ensures { Ends (book_in book.now) early (chosen off_side r (written d))
-        (written result.colours) (picked result.clash) }
-{
-    let d_on = d.on;
-    let d_off = d.off;
-    let mut on = d_on.w;
-    let mut off = d_off.w;
-    propagate_off(book, shape, rows, r, &mut on, &mut off);
-    let c = d.choose_off(r);
-    if close_propagated(book, shape, rows, d_off, &mut on, &mut off, early) {
-        return Closure {
-            colours: c,
-            clash: Picked::Rule(r),
-        };
-    }
-    ended(shape.rules, c, Bits { w: on }, Bits { w: off })
+    ended(rowed.book.shape.rules, c, on, off)
 }
 
 // Whether a closing is left at these sets: it may be, and one of the rules is in both.
-fn is_left(rules: u8, early: bool, on: &[u64; 4], off: &[u64; 4]) -> bool
+fn is_left(rules: u8, early: bool, on: &Bits, off: &Bits) -> bool
     ensures { result ≡ left_at early (lowest_from 0 rules
-        (in_both (lent (listed on.now) (listed off.now)))) }
+        (in_both (lent (listed on.now.w) (listed off.now.w)))) }
 {
-    if !early {
-        return false;
-    }
-    let clash = lowest_clash(rules, whole(on), whole(off));
-    match clash {
-        Picked::Nothing => false,
-        Picked::Rule(_) => true,
-    }
+    early && lowest_clash(rules, *on, *off).is_some()
 }
 
 // Closes two sets from which nothing follows but by support: the rules that nothing holds up go off,
 // and what follows from it is added, until there is none. With the settled rules off all others are
 // supported. Where it may be left early it is left at a contradiction, and says so.
 fn close_propagated(
-    book: &[u8],
-    shape: Shape,
-    rows: &[u64; 3072],
+    rowed: &RowedBook,
     settled: Bits,
-    on: &mut [u64; 4],
-    off: &mut [u64; 4],
+    on: &mut Bits,
+    off: &mut Bits,
     early: bool,
 ) -> bool
-    requires { ReadAs book.now shape × RuleRows (book_in book.now) rows.now
-        × Propagated (book_in book.now) (lent (listed on.old) (listed off.old))
-        × AllHeld (book_in book.now) (of (listed settled.w))
-        × Under (book_in book.now) (of (listed settled.w)) (of (listed off.old)) }
-    ensures { EndsAt (book_in book.now) early
-        (lent (listed on.old) (listed off.old))
-        (lent (listed on.new) (listed off.new)) result }
+    requires { Propagated (the_book rowed.now.book) (lent (listed on.old.w) (listed off.old.w))
+        × AllHeld (the_book rowed.now.book) (of (listed settled.w))
+        × Under (the_book rowed.now.book) (of (listed settled.w)) (of (listed off.old.w)) }
+    ensures { EndsAt (the_book rowed.now.book) early
+        (lent (listed on.old.w) (listed off.old.w))
+        (lent (listed on.new.w) (listed off.new.w)) result }
 {
-    let mut old = settled.w;
+    let mut old = settled;
     loop {
-        if is_left(shape.rules, early, on, off) {
+        if is_left(rowed.book.shape.rules, early, on, off) {
             return true;
         }
-        let was = whole(off);
-        let before = was.w;
-        if !drop_suspects(book, shape, rows, &mut old, off) {
+        let before = *off;
+        if !drop_suspects(rowed, &mut old, off) {
             return false;
         }
-        propagate_dropped(book, shape, rows, &before, on, off);
+        propagate_dropped(rowed, &before, on, off);
     }
 }
 
@@ -243,9 +167,8 @@ fn ended(rules: u8, c: Colouring, on: Bits, off: Bits) -> Closure
         lowest_from 0 rules (in_both (lent (listed on.w) (listed off.w)))) }
 {
     let new = on.union(off).difference(c.on.union(c.off));
-    let w = new.w;
     let mut levels = c.levels;
-    stamp(rules, &w, c.level, &mut levels);
+    stamp(rules, &new, c.level, &mut levels);
     Closure {
         colours: Colouring {
             on,

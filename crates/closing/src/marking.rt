@@ -6,84 +6,78 @@ ghost use Rattle.meaning.specs.Colours.{heads};
 ghost use Rattle.meaning.specs.Computed.{support};
 ghost use Rattle.meaning.specs.Bits.{listed};
 ghost use Rattle.meaning.specs.Written.{of};
-ghost use Rattle.book.specs.Format.{book_in, ReadAs};
+ghost use Rattle.book.specs.ReadBook.{the_book};
 ghost use Rattle.book.specs.Tables.{atom_table};
 ghost use Rattle.closing.specs.Growing.{Turn, Pass};
 ghost use Rattle.closing.specs.Conditions.{marking};
 
-use book::{Shape, every_in, head, positives};
-use meaning::{Colouring, RuleNo, has, put};
+use book::{ReadBook, every_in};
+use meaning::{Bits, Colouring, RuleNo};
 
 // One rule's turn: a rule that is neither marked nor off is marked if its positive atoms are all
 // heads of marked rules. The table of these heads goes with the marks.
 fn try_rule(
-    book: &[u8],
-    shape: Shape,
+    book: &ReadBook,
     r: RuleNo,
-    off: &[u64; 4],
-    marks: &mut [u64; 4],
+    off: &Bits,
+    marks: &mut Bits,
     supported: &mut [bool; Colouring::ATOMS],
     more: bool,
 ) -> bool
-    requires { ReadAs book.now shape × (r.0 < shape.rules)
-        × (supported.old ≡ atom_table (heads (book_in book.now) (of (listed marks.old)))) }
-    ensures { Turn (marking (book_in book.now) (of (listed off.now))) r
-        (listed marks.old) more (listed marks.new) result
+    requires { (r.0 < book.now.shape.rules)
+        × (supported.old ≡ atom_table (heads (the_book book.now) (of (listed marks.old.w)))) }
+    ensures { Turn (marking (the_book book.now) (of (listed off.now.w))) r
+        (listed marks.old.w) more (listed marks.new.w) result
         × (supported.new ≡
-        atom_table (heads (book_in book.now) (of (listed marks.new)))) }
+        atom_table (heads (the_book book.now) (of (listed marks.new.w)))) }
 {
-    if has(marks, r.0) {
+    if marks.has(r.0) {
         return more;
     }
-    if has(off, r.0) {
+    if off.has(r.0) {
         return more;
     }
-    if !every_in(positives(book, shape, r), supported) {
+    if !every_in(book.positives(r), supported) {
         return more;
     }
-    put(marks, r.0);
-    let a = head(book, shape, r).0 as usize;
+    marks.put(r.0);
+    let a = book.head(r).0 as usize;
     supported[a] = true;
     true
 }
 
 // Every rule's turn, in order; whether a rule was marked.
 fn sweep(
-    book: &[u8],
-    shape: Shape,
-    off: &[u64; 4],
-    marks: &mut [u64; 4],
+    book: &ReadBook,
+    off: &Bits,
+    marks: &mut Bits,
     supported: &mut [bool; Colouring::ATOMS],
 ) -> bool
-    requires { ReadAs book.now shape
-        × (supported.old ≡ atom_table (heads (book_in book.now) (of (listed marks.old)))) }
-    ensures { Pass (book_in book.now)
-        (marking (book_in book.now) (of (listed off.now)))
-        (count (book_in book.now))
-        (listed marks.old) (listed marks.new) result
+    requires { supported.old ≡ atom_table (heads (the_book book.now) (of (listed marks.old.w))) }
+    ensures { Pass (the_book book.now)
+        (marking (the_book book.now) (of (listed off.now.w)))
+        (count (the_book book.now))
+        (listed marks.old.w) (listed marks.new.w) result
         × (supported.new ≡
-        atom_table (heads (book_in book.now) (of (listed marks.new)))) }
+        atom_table (heads (the_book book.now) (of (listed marks.new.w)))) }
 {
     let mut more = false;
-    let mut r: u8 = 0;
-    while r < shape.rules {
-        more = try_rule(book, shape, RuleNo(r), off, marks, supported, more);
-        r += 1;
+    for r in 0..book.shape.rules {
+        more = try_rule(book, RuleNo(r), off, marks, supported, more);
     }
     more
 }
 
 // Writes the smallest set of rules in which is every rule that is not off and whose positive atoms
 // are all heads of its rules, over whatever the marks held.
-pub fn support(book: &[u8], shape: Shape, off: &[u64; 4], marks: &mut [u64; 4])
-    requires { ReadAs book.now shape }
-    ensures { listed marks.new ≡
-        support (book_in book.now) (of (listed off.now)) }
+pub fn support(book: &ReadBook, off: &Bits, marks: &mut Bits)
+    ensures { listed marks.new.w ≡
+        support (the_book book.now) (of (listed off.now.w)) }
 {
-    *marks = [0; 4];
+    *marks = Bits::EMPTY;
     let mut supported = [false; Colouring::ATOMS];
     loop {
-        if !sweep(book, shape, off, marks, &mut supported) {
+        if !sweep(book, off, marks, &mut supported) {
             return;
         }
     }

@@ -9,219 +9,159 @@ ghost use Rattle.meaning.specs.Written.{of, lent, coloured};
 ghost use Rattle.meaning.specs.Colours.{heads, all_in};
 ghost use Rattle.meaning.specs.Propagation.{propagate};
 ghost use Rattle.meaning.specs.Pending.{Pending, newly_true};
-ghost use Rattle.book.specs.Format.{book_in, ReadAs};
-ghost use Rattle.book.specs.RuleRows.{sets, RuleRows};
+ghost use Rattle.book.specs.ReadBook.{the_book};
+ghost use Rattle.book.specs.RuleRows.{sets};
 ghost use Rattle.closing.specs.News.{atom_set, rows_below, Fallen, Looked, Raised};
 
-use book::{Shape, head, is_headed, is_lost, may_go_on, neg_row, pos_row};
-use meaning::{AtomNo, Bits, RuleNo, join, next_in, put, whole};
+use book::RowedBook;
+use meaning::{AtomNo, Bits, RuleNo};
 
 // Joins the atom's row of negative places into the one set of rules, its row of positive places into
 // the other.
-fn join_rows(rows: &[u64; 3072], a: AtomNo, by_neg: &mut [u64; 4], by_pos: &mut [u64; 4])
-    ensures { (members by_neg.new ≡
-        plus (members by_neg.old) (sets rows.now (512 + a.0)))
-        × (members by_pos.new ≡
-        plus (members by_pos.old) (sets rows.now (256 + a.0))) }
+fn join_rows(rowed: &RowedBook, a: AtomNo, by_neg: &mut Bits, by_pos: &mut Bits)
+    ensures { (members by_neg.new.w ≡
+        plus (members by_neg.old.w) (sets rowed.now.rows (512 + a.0)))
+        × (members by_pos.new.w ≡
+        plus (members by_pos.old.w) (sets rowed.now.rows (256 + a.0))) }
 {
-    let neg = neg_row(rows, a);
-    let n = neg.w;
-    join(by_neg, &n);
-    let pos = pos_row(rows, a);
-    let p = pos.w;
-    join(by_pos, &p);
+    by_neg.join(rowed.neg_row(a));
+    by_pos.join(rowed.pos_row(a));
 }
 
-// The same for each atom of a set.
-fn spread(rows: &[u64; 3072], atoms: &[u64; 4], by_neg: &mut [u64; 4], by_pos: &mut [u64; 4])
-    ensures { (members by_neg.new ≡ plus (members by_neg.old)
-        (rows_below rows.now 512 (members atoms.now) 256))
-        × (members by_pos.new ≡ plus (members by_pos.old)
-        (rows_below rows.now 256 (members atoms.now) 256)) }
+// The same for each atom of a set, in one pass: the atoms are not walked once for each kind of row.
+fn spread(rowed: &RowedBook, atoms: &Bits, by_neg: &mut Bits, by_pos: &mut Bits)
+    ensures { (members by_neg.new.w ≡ plus (members by_neg.old.w)
+        (rows_below rowed.now.rows 512 (members atoms.now.w) 256))
+        × (members by_pos.new.w ≡ plus (members by_pos.old.w)
+        (rows_below rowed.now.rows 256 (members atoms.now.w) 256)) }
 {
-    let mut a = next_in(atoms, 0);
+    let mut a = atoms.next_in(0);
     while a < 256 {
-        join_rows(rows, AtomNo(a as u8), by_neg, by_pos);
-        a = next_in(atoms, a + 1);
+        join_rows(rowed, AtomNo(a as u8), by_neg, by_pos);
+        a = atoms.next_in(a + 1);
     }
 }
 
 // Puts the atom in the set if so told.
-pub fn note(told: bool, a: AtomNo, set: &mut [u64; 4])
-    ensures { atom_set set.new ≡
-        (λ x. atom_set set.old x || (told && same_atom a x)) }
+pub fn note(told: bool, a: AtomNo, set: &mut Bits)
+    ensures { atom_set set.new.w ≡
+        (λ x. atom_set set.old.w x || (told && same_atom a x)) }
 {
     if !told {
         return;
     }
-    put(set, a.0);
+    set.put(a.0);
 }
 
 // The rule's head is put in the set if all its rules are off.
-pub fn note_lost(
-    book: &[u8],
-    shape: Shape,
-    rows: &[u64; 3072],
-    r: RuleNo,
-    off: &[u64; 4],
-    lost: &mut [u64; 4],
-)
-    requires { ReadAs book.now shape × (r.0 < shape.rules)
-        × RuleRows (book_in book.now) rows.now }
-    ensures { atom_set lost.new ≡ (λ a. atom_set lost.old a
-        || (same_atom (rule (book_in book.now) r).head a
-        && all_in (book_in book.now) (of (listed off.now)) a)) }
+pub fn note_lost(rowed: &RowedBook, r: RuleNo, off: &Bits, lost: &mut Bits)
+    requires { r.0 < rowed.now.book.shape.rules }
+    ensures { atom_set lost.new.w ≡ (λ a. atom_set lost.old.w a
+        || (same_atom (rule (the_book rowed.now.book) r).head a
+        && all_in (the_book rowed.now.book) (of (listed off.now.w)) a)) }
 {
-    let a = head(book, shape, r);
-    note(is_lost(rows, a, off), a, lost);
+    let a = rowed.book.head(r);
+    note(rowed.is_lost(a, off), a, lost);
 }
 
 // Writes the heads of the rules of the set all of whose rules are off.
-pub fn lost_heads(
-    book: &[u8],
-    shape: Shape,
-    rows: &[u64; 3072],
-    fresh: &[u64; 4],
-    off: &[u64; 4],
-    lost: &mut [u64; 4],
-)
-    requires { ReadAs book.now shape × RuleRows (book_in book.now) rows.now }
-    ensures { atom_set lost.new ≡ (λ a.
-        heads (book_in book.now) (of (listed fresh.now)) a
-        && all_in (book_in book.now) (of (listed off.now)) a) }
+pub fn lost_heads(rowed: &RowedBook, fresh: &Bits, off: &Bits, lost: &mut Bits)
+    ensures { atom_set lost.new.w ≡ (λ a.
+        heads (the_book rowed.now.book) (of (listed fresh.now.w)) a
+        && all_in (the_book rowed.now.book) (of (listed off.now.w)) a) }
 {
-    *lost = [0; 4];
-    let end = shape.rules as usize;
-    let mut r = next_in(fresh, 0);
+    *lost = Bits::EMPTY;
+    let end = rowed.book.shape.rules as usize;
+    let mut r = fresh.next_in(0);
     while r < end {
-        note_lost(book, shape, rows, RuleNo(r as u8), off, lost);
-        r = next_in(fresh, r + 1);
+        note_lost(rowed, RuleNo(r as u8), off, lost);
+        r = fresh.next_in(r + 1);
     }
 }
 
 // The new atoms put off what they block or starve, and call what may go on because of them.
-fn fall(
-    book: &[u8],
-    shape: Shape,
-    rows: &[u64; 3072],
-    off: &mut [u64; 4],
-    nt: &mut [u64; 4],
-    nl: &mut [u64; 4],
-    cand: &mut [u64; 4],
-)
-    requires { ReadAs book.now shape × RuleRows (book_in book.now) rows.now }
-    ensures { Fallen (book_in book.now) (of (listed off.old))
-        (atom_set nt.old) (atom_set nl.old) (of (listed cand.old))
-        (of (listed off.new)) (atom_set nt.new) (atom_set nl.new)
-        (of (listed cand.new)) }
+fn fall(rowed: &RowedBook, off: &mut Bits, nt: &mut Bits, nl: &mut Bits, cand: &mut Bits)
+    ensures { Fallen (the_book rowed.now.book) (of (listed off.old.w))
+        (atom_set nt.old.w) (atom_set nl.old.w) (of (listed cand.old.w))
+        (of (listed off.new.w)) (atom_set nt.new.w) (atom_set nl.new.w)
+        (of (listed cand.new.w)) }
 {
-    let mut hit = [0u64; 4];
-    spread(rows, nt, &mut hit, cand);
-    spread(rows, nl, cand, &mut hit);
-    *nt = [0; 4];
-    let fresh = whole(&hit).difference(whole(off));
-    let new = fresh.w;
-    join(off, &hit);
-    lost_heads(book, shape, rows, &new, off, nl);
+    let mut hit = Bits::EMPTY;
+    spread(rowed, nt, &mut hit, cand);
+    spread(rowed, nl, cand, &mut hit);
+    *nt = Bits::EMPTY;
+    let fresh = hit.difference(*off);
+    off.join(hit);
+    lost_heads(rowed, &fresh, off, nl);
 }
 
 // The rule goes on, and its head is new unless it was true.
-pub fn rise(
-    book: &[u8],
-    shape: Shape,
-    rows: &[u64; 3072],
-    r: RuleNo,
-    on: &mut [u64; 4],
-    nt: &mut [u64; 4],
-)
-    requires { ReadAs book.now shape × (r.0 < shape.rules)
-        × RuleRows (book_in book.now) rows.now }
-    ensures { (listed on.new ≡ set (listed on.old) r.0 true)
-        × (atom_set nt.new ≡ newly_true (book_in book.now) r
-        (of (listed on.old)) (atom_set nt.old)) }
+pub fn rise(rowed: &RowedBook, r: RuleNo, on: &mut Bits, nt: &mut Bits)
+    requires { r.0 < rowed.now.book.shape.rules }
+    ensures { (listed on.new.w ≡ set (listed on.old.w) r.0 true)
+        × (atom_set nt.new.w ≡ newly_true (the_book rowed.now.book) r
+        (of (listed on.old.w)) (atom_set nt.old.w)) }
 {
-    let a = head(book, shape, r);
-    note(!is_headed(rows, a, on), a, nt);
-    put(on, r.0);
+    let a = rowed.book.head(r);
+    note(!rowed.is_headed(a, on), a, nt);
+    on.put(r.0);
 }
 
 // A candidate has its look: if it may go on it goes on.
-fn look_at(
-    book: &[u8],
-    shape: Shape,
-    rows: &[u64; 3072],
-    r: RuleNo,
-    off: &[u64; 4],
-    on: &mut [u64; 4],
-    nt: &mut [u64; 4],
-)
-    requires { ReadAs book.now shape × (r.0 < shape.rules)
-        × RuleRows (book_in book.now) rows.now }
-    ensures { Looked (book_in book.now) (of (listed off.now)) r
-        (of (listed on.old)) (atom_set nt.old)
-        (of (listed on.new)) (atom_set nt.new) }
+fn look_at(rowed: &RowedBook, r: RuleNo, off: &Bits, on: &mut Bits, nt: &mut Bits)
+    requires { r.0 < rowed.now.book.shape.rules }
+    ensures { Looked (the_book rowed.now.book) (of (listed off.now.w)) r
+        (of (listed on.old.w)) (atom_set nt.old.w)
+        (of (listed on.new.w)) (atom_set nt.new.w) }
 {
-    if !may_go_on(book, shape, r, rows, on, off) {
+    if !rowed.may_go_on(r, on, off) {
         return;
     }
-    rise(book, shape, rows, r, on, nt);
+    rise(rowed, r, on, nt);
 }
 
 // Every candidate that is not on has its look, in order; none is left.
-fn raise(
-    book: &[u8],
-    shape: Shape,
-    rows: &[u64; 3072],
-    off: &[u64; 4],
-    cand: &mut [u64; 4],
-    on: &mut [u64; 4],
-    nt: &mut [u64; 4],
-)
-    requires { ReadAs book.now shape × RuleRows (book_in book.now) rows.now }
-    ensures { Raised (book_in book.now) (of (listed off.now))
-        (of (listed cand.old)) (of (listed on.old)) (atom_set nt.old)
-        (of (listed cand.new)) (of (listed on.new)) (atom_set nt.new)
-        × (members cand.new ≡ none) }
+fn raise(rowed: &RowedBook, off: &Bits, cand: &mut Bits, on: &mut Bits, nt: &mut Bits)
+    ensures { Raised (the_book rowed.now.book) (of (listed off.now.w))
+        (of (listed cand.old.w)) (of (listed on.old.w)) (atom_set nt.old.w)
+        (of (listed cand.new.w)) (of (listed on.new.w)) (atom_set nt.new.w)
+        × (members cand.new.w ≡ none) }
 {
-    let left = whole(cand).difference(whole(on));
-    let todo = left.w;
-    *cand = [0; 4];
-    let end = shape.rules as usize;
-    let mut r = next_in(&todo, 0);
+    let todo = cand.difference(*on);
+    *cand = Bits::EMPTY;
+    let end = rowed.book.shape.rules as usize;
+    let mut r = todo.next_in(0);
     while r < end {
-        look_at(book, shape, rows, RuleNo(r as u8), off, on, nt);
-        r = next_in(&todo, r + 1);
+        look_at(rowed, RuleNo(r as u8), off, on, nt);
+        r = todo.next_in(r + 1);
     }
 }
 
 // Adds to the two sets what follows from them without support, and nothing else, where all has been
 // looked at but for the atoms newly true, the atoms newly lost and the candidates that are handed in.
 pub fn propagate_from(
-    book: &[u8],
-    shape: Shape,
-    rows: &[u64; 3072],
+    rowed: &RowedBook,
     newly_true: Bits,
     newly_lost: Bits,
     candidates: Bits,
-    on: &mut [u64; 4],
-    off: &mut [u64; 4],
+    on: &mut Bits,
+    off: &mut Bits,
 )
-    requires { ReadAs book.now shape × RuleRows (book_in book.now) rows.now
-        × Pending (book_in book.now) (lent (listed on.old) (listed off.old))
+    requires { Pending (the_book rowed.now.book) (lent (listed on.old.w) (listed off.old.w))
         (atom_set newly_true.w) (atom_set newly_lost.w) (of (listed candidates.w)) }
-    ensures { (listed on.new ≡ (propagate (book_in book.now)
-        (coloured (listed on.old) (listed off.old))).on)
-        × (listed off.new ≡ (propagate (book_in book.now)
-        (coloured (listed on.old) (listed off.old))).off) }
+    ensures { (listed on.new.w ≡ (propagate (the_book rowed.now.book)
+        (coloured (listed on.old.w) (listed off.old.w))).on)
+        × (listed off.new.w ≡ (propagate (the_book rowed.now.book)
+        (coloured (listed on.old.w) (listed off.old.w))).off) }
 {
-    let mut nt = newly_true.w;
-    let mut nl = newly_lost.w;
-    let mut cand = candidates.w;
+    let mut nt = newly_true;
+    let mut nl = newly_lost;
+    let mut cand = candidates;
     loop {
-        fall(book, shape, rows, off, &mut nt, &mut nl, &mut cand);
-        if whole(&nl).is_within(Bits::empty()) {
-            raise(book, shape, rows, off, &mut cand, on, &mut nt);
-            if whole(&nt).is_within(Bits::empty()) {
+        fall(rowed, off, &mut nt, &mut nl, &mut cand);
+        if nl.is_within(Bits::empty()) {
+            raise(rowed, off, &mut cand, on, &mut nt);
+            if nt.is_within(Bits::empty()) {
                 return;
             }
         }

@@ -6,93 +6,71 @@ ghost use Rattle.meaning.specs.Bits.{plus, members, listed};
 ghost use Rattle.meaning.specs.Written.{of};
 ghost use Rattle.meaning.specs.Pending.{joined};
 ghost use Rattle.meaning.specs.Suspects.{Settled};
-ghost use Rattle.book.specs.Format.{book_in, ReadAs};
-ghost use Rattle.book.specs.RuleRows.{RuleRows};
+ghost use Rattle.book.specs.ReadBook.{the_book};
 ghost use Rattle.closing.specs.Dropped.{unheld, Dropped};
 
 use crate::cleared::clear;
 use crate::marking::support;
 use crate::suspected::find_suspects;
-use book::Shape;
-use meaning::{Bits, join, whole};
+use book::{ReadBook, RowedBook};
+use meaning::Bits;
 
 // Puts off the rules outside the support set of the off rules.
-pub fn drop_unsupported(book: &[u8], shape: Shape, off: &mut [u64; 4])
-    requires { ReadAs book.now shape }
-    ensures { of (listed off.new) ≡ joined (of (listed off.old))
-        (unheld (book_in book.now) (of (listed off.old))) }
+pub fn drop_unsupported(book: &ReadBook, off: &mut Bits)
+    ensures { of (listed off.new.w) ≡ joined (of (listed off.old.w))
+        (unheld (the_book book.now) (of (listed off.old.w))) }
 {
-    let mut marks = [0u64; 4];
-    support(book, shape, off, &mut marks);
-    let rest = Bits::below(shape.rules)
-        .difference(whole(&marks))
-        .difference(whole(off));
-    let w = rest.w;
-    join(off, &w);
+    let mut marks = Bits::EMPTY;
+    support(book, off, &mut marks);
+    let rest = Bits::below(book.shape.rules)
+        .difference(marks)
+        .difference(*off);
+    off.join(rest);
 }
 
 // Writes the rules outside the support set of the off rules that are not off. With the `old` ones
 // off all others were supported, so only suspects are looked at.
-fn find_unsupported(
-    book: &[u8],
-    shape: Shape,
-    rows: &[u64; 3072],
-    old: &[u64; 4],
-    off: &[u64; 4],
-    rest: &mut [u64; 4],
-)
-    requires { ReadAs book.now shape × RuleRows (book_in book.now) rows.now
-        × Settled (book_in book.now) (of (listed old.now))
-        × Under (book_in book.now) (of (listed old.now)) (of (listed off.now)) }
-    ensures { of (listed rest.new) ≡
-        unheld (book_in book.now) (of (listed off.now)) }
+fn find_unsupported(rowed: &RowedBook, old: &Bits, off: &Bits, rest: &mut Bits)
+    requires { Settled (the_book rowed.now.book) (of (listed old.now.w))
+        × Under (the_book rowed.now.book) (of (listed old.now.w)) (of (listed off.now.w)) }
+    ensures { of (listed rest.new.w) ≡
+        unheld (the_book rowed.now.book) (of (listed off.now.w)) }
 {
-    *rest = [0; 4];
-    if whole(off).is_within(whole(old)) {
+    *rest = Bits::EMPTY;
+    if off.is_within(*old) {
         return;
     }
-    let mut suspects = [0u64; 4];
-    find_suspects(book, shape, rows, old, off, &mut suspects);
-    let others = Bits::below(shape.rules)
-        .difference(whole(off))
-        .difference(whole(&suspects));
-    let mut held = others.w;
-    clear(book, shape, rows, &suspects, &mut held);
-    let left = whole(&suspects).difference(whole(&held));
-    let w = left.w;
-    *rest = w;
+    let mut suspects = Bits::EMPTY;
+    find_suspects(rowed, old, off, &mut suspects);
+    let others = Bits::below(rowed.book.shape.rules)
+        .difference(*off)
+        .difference(suspects);
+    let mut held = others;
+    clear(rowed, &suspects, &mut held);
+    *rest = suspects.difference(held);
 }
 
 // Puts the rules off; whether there was one.
-fn put_off(rest: &[u64; 4], off: &mut [u64; 4]) -> bool
-    ensures { (members off.new ≡
-        plus (members off.old) (members rest.now))
-        × (result ≡ some_below 256 (members rest.now)) }
+fn put_off(rest: &Bits, off: &mut Bits) -> bool
+    ensures { (members off.new.w ≡
+        plus (members off.old.w) (members rest.now.w))
+        × (result ≡ some_below 256 (members rest.now.w)) }
 {
-    join(off, rest);
-    !whole(rest).is_within(Bits::empty())
+    off.join(*rest);
+    !rest.is_within(Bits::empty())
 }
 
 // Puts off the rules outside the support set of the off rules, looking at suspects alone; whether there
 // was one that was not off. Afterwards `old` is what is off.
-pub fn drop_suspects(
-    book: &[u8],
-    shape: Shape,
-    rows: &[u64; 3072],
-    old: &mut [u64; 4],
-    off: &mut [u64; 4],
-) -> bool
-    requires { ReadAs book.now shape × RuleRows (book_in book.now) rows.now
-        × Settled (book_in book.now) (of (listed old.old))
-        × Under (book_in book.now) (of (listed old.old)) (of (listed off.old)) }
-    ensures { Dropped (book_in book.now) (of (listed off.old)) result
-        (of (listed off.new)) × (old.new ≡ off.new) }
+pub fn drop_suspects(rowed: &RowedBook, old: &mut Bits, off: &mut Bits) -> bool
+    requires { Settled (the_book rowed.now.book) (of (listed old.old.w))
+        × Under (the_book rowed.now.book) (of (listed old.old.w)) (of (listed off.old.w)) }
+    ensures { Dropped (the_book rowed.now.book) (of (listed off.old.w)) result
+        (of (listed off.new.w)) × (old.new.w ≡ off.new.w) }
 {
-    let mut rest = [0u64; 4];
-    find_unsupported(book, shape, rows, old, off, &mut rest);
+    let mut rest = Bits::EMPTY;
+    find_unsupported(rowed, old, off, &mut rest);
     let more = put_off(&rest, off);
-    let all = whole(off);
-    let w = all.w;
-    *old = w;
+    *old = *off;
     more
 }

@@ -1,6 +1,7 @@
--- The rows of a page counted atom by atom (src/column.rt, src/places.rt): what one turn of each loop does.
-use Rattle.std.proofs.Common.{◌≡◌, ℕ, zero, suc, ◌+◌, ◌-◌, ◌*◌, ◌<◌, ◌≤◌, Bool, eqb, List, ◌∷◌, ◌++◌, length, get_or, take, drop, set, sym, refl, ap, ◌∙◌, ⊎_elim, append-nil, suc-mul, zero-add, arith, length-drop, length-take-le, get_or-drop, get_or-take, drop-drop}
-use lib.Seq.{drop-length}
+-- The rows of a page counted atom by atom (src/column.rt): what one turn of each loop does.
+use Rattle.std.proofs.Common.{◌≡◌, ℕ, zero, suc, ◌+◌, ◌*◌, ◌<◌, ◌≤◌, Bool, true, false, eqb, List, ◌∷◌, ◌++◌, length, get_or, take, drop, set, sym, refl, ap, ◌∙◌, ⊎_elim, suc-mul, zero-add, arith, length-append}
+use mir.Val.{bool_byte}
+use lib.Seq.{take_at, drop-append_seam}
 use Rattle.meaning.specs.declared.AtomNo.{AtomNo}
 use Rattle.meaning.specs.Books.{Atoms, atom_no}
 use Rattle.meaning.specs.Choice.{ifb}
@@ -12,6 +13,12 @@ use Rattle.counting.specs.Counts.{standing, numbers_from}
 use Rattle.counting.specs.SoFar.{sets_in, summed}
 use Rattle.counting.proofs.Standing.{standing-at-most}
 use Rattle.counting.proofs.Numbers.{numbers-length, numbers-at, over, over-next, over-more, over-whole}
+
+-- 1 where the test holds
+pub one-byte : (t : Bool) → bool_byte t ≡ ifb t 1 0
+unfolding ifb
+one-byte true = refl
+one-byte false = refl
 
 pub one-most : (t : Bool) {v : ℕ} → v ≡ ifb t 1 0 → v ≤ 1
 one-most t e = rw e (b-either (λ (n : ℕ). n ≤ 1) t 1 0 (λ h. omega arith) (λ h. omega arith))
@@ -27,38 +34,55 @@ sets-length n (suc m) page = ap suc (sets-length n m (drop n page))
 
 -- ---- one atom
 
--- the row lies within the page, and so do those behind it
-pub column-room : (page : List ℕ) (n at left : ℕ) → 0 < left → at + left * n ≤ length page
-    → (at + n ≤ length page) × (at + n + (left - 1) * n ≤ length page)
-column-room page n at zero some h = absurd (omega arith)
-column-room page n at (suc m) some h =
-    let z : suc m - 1 ≡ m = omega arith in
-    let e = suc-mul m n in
-    (omega (arith, e, h), omega (arith, e, h, ap (λ (k : ℕ). k * n) z))
+-- of so many rows `left` are left, which the bytes `rest` hold, and the others were counted
+pub record RowsLeft (page : List ℕ) (n atom rows found left : ℕ) (rest : List ℕ) (size : ℕ) : Type 0 where
+  pub sized : size ≡ n
+  pub room : left * n ≤ length rest
+  pub few : found + left ≤ rows
+  pub all : found + standing (atom_no atom) (sets_in n left rest) ≡ standing (atom_no atom) (sets_in n rows page)
 
-module _ (page : List ℕ) (n atom : ℕ) where
-  -- how many of the rows from byte `at` on hold the atom
-  abbrev pub standing_at : ℕ → ℕ → ℕ
-  standing_at at left = standing (atom_no atom) (sets_in n left (drop at page))
+module _ (page : List ℕ) (n atom rows : ℕ) where
+  pub rows-start : rows * n ≤ length page → {left size : ℕ} {rest : List ℕ} → left ≡ rows → rest ≡ page → size ≡ n
+      → RowsLeft page n atom rows 0 left rest size
+  rows-start h e f g = rw (e, f, g) (record { sized = refl; room = h; few = omega arith; all = zero-add _ })
 
-  row-holds : (at : ℕ) → atom < n → set_in (take n (drop at page)) (atom_no atom) ≡ eqb (get_or page (at + atom) 0) 1
-  unfolding set_in
-  row-holds at below = ap (λ (x : ℕ). eqb x 1) (get_or-take n (drop at page) atom 0 below ∙ get_or-drop at page atom 0)
+  -- the first row and those behind it
+  rows-first : (m : ℕ) (row rest : List ℕ) → length row ≡ n → standing (atom_no atom) (sets_in n (suc m) (row ++ rest))
+      ≡ ifb (eqb (get_or row atom 0) 1) 1 0 + standing (atom_no atom) (sets_in n m rest)
+  unfolding sets_in rows_in set_in
+  rows-first m row rest e =
+      let first : take n (row ++ rest) ≡ row = take_at row rest n e in
+      let behind : drop n (row ++ rest) ≡ rest = rw (← e) (drop-append_seam row rest) in
+      rw (first, behind) (standing-first (atom_no atom) (set_in row) (sets_in n m rest))
 
-  column-first : (at m v : ℕ) → atom < n → v ≡ ifb (eqb (get_or page (at + atom) 0) 1) 1 0 → standing_at at (suc m) ≡ v + standing_at (at + n) m
-  unfolding sets_in rows_in
-  column-first at m v below f = standing-first _ _ _ ∙ rw (row-holds at below, drop-drop n at page, f)
+  module _ {found left size : ℕ} {rest : List ℕ} (k : RowsLeft page n atom rows found left rest size) where
+    pub rows-turn : (row behind : List ℕ) {fewer v next : ℕ} → next ≡ size → rest ≡ row ++ behind → length row ≡ size → fewer + 1 ≡ left
+        → v ≡ ifb (eqb (get_or row atom 0) 1) 1 0 → (found + v ≤ rows) × RowsLeft page n atom rows (found + v) fewer behind next
+    rows-turn row behind {fewer} same e wide less f =
+        let g : left ≡ suc fewer = omega arith in
+        let room : suc fewer * n ≤ length (row ++ behind) = rw (g, e) at k.room in
+        let all = rw (g, e) at k.all in
+        let one = one-most _ f in
+        let first = rows-first fewer row behind (wide ∙ k.sized) in
+        let long = length-append row behind in
+        let many = suc-mul fewer n in (
+          omega (arith, k.few),
+          record {
+            sized = same ∙ k.sized;
+            room = omega (arith, k.sized);
+            few = omega (arith, k.few);
+            all = omega arith;
+          },
+        )
 
-  pub column-turn : (found at left : ℕ) {total v : ℕ} → 0 < left → atom < n → found + standing_at at left ≡ total
-      → v ≡ ifb (eqb (get_or page (at + atom) 0) 1) 1 0 → found + v + standing_at (at + n) (left - 1) ≡ total
-  column-turn found at zero some below e f = absurd (omega arith)
-  column-turn found at (suc m) {v = v} some below e f =
-      let z : suc m - 1 ≡ m = omega arith in omega (arith, column-first at m v below f, e, ap (standing_at (at + n)) z)
-
-  pub column-end : (at left : ℕ) {found total : ℕ} → left ≤ 0 → found + standing_at at left ≡ total → found ≡ total
-  unfolding sets_in rows_in standing
-  column-end at zero h e = omega (arith, e)
-  column-end at (suc m) h e = absurd (omega arith)
+    pub rows-end : (0 < left → length rest < size) → found ≡ standing (atom_no atom) (sets_in n rows page)
+    unfolding sets_in rows_in standing
+    rows-end short = ended left k short
+      where
+        ended : (m : ℕ) → RowsLeft page n atom rows found m rest size → (0 < m → length rest < size)
+            → found ≡ standing (atom_no atom) (sets_in n rows page)
+        ended zero l none = omega (arith, l.all)
+        ended (suc m) l none = absurd (omega (arith, l.room, l.sized, none (omega arith), suc-mul m n))
 
 -- ---- all atoms
 
@@ -85,24 +109,3 @@ module _ (page : List ℕ) (n m : ℕ) (counts : List ℕ) (few : n ≤ 255) (lo
 
   pub sums-end : {a : ℕ} {w : List ℕ} → a ≤ n → n ≤ a → w ≡ over row counts a → w ≡ summed n counts (sets_in n m page)
   sums-end {a} h k e = over-whole row counts a e (numbers-length 0 n _) (omega arith)
-
--- ---- copies
-
-module _ (from : List ℕ) (n : ℕ) (whole : n ≤ length from) (l : List ℕ) (room : n ≤ length l) where
-  pub copy-turn : {i v : ℕ} {w : List ℕ} → i < n → w ≡ over (take n from) l i → v ≡ get_or from i 0 → set w i v ≡ over (take n from) l (i + 1)
-  copy-turn {i} h e f =
-      over-more (take n from) l i e (omega (arith, h, length-take-le n from whole)) (omega arith) (f ∙ sym (get_or-take n from i 0 h))
-
-  pub copy-end : {i : ℕ} {w : List ℕ} → i ≤ n → n ≤ i → w ≡ over (take n from) l i → w ≡ take n from ++ drop n l
-  copy-end {i} h k e = over-whole (take n from) l i e (length-take-le n from whole) (omega arith)
-
-module _ (page : List ℕ) (from n : ℕ) (whole : from + n ≤ length page) (l : List ℕ) (room : length l ≡ n) where
-  row-long : n ≤ length (drop from page)
-  row-long = omega (arith, length-drop from page)
-
-  pub keep-turn : {i : ℕ} {w : List ℕ} → i < n → w ≡ over (take n (drop from page)) l i
-      → set w i (get_or page (from + i) 0) ≡ over (take n (drop from page)) l (i + 1)
-  keep-turn {i} {w} h e = copy-turn (drop from page) n row-long l (omega arith) h e (sym (get_or-drop from page i 0))
-
-  pub keep-end : {i : ℕ} {w : List ℕ} → i ≤ n → n ≤ i → w ≡ over (take n (drop from page)) l i → w ≡ take n (drop from page)
-  keep-end h k e = copy-end (drop from page) n row-long l (omega arith) h k e ∙ rw (← room, drop-length, append-nil)

@@ -2,13 +2,13 @@
 -- where the limit cuts a page the whole walk needs more tries. It rests on the laws of a listing (walk/proofs/Listing). Where the count
 -- starts and what it answers is in Counting.
 use Rattle.std.proofs.Common.{◌≡◌, ℕ, zero, suc, ◌+◌, ◌-◌, ◌*◌, ◌/◌, ◌<◌, ◌≤◌, List, ◌++◌, length, get_or, take, drop, sym, ap, ◌∙◌, ⊎_elim, mul-le-mul_right, suc-mul, arith, length-append, length-drop, take-append-drop, length-take-le, take_at, drop_at}
+use Rattle.std.specs.Prelude.{Result, Ok, Err}
 use Rattle.meaning.specs.Books.{atom_no, Book, count}
 use Rattle.meaning.specs.Choice.{if_eq}
 use Rattle.meaning.specs.Told.{success, Answered}
 use Rattle.meaning.specs.Written.{nothing}
 use Rattle.meaning.proofs.LeastModel.{Proper}
 use Rattle.meaning.proofs.Tests.{apart}
-use Rattle.book.specs.declared.refusal.Refusal.{Refusal}
 use Rattle.book.specs.declared.reader.Shape.{Shape}
 use Rattle.book.specs.Format.{read_of, book_in, ReadAs}
 use Rattle.book.proofs.Shapes.{told-good}
@@ -18,7 +18,9 @@ use Rattle.walk.specs.Readings.{readings_in, readings}
 use Rattle.walk.specs.Page.{PageEnd, set_in, events_from, room_in, told, page_in, page_of}
 use Rattle.walk.specs.Listing.{last_row}
 use Rattle.walk.specs.declared.page_answer.Page.{Page}
-use Rattle.walk.specs.declared.page_answer.Page.TheVariants.{Whole, Last, Cut, Book as BadBook, NoRoom}
+use Rattle.walk.specs.declared.page_answer.Page.TheVariants.{Whole, Last, Cut}
+use Rattle.walk.specs.declared.page_answer.NoPage.{NoPage}
+use Rattle.walk.specs.declared.page_answer.NoPage.TheVariants.{Book as BadBook, NoRoom}
 use Rattle.walk.proofs.Rows.{rows_of, rows-length}
 use Rattle.walk.proofs.Readings.{readings-append}
 use Rattle.walk.proofs.Needs.{amount}
@@ -65,12 +67,15 @@ module _ (s : List ℕ) (h : Shape) (e : ReadAs s h) where
   unfolding room_in
   room-is f = f ∙ ap (λ (a : ℕ). if_eq a 0 1 (65280 / a)) (sym (shape-atoms s h e))
 
-  module _ (few-rules : h.rules ≤ 255) (few-atoms : h.atoms ≤ 255) where
+  module _ (small : (h.atoms < 256) × (h.rules < 256)) where
+    few-atoms : h.atoms ≤ 255
+    few-atoms = omega arith
+
     few : count b ≤ 255
-    few = omega (arith, shape-count s h e, few-rules)
+    few = omega (arith, shape-count s h e, small.1)
 
     module _ {limit sets tries : ℕ} {row_before counts : List ℕ} (f : SoFar b limit sets tries row_before counts) (rows : List ℕ)
-        (long : length rows ≡ 65280) (p : Page) {page : List ℕ}
+        (long : length rows ≡ 65280) (p : Result Page NoPage) {page : List ℕ}
         (g : ◌≡◌ {A = Answered PageEnd} (record { told = told p; buffer = page }) (page_of s limit tries row_before rows)) where
       abbrev done : List Event
       done = take tries (events b nothing)
@@ -112,7 +117,7 @@ module _ (s : List ℕ) (h : Shape) (e : ReadAs s h) where
 
       -- ---- a full page
 
-      module _ {t : ℕ} (w : p ≡ Whole t) {full : ℕ} (r : full ≡ if_eq h.atoms 0 1 (65280 / h.atoms)) where
+      module _ {t : ℕ} (w : p ≡ Ok (Whole t)) {full : ℕ} (r : full ≡ if_eq h.atoms 0 1 (65280 / h.atoms)) where
         joined : Joined b (room_in b (length rows)) rows done todo t (page_in b limit tries row_before rows).buffer × (t ≤ limit)
         joined = pages-join b few limit tries row_before rows f.within listed heads-proper t (page-told ∙ ap told w)
 
@@ -184,7 +189,7 @@ module _ (s : List ℕ) (h : Shape) (e : ReadAs s h) where
 
       -- ---- the last page
 
-      module _ {t m : ℕ} (w : p ≡ Last t m) (page-long : length page ≡ 65280) where
+      module _ {t m : ℕ} (w : p ≡ Ok (Last t m)) (page-long : length page ≡ 65280) where
         ended : (t ≡ length (events b nothing)) × (t ≤ limit) × (m ≡ amount b todo)
             × ((page_in b limit tries row_before rows).buffer ≡ filled b rows (readings_in b todo))
         ended = pages-end b few limit tries row_before rows f.within listed t m (page-told ∙ ap told w)
@@ -228,7 +233,7 @@ module _ (s : List ℕ) (h : Shape) (e : ReadAs s h) where
 
       -- ---- the limit
 
-      pub cut-longer : {m : ℕ} → p ≡ Cut m → limit < length (events b nothing)
+      pub cut-longer : {m : ℕ} → p ≡ Ok (Cut m) → limit < length (events b nothing)
       cut-longer w = (pages-stop b few limit tries row_before rows f.within listed _ (page-told ∙ ap told w)).longer
 
       -- a good book has room for a row, so that its page is no refusal
@@ -237,8 +242,6 @@ module _ (s : List ℕ) (h : Shape) (e : ReadAs s h) where
           (λ o. ⊎_elim (λ (t, m, q). n _ (sym page-told ∙ q)) (λ (m, q). n _ (sym page-told ∙ q)) o)
           (page-goes b limit tries row_before rows f.within (omega (arith, long, shape-atoms s h e, few-atoms))))
 
-      pub never-bad : {A : Type 0} {why : Refusal} → p ≡ BadBook why → A
-      never-bad w = never-refused (λ x q. let z = sym (ap told w) ∙ q in apart (cc))
-
-      pub never-no-room : {A : Type 0} → p ≡ NoRoom → A
-      never-no-room w = never-refused (λ x q. let z = sym (ap told w) ∙ q in apart (cc))
+      pub never : {A : Type 0} (why : NoPage) → p ≡ Err why → A
+      never (BadBook f) w = never-refused (λ x q. let z = sym (ap told w) ∙ q in apart (cc))
+      never NoRoom w = never-refused (λ x q. let z = sym (ap told w) ∙ q in apart (cc))

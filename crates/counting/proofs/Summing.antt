@@ -1,14 +1,13 @@
 -- The totals of one book, atom by atom (src/sum.rt), and the turn of a book by what was told of it (src/turn.rt).
-use Rattle.std.proofs.Common.{◌≡◌, ℕ, zero, suc, ◌+◌, ◌%◌, ◌^◌, ◌<◌, ◌≤◌, Bool, true, false, eqb, ltb, List, get_or, take, sym, refl, ◌∙◌, ⊎_elim, add-one, arith, le-ltb, lt-ltb, eq-eqb, ne_eqb}
+use Rattle.std.proofs.Common.{◌≡◌, ℕ, zero, suc, ◌+◌, ◌<◌, ◌≤◌, Bool, true, false, ltb, List, get_or, take, sym, refl, ◌∙◌, ⊎_elim, add-one, arith, le-ltb, lt-ltb}
+use Rattle.std.specs.Prelude.{Result, Ok, Err}
 use Rattle.meaning.specs.Sets.{Set}
 use Rattle.meaning.specs.Choice.{ifb}
 use Rattle.meaning.specs.Told.{success, Answered}
-use Rattle.meaning.proofs.Tests.{decided, both, not_first, not-second}
-use Rattle.meaning.proofs.Choice.{b-yes, b-no, b-either}
+use Rattle.meaning.proofs.Tests.{decided}
+use Rattle.meaning.proofs.Choice.{b-either}
 use Rattle.book.specs.declared.refusal.Refusal.{Refusal}
 use Rattle.book.specs.declared.reader.Shape.{Shape}
-use Rattle.book.specs.declared.reader.Read.{Read}
-use Rattle.book.specs.declared.reader.Read.TheVariants.{Good, Refused}
 use Rattle.book.specs.Numbers.{number_of, told as book_told}
 use Rattle.book.specs.Format.{read_of, told_of, book_of, book_in}
 use Rattle.book.proofs.Places.{shape-atoms}
@@ -16,27 +15,18 @@ use Rattle.book.proofs.Verdict.{read_as, read-bad}
 use Rattle.counting.specs.Totals.{number_below, at_each, at_some, at_none, no_totals, totals_from, totals_with}
 use Rattle.counting.specs.Count.{told, count_of}
 use Rattle.counting.specs.Table.{bytes, opened_as, row, no-sets, refuse, Turn, turn_by, turn_of}
-use Rattle.counting.specs.declared.answer.Counted.{Counted}
-use Rattle.counting.specs.declared.answer.Counted.TheVariants.{Stopped, Book}
+use Rattle.counting.specs.declared.answer.Uncounted.{Uncounted}
+use Rattle.counting.specs.declared.answer.Uncounted.TheVariants.{Stopped, Book}
 use Rattle.counting.specs.declared.sum.Totals.{Totals}
 
--- ---- the three tests
+-- ---- the test of the second total, first part by part
 
-pub equal-yes : (m n : ℕ) → m ≡ n → ◌≡◌ {A = ℕ} 1 (ifb (eqb m n) 1 0)
-equal-yes m n e = sym (b-yes _ _ _ (eq-eqb m n e))
+module _ (sets count : ℕ) {t : Bool} where
+  pub some-above : t ≡ ltb count sets → 0 < count → ◌≡◌ {A = ℕ} (ifb t 1 0) (ifb (at_some sets count) 1 0)
+  some-above e h = rw (e, lt-ltb 0 count h)
 
-pub equal-no : (m n : ℕ) → (m ≡ n → ⊥) → ◌≡◌ {A = ℕ} 0 (ifb (eqb m n) 1 0)
-equal-no m n f = sym (b-no _ _ _ (ne_eqb m n f))
-
-module _ (sets count : ℕ) where
-  pub some-none : count ≡ 0 → ◌≡◌ {A = ℕ} 0 (ifb (at_some sets count) 1 0)
-  some-none e = sym (b-no (at_some sets count) 1 0 (not_first (ltb count sets) (le-ltb 0 count (omega arith))))
-
-  pub some-all : sets ≤ count → ◌≡◌ {A = ℕ} 0 (ifb (at_some sets count) 1 0)
-  some-all h = sym (b-no (at_some sets count) 1 0 (not-second (ltb 0 count) (le-ltb count sets h)))
-
-  pub some-yes : (count ≡ 0 → ⊥) → count < sets → ◌≡◌ {A = ℕ} 1 (ifb (at_some sets count) 1 0)
-  some-yes f h = sym (b-yes (at_some sets count) 1 0 (both (lt-ltb 0 count (omega arith)) (lt-ltb count sets h)))
+  pub some-none : t ≡ ltb 0 count → count ≤ 0 → ◌≡◌ {A = ℕ} (ifb t 1 0) (ifb (at_some sets count) 1 0)
+  some-none e h = rw (e, le-ltb 0 count h)
 
 -- ---- the totals
 
@@ -68,20 +58,13 @@ module _ (sets : ℕ) (counts : List ℕ) where
     unfolding totals_from
     totals-more p q r = rw (e, p, q, r, number_more, number_more, number_more)
 
-pub totals-added : (t : Totals) (n sets : ℕ) (counts : List ℕ) {m : Totals} → m ≡ totals_from n sets counts → {c s z a : ℕ}
-    → c ≡ (t.certain + m.certain) % 2 ^ 32 → s ≡ (t.some + m.some) % 2 ^ 32 → z ≡ (t.none + m.none) % 2 ^ 32
-    → a ≡ (t.atoms + m.atoms) % 2 ^ 32
-    → record { certain = c; some = s; none = z; atoms = a } ≡ totals_with t n sets counts
-unfolding totals_with
-totals-added t n sets counts e p q r u = rw (p, q, r, u, e)
-
 -- ---- the turn
 
-module _ (s : List ℕ) {x : Read} (e : book_told x ≡ told_of (read_of s)) where
-  pub good-atoms : {h : Shape} → x ≡ Good h → h.atoms ≡ (book_in s).atoms
+module _ (s : List ℕ) {x : Result Shape Refusal} (e : book_told x ≡ told_of (read_of s)) where
+  pub good-atoms : {h : Shape} → x ≡ Ok h → h.atoms ≡ (book_in s).atoms
   good-atoms f = sym (shape-atoms s _ (read_as s e f))
 
-  pub bad-atoms : {f : Refusal} → x ≡ Refused f → 0 ≡ (book_in s).atoms
+  pub bad-atoms : {f : Refusal} → x ≡ Err f → 0 ≡ (book_in s).atoms
   unfolding book_in book_of
   bad-atoms f = sym (rw (read-bad s e f))
 
@@ -106,17 +89,17 @@ pub turn-open : (o : Bool) (s : List ℕ) (limit : ℕ) (counts : List ℕ) (t :
     → u ≡ turn_of (bytes s) limit counts t → u ≡ turn_of (opened_as o s) limit counts t
 turn-open o s limit counts t e f = rw e f
 
-module _ (s : List ℕ) (limit : ℕ) (counts : List ℕ) (t : Totals) (c : Counted) {after : List ℕ}
+module _ (s : List ℕ) (limit : ℕ) (counts : List ℕ) (t : Totals) (c : Result ℕ Uncounted) {after : List ℕ}
     (e : ◌≡◌ {A = Answered ℕ} (record { told = told c; buffer = after }) (count_of s limit counts)) where
   turn_is : turn_of (bytes s) limit counts t ≡ turn_by (told c) (book_in s).atoms after t
   unfolding turn_of
   turn_is = λ i. turn_by (sym e i).told (book_in s).atoms (sym e i).buffer t
 
-  pub turn-stops : {l : ℕ} → c ≡ Stopped l → record { line = refuse 9; counts = after; totals = t } ≡ turn_of (bytes s) limit counts t
+  pub turn-stops : {l : ℕ} → c ≡ Err (Stopped l) → record { line = refuse 9; counts = after; totals = t } ≡ turn_of (bytes s) limit counts t
   unfolding turn_by
   turn-stops f = sym (turn_is ∙ rw f)
 
-  pub turn-refuses : {why : Refusal} {i : ℕ} → c ≡ Book why → i ≡ number_of why
+  pub turn-refuses : {why : Refusal} {i : ℕ} → c ≡ Err (Book why) → i ≡ number_of why
       → record { line = refuse i; counts = after; totals = t } ≡ turn_of (bytes s) limit counts t
   unfolding turn_by
   turn-refuses f g = rw g (sym (turn_is ∙ rw f))

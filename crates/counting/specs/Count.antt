@@ -3,7 +3,7 @@
 --
 --   told             an answer's number and values, case by case
 --   count_of book limit counts   the answer and the array, of the bytes of the book and of the array before
-use Rattle.std.specs.Prelude.{ℕ, List, ◌++◌, length, drop}
+use Rattle.std.specs.Prelude.{ℕ, List, ◌++◌, length, drop, Result, Ok, Err}
 use Rattle.meaning.specs.Books.{Book}
 use Rattle.meaning.specs.Written.{nothing}
 use Rattle.meaning.specs.Choice.{if_lt}
@@ -13,14 +13,14 @@ use Rattle.book.specs.Format.{BookRead, good, bad, read_of}
 use Rattle.walk.specs.Events.{events}
 use Rattle.walk.specs.Readings.{readings}
 use Rattle.counting.specs.Counts.{standings}
-use Rattle.counting.specs.declared.answer.Counted.{Counted}
-use Rattle.counting.specs.declared.answer.Counted.TheVariants.{Sets, Stopped, Book as BadBook}
+use Rattle.counting.specs.declared.answer.Uncounted.{Uncounted}
+use Rattle.counting.specs.declared.answer.Uncounted.TheVariants.{Stopped, Book as BadBook}
 
 -- success tells how many answer sets there are
-abbrev pub told : Counted → Told ℕ
-told (Sets n) = success n
-told (Stopped limit) = stopped limit
-told (BadBook f) = refused_at (number_of f) (place_of f)
+abbrev pub told : Result ℕ Uncounted → Told ℕ
+told (Ok n) = success n
+told (Err (Stopped limit)) = stopped limit
+told (Err (BadBook f)) = refused_at (number_of f) (place_of f)
 
 -- the places of the book's atoms get their counts; the others stay as they were, and all of them where the limit is passed
 unfoldable pub count_in : Book → ℕ → List ℕ → Answered ℕ

@@ -9,10 +9,7 @@ ghost use Rattle.counting.specs.SoFar.{sets_in, summed};
 fn one(byte: u8) -> u32
     ensures { result ≡ ifb (byte == 1) 1 0 }
 {
-    if byte == 1 {
-        return 1;
-    }
-    0
+    u32::from(byte == 1)
 }
 
 // How many of the rows hold the atom.
@@ -21,12 +18,8 @@ fn count_atom(page: &[u8], atoms: usize, rows: u32, atom: usize) -> u32
     ensures { result ≡ standing (atom_no atom) (sets_in atoms rows page.now) }
 {
     let mut found = 0;
-    let mut at = 0;
-    let mut left = rows;
-    while 0 < left {
-        found += one(page[at + atom]);
-        at += atoms;
-        left -= 1;
+    for row in page.chunks_exact(atoms).take(rows as usize) {
+        found += one(row[atom]);
     }
     found
 }
@@ -39,9 +32,7 @@ pub fn add_page(page: &[u8], atoms: usize, rows: u32, counts: &mut [u32])
     ensures { counts.new ≡
         summed atoms counts.old (sets_in atoms rows page.now) }
 {
-    let mut a = 0;
-    while a < atoms {
+    for a in 0..atoms {
         counts[a] += count_atom(page, atoms, rows, a);
-        a += 1;
     }
 }

@@ -9,7 +9,7 @@ mod places;
 mod sum;
 mod turn;
 
-pub use answer::Counted;
+pub use answer::Uncounted;
 pub use pages::count;
 pub use sum::Totals;
 pub use turn::{Line, Turn, take_turn};

@@ -4,14 +4,14 @@
 ghost use Rattle.std.specs.Prelude.{◌≡◌, ℕ, ◌/◌, length};
 ghost use Rattle.meaning.specs.Choice.{if_eq};
 ghost use Rattle.meaning.specs.Told.{Answered};
-ghost use Rattle.book.specs.Format.{book_in, ReadAs};
+ghost use Rattle.book.specs.ReadBook.{the_book};
 ghost use Rattle.counting.specs.Count.{told, count_in, count_of};
 ghost use Rattle.counting.specs.SoFar.{SoFar, Comes};
 
-use crate::answer::Counted;
+use crate::answer::Uncounted;
 use crate::column::add_page;
 use crate::places::{copy_counts, keep_row};
-use book::{Read, Shape, read_book};
+use book::ReadBook;
 use meaning::Colouring;
 use walk::{Page, page};
 
@@ -41,81 +41,73 @@ fn room_for(atoms: u8) -> u32
 
 // Counts the next page. Its last row, where it is full, is the one to go on behind.
 fn count_page(
-    book: &[u8],
-    shape: Shape,
+    book: &ReadBook,
     limit: u32,
     tries: u32,
     sets: u32,
     last: &mut [u8],
     tallies: &mut [u32],
 ) -> Paged
-    requires { ReadAs book.now shape
-        × SoFar (book_in book.now) limit sets tries last.old tallies.old }
-    ensures { Comes (book_in book.now) limit tries result
+    requires { SoFar (the_book book.now) limit sets tries last.old tallies.old }
+    ensures { Comes (the_book book.now) limit tries result
         last.new tallies.new }
 {
-    let atoms = shape.atoms as usize;
+    let atoms = book.shape.atoms as usize;
     let mut rows = [0u8; PAGE];
-    match page(book, limit, tries, last, &mut rows) {
-        Page::Whole(made) => {
-            let full = room_for(shape.atoms);
+    match page(book.bytes, limit, tries, last, &mut rows) {
+        Ok(Page::Whole(made)) => {
+            let full = room_for(book.shape.atoms);
             add_page(&rows, atoms, full, tallies);
             let end = full as usize * atoms;
             keep_row(&rows, end - atoms, atoms, last);
             Paged::More(made, sets + full)
         }
-        Page::Last(_, count) => {
+        Ok(Page::Last(_, count)) => {
             add_page(&rows, atoms, count, tallies);
             Paged::All(sets + count)
         }
-        Page::Cut(_) => Paged::Limited,
-        Page::Book(_) => Paged::Limited,
-        Page::NoRoom => Paged::Limited,
+        Ok(Page::Cut(_)) => Paged::Limited,
+        // The book is good and has room for a row, so this does not come.
+        Err(_) => Paged::Limited,
     }
 }
 
 // Counts a good book. The lent array is written where all pages are counted.
-fn count_in(book: &[u8], shape: Shape, limit: u32, counts: &mut [u32]) -> Counted
-    requires { ReadAs book.now shape × (length counts.old ≡ 255) }
+fn count_in(book: &ReadBook, limit: u32, counts: &mut [u32]) -> Result<u32, Uncounted>
+    requires { length counts.old ≡ 255 }
     ensures { ◌≡◌ {A = Answered ℕ} (record { told = told result; buffer = counts.new })
-        (count_in (book_in book.now) limit counts.old) }
+        (count_in (the_book book.now) limit counts.old) }
 {
-    let atoms = shape.atoms as usize;
+    let atoms = book.shape.atoms as usize;
     let mut tallies = [0u32; Colouring::ATOMS];
     let mut last = [0u8; Colouring::ATOMS];
     let mut tries = 0;
     let mut sets = 0;
     loop {
-        match count_page(
-            book,
-            shape,
-            limit,
-            tries,
-            sets,
-            &mut last[..atoms],
-            &mut tallies,
-        ) {
+        match count_page(book, limit, tries, sets, &mut last[..atoms], &mut tallies) {
             Paged::More(made, met) => {
                 tries = made;
                 sets = met;
             }
             Paged::All(met) => {
                 copy_counts(&tallies, atoms, counts);
-                return Counted::Sets(met);
+                return Ok(met);
             }
-            Paged::Limited => return Counted::Stopped(limit),
+            Paged::Limited => return Err(Uncounted::Stopped(limit)),
         }
     }
 }
 
 // Counts the answer sets of the book, and for each atom those that hold it, within so many tries of
-// the whole walk.
-pub fn count(book: &[u8], limit: u32, counts: &mut [u32; Colouring::ATOMS]) -> Counted
+// the whole walk: how many sets there are, and in the array in how many of them each atom stands.
+pub fn count(
+    book: &[u8],
+    limit: u32,
+    counts: &mut [u32; Colouring::ATOMS],
+) -> Result<u32, Uncounted>
     ensures { ◌≡◌ {A = Answered ℕ} (record { told = told result; buffer = counts.new })
         (count_of book.now limit counts.old) }
 {
-    match read_book(book) {
-        Read::Refused(why) => Counted::Book(why),
-        Read::Good(shape) => count_in(book, shape, limit, counts),
-    }
+    let read = ReadBook::read(book)?;
+    count_in(&read, limit, counts)
 }

@@ -6,11 +6,7 @@ pub fn keep_row(page: &[u8], from: usize, atoms: usize, last: &mut [u8])
     requires { (from + atoms ≤ length page.now) × (length last.old ≡ atoms) }
     ensures { last.new ≡ take atoms (drop from page.now) }
 {
-    let mut i = 0;
-    while i < atoms {
-        last[i] = page[from + i];
-        i += 1;
-    }
+    last.copy_from_slice(&page[from..from + atoms]);
 }
 
 // Copies the counts of the first atoms; those behind them stay.
@@ -19,9 +15,5 @@ pub fn copy_counts(tallies: &[u32], atoms: usize, counts: &mut [u32])
     ensures { counts.new ≡
         take atoms tallies.now ++ drop atoms counts.old }
 {
-    let mut i = 0;
-    while i < atoms {
-        counts[i] = tallies[i];
-        i += 1;
-    }
+    counts[..atoms].copy_from_slice(&tallies[..atoms]);
 }

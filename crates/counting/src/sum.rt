@@ -4,7 +4,6 @@ ghost use Rattle.meaning.specs.Choice.{ifb};
 ghost use Rattle.counting.specs.Totals.{at_each, at_some, at_none, totals_from, totals_with};
 
 use meaning::Colouring;
-use std::num::wrapping_add_u32;
 
 #[derive(Clone, Copy)]
 pub struct Totals {
@@ -22,33 +21,21 @@ pub struct Totals {
 fn in_each(sets: u32, count: u32) -> u32
     ensures { result ≡ ifb (at_each sets count) 1 0 }
 {
-    if count == sets {
-        return 1;
-    }
-    0
+    u32::from(count == sets)
 }
 
 // 1 for an atom that stands in some of the sets but not all.
 fn in_some(sets: u32, count: u32) -> u32
     ensures { result ≡ ifb (at_some sets count) 1 0 }
 {
-    if count == 0 {
-        return 0;
-    }
-    if count < sets {
-        return 1;
-    }
-    0
+    u32::from(0 < count && count < sets)
 }
 
 // 1 for an atom that stands in none of the sets.
 fn in_none(sets: u32, count: u32) -> u32
     ensures { result ≡ ifb (at_none sets count) 1 0 }
 {
-    if count == 0 {
-        return 1;
-    }
-    0
+    u32::from(count == 0)
 }
 
 // The totals of one book.
@@ -57,16 +44,13 @@ fn of_book(atoms: u8, sets: u32, counts: &[u32]) -> Totals
     ensures { result ≡ totals_from atoms sets counts.now }
 {
     let mut found = Totals::NOTHING;
-    let mut a: u8 = 0;
-    while a < atoms {
-        let count = counts[a as usize];
+    for count in &counts[..atoms as usize] {
         found = Totals {
-            certain: found.certain + in_each(sets, count),
-            some: found.some + in_some(sets, count),
-            none: found.none + in_none(sets, count),
+            certain: found.certain + in_each(sets, *count),
+            some: found.some + in_some(sets, *count),
+            none: found.none + in_none(sets, *count),
             atoms: found.atoms + 1,
         };
-        a += 1;
     }
     found
 }
@@ -86,10 +70,10 @@ impl Totals {
     {
         let more = of_book(atoms, sets, counts);
         Totals {
-            certain: wrapping_add_u32(self.certain, more.certain),
-            some: wrapping_add_u32(self.some, more.some),
-            none: wrapping_add_u32(self.none, more.none),
-            atoms: wrapping_add_u32(self.atoms, more.atoms),
+            certain: self.certain.wrapping_add(more.certain),
+            some: self.some.wrapping_add(more.some),
+            none: self.none.wrapping_add(more.none),
+            atoms: self.atoms.wrapping_add(more.atoms),
         }
     }
 }

@@ -4,10 +4,10 @@ ghost use Rattle.meaning.specs.Told.{success};
 ghost use Rattle.book.specs.Format.{book_in};
 ghost use Rattle.counting.specs.Table.{Turn as TableTurn, opened_as, row_in, turn_by, turn_of};
 
-use crate::answer::Counted;
+use crate::answer::Uncounted;
 use crate::pages::count;
 use crate::sum::Totals;
-use book::{Read, read_book};
+use book::read_book;
 use meaning::Colouring;
 
 #[derive(Clone, Copy)]
@@ -33,8 +33,8 @@ fn atoms_of(book: &[u8]) -> u8
     ensures { result ≡ (book_in book.now).atoms }
 {
     match read_book(book) {
-        Read::Good(shape) => shape.atoms,
-        Read::Refused(_) => 0,
+        Ok(shape) => shape.atoms,
+        Err(_) => 0,
     }
 }
 
@@ -83,12 +83,12 @@ pub fn take_turn(
         };
     }
     match count(book, limit, counts) {
-        Counted::Sets(sets) => turn_counted(sets, atoms_of(book), totals, counts),
-        Counted::Stopped(_) => Turn {
+        Ok(sets) => turn_counted(sets, atoms_of(book), totals, counts),
+        Err(Uncounted::Stopped(_)) => Turn {
             line: Line::Refused(9),
             totals,
         },
-        Counted::Book(why) => Turn {
+        Err(Uncounted::Book(why)) => Turn {
             line: Line::Refused(why.number()),
             totals,
         },

@@ -7,23 +7,24 @@ use Prim.Native.Nat.{ℕ}
 use native.Mathlib.Omega.{arith}
 use lib.ListN.{length, take, drop}
 use lib.Seq.{take_at}
+use Rattle.std.specs.Prelude.{Result, Ok, Err}
 use Rattle.meaning.specs.Books.{Book}
 use Rattle.meaning.specs.Told.{Told, success, refused, stopped, Answered}
 use Rattle.meaning.proofs.Tests.{apart}
 use Rattle.meaning.proofs.Choice.{lt_yes, lt_no, lt-either, b-either}
 use Rattle.walk.specs.declared.tally.Halt.{Halt}
-use Rattle.crews.specs.declared.lay.Laid.{Laid}
-use Rattle.crews.specs.declared.lay.Laid.TheVariants.{Book as LaidBook, TooMany as Over, NoRoom as Short}
+use Rattle.crews.specs.declared.answer.Unjoined.{Unjoined}
+use Rattle.crews.specs.declared.answer.Unjoined.TheVariants.{TooMany as Over, NoRoom as Short}
 use Rattle.crews.specs.Join.{of_book, only, joined_bytes, written, laid_of, join_laid, join_in}
 use Rattle.crews.specs.Log.{Entry, after_search, log_laid, log_in}
 use Rattle.crews.specs.Rows.{Together, TooMany, TooShort, Fitting}
 
 -- ---- what is laid out
 
-pub data Lays (b c : Book) (room : ℕ) : Laid → Type 0 where
-  lays-over : TooMany b c → Lays b c room Over
-  lays-short : TooShort b c room → Lays b c room Short
-  lays-book : Fitting b c room → Lays b c room (LaidBook (length (joined_bytes b c)))
+pub data Lays (b c : Book) (room : ℕ) : Result ℕ Unjoined → Type 0 where
+  lays-over : TooMany b c → Lays b c room (Err Over)
+  lays-short : TooShort b c room → Lays b c room (Err Short)
+  lays-book : Fitting b c room → Lays b c room (Ok (length (joined_bytes b c)))
 
 module _ (b c : Book) (room : ℕ) where
   pub lays : Lays b c room (laid_of b c room)
@@ -33,27 +34,27 @@ module _ (b c : Book) (room : ℕ) where
       λ g. let t : Together b c = record { atoms = h; rules = g } in
       lt-either (Lays b c room) _ _ _ _ (λ k. lays-short (t, k)) (λ k. lays-book (t, k))
 
-  pub laid_as : {x : Laid} → Lays b c room x → laid_of b c room ≡ x
+  pub laid_as : {x : Result ℕ Unjoined} → Lays b c room x → laid_of b c room ≡ x
   unfolding laid_of
   laid_as (lays-over (inl h)) = lt_yes _ _ _ _ h
-  laid_as (lays-over (inr h)) = lt-either (λ x. x ≡ Over) _ _ _ _ (λ _. refl) (λ _. lt_yes _ _ _ _ h)
+  laid_as (lays-over (inr h)) = lt-either (λ x. x ≡ Err Over) _ _ _ _ (λ _. refl) (λ _. lt_yes _ _ _ _ h)
   laid_as (lays-short (t, h)) = lt_no _ _ _ _ t.atoms ∙ lt_no _ _ _ _ t.rules ∙ lt_yes _ _ _ _ h
   laid_as (lays-book (t, h)) = lt_no _ _ _ _ t.atoms ∙ lt_no _ _ _ _ t.rules ∙ lt_no _ _ _ _ h
 
-  pub laid-fitting : Fitting b c room → laid_of b c room ≡ LaidBook (length (joined_bytes b c))
+  pub laid-fitting : Fitting b c room → laid_of b c room ≡ Ok (length (joined_bytes b c))
   laid-fitting f = laid_as (lays-book f)
 
 -- ---- what is told of it, whoever goes on with what is laid out
 
-module _ {S : Type 0} (b c : Book) (out : List ℕ) (on : Laid → Answered S) (over : on Over ≡ only out (refused 17))
-    (short : on Short ≡ only out (refused 19)) (bare : (n i : ℕ) → (on (LaidBook n)).told ≡ refused i → ⊥) where
+module _ {S : Type 0} (b c : Book) (out : List ℕ) (on : Result ℕ Unjoined → Answered S) (over : on (Err Over) ≡ only out (refused 17))
+    (short : on (Err Short) ≡ only out (refused 19)) (bare : (n i : ℕ) → (on (Ok n)).told ≡ refused i → ⊥) where
   abbrev told : Answered S → Told S
   told a = a.told
 
   pub tells-many : ((on (laid_of b c (length out))).told ≡ refused 17) ↔ TooMany b c
   tells-many = (λ e. there (lays b c (length out)) e, λ h. ap told (ap on (laid_as b c _ (lays-over h)) ∙ over))
     where
-      there : {x : Laid} → Lays b c (length out) x → (on x).told ≡ refused 17 → TooMany b c
+      there : {x : Result ℕ Unjoined} → Lays b c (length out) x → (on x).told ≡ refused 17 → TooMany b c
       there (lays-over h) e = h
       there (lays-short h) e = let z : refused 19 ≡ refused 17 = sym (ap told short) ∙ e in let w : ◌≡◌ {A = ℕ} 19 17 = cc in absurd (omega arith)
       there (lays-book h) e = absurd (bare _ 17 e)
@@ -61,7 +62,7 @@ module _ {S : Type 0} (b c : Book) (out : List ℕ) (on : Laid → Answered S) (
   pub tells-short : ((on (laid_of b c (length out))).told ≡ refused 19) ↔ TooShort b c (length out)
   tells-short = (λ e. there (lays b c (length out)) e, λ h. ap told (ap on (laid_as b c _ (lays-short h)) ∙ short))
     where
-      there : {x : Laid} → Lays b c (length out) x → (on x).told ≡ refused 19 → TooShort b c (length out)
+      there : {x : Result ℕ Unjoined} → Lays b c (length out) x → (on x).told ≡ refused 19 → TooShort b c (length out)
       there (lays-over h) e = let z : refused 17 ≡ refused 19 = sym (ap told over) ∙ e in let w : ◌≡◌ {A = ℕ} 17 19 = cc in absurd (omega arith)
       there (lays-short h) e = h
       there (lays-book h) e = absurd (bare _ 19 e)
@@ -70,7 +71,7 @@ module _ {S : Type 0} (b c : Book) (out : List ℕ) (on : Laid → Answered S) (
   pub tells-fitting : {v : S} → (on (laid_of b c (length out))).told ≡ success v → Fitting b c (length out)
   tells-fitting {v} = there (lays b c (length out))
     where
-      there : {x : Laid} → Lays b c (length out) x → (on x).told ≡ success v → Fitting b c (length out)
+      there : {x : Result ℕ Unjoined} → Lays b c (length out) x → (on x).told ≡ success v → Fitting b c (length out)
       there (lays-over h) e = let z : refused 17 ≡ success v = sym (ap told over) ∙ e in apart cc
       there (lays-short h) e = let z : refused 19 ≡ success v = sym (ap told short) ∙ e in apart cc
       there (lays-book h) e = h
@@ -122,21 +123,21 @@ pub data Leaves {S : Type 0} (b c : Book) (out : List ℕ) : Answered S → Type
 
 pub join-leaves : (b c : Book) (out : List ℕ) → Leaves b c out (join_in b c out)
 unfolding join_laid
-join-leaves b c out = go (laid_of b c (length out))
+join-leaves b c out = go (lays b c (length out))
   where
-    go : (x : Laid) → Leaves b c out (join_laid x b c out)
-    go (LaidBook n) = writes
-    go Over = refuses
-    go Short = refuses
+    go : {x : Result ℕ Unjoined} → Lays b c (length out) x → Leaves b c out (join_laid x b c out)
+    go (lays-book h) = writes
+    go (lays-over h) = refuses
+    go (lays-short h) = refuses
 
 pub log-leaves : (b c : Book) (limit other : ℕ) (out : List ℕ) → Leaves b c out (log_in b c limit other out)
 unfolding log_laid after_search
-log-leaves b c limit other out = go (laid_of b c (length out))
+log-leaves b c limit other out = go (lays b c (length out))
   where
-    go : (x : Laid) → Leaves b c out (log_laid x b c limit other out)
-    go (LaidBook n) = b-either (Leaves b c out) _ _ _ (λ _. stops) (λ _. b-either (Leaves b c out) _ _ _ (λ _. stops) (λ _. writes))
-    go Over = refuses
-    go Short = refuses
+    go : {x : Result ℕ Unjoined} → Lays b c (length out) x → Leaves b c out (log_laid x b c limit other out)
+    go (lays-book h) = b-either (Leaves b c out) _ _ _ (λ _. stops) (λ _. b-either (Leaves b c out) _ _ _ (λ _. stops) (λ _. writes))
+    go (lays-over h) = refuses
+    go (lays-short h) = refuses
 
 module _ {S : Type 0} (b c : Book) (out : List ℕ) where
   pub leaves-written : {a : Answered S} → Leaves b c out a → {v : S} → a.told ≡ success v

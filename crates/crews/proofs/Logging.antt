@@ -1,58 +1,46 @@
 -- The log as the code goes through it (specs/Log): how the two searches ended, and which entry that makes.
-use mathlib.Core.Path.{◌≡◌, sym, ◌∙◌, ap}
+use mathlib.Core.Path.{◌≡◌, ◌∙◌, ap}
 use mathlib.Core.Bool.{Bool, true, false}
 use mathlib.Core.List.{List, ◌++◌}
 use Prim.Native.Nat.{ℕ}
 use lib.ListN.{length, drop}
+use Rattle.std.specs.Prelude.{Result, Ok, Err}
 use Rattle.meaning.specs.Books.{Book}
 use Rattle.meaning.specs.Choice.{ifb}
-use Rattle.meaning.specs.Told.{Told, success, refused, stopped, Answered}
-use Rattle.walk.specs.declared.tally.Halt.{Halt}
-use Rattle.crews.specs.declared.lay.Laid.{Laid}
-use Rattle.crews.specs.declared.lay.Laid.TheVariants.{Book as LaidBook, TooMany as Over, NoRoom as Short}
+use Rattle.meaning.specs.Told.{Told, success, stopped, Answered}
+use Rattle.crews.specs.declared.answer.Unjoined.{Unjoined}
 use Rattle.crews.specs.Join.{only, joined_bytes, laid_of}
-use Rattle.crews.specs.Log.{Entry, searched, passed, found, entry_of, after_search, log_laid}
+use Rattle.crews.specs.Log.{Entry, told, unlogged, searched, passed, found, entry_of, after_search, log_laid}
 
-pub entry-by : (p q one two : Bool) (n : ℕ) → one ≡ p → two ≡ q → success (entry_of p q n) ≡ success (entry_of one two n)
-entry-by p q one two n e f = rw (e, f)
-
-module _ (b c : Book) (limit other n : ℕ) (out : List ℕ) {one : Halt} (e : one ≡ searched b limit) where
+module _ (b c : Book) (limit other n : ℕ) (out : List ℕ) where
   abbrev answer : Answered Entry
-  answer = log_laid (LaidBook n) b c limit other out
+  answer = log_laid (Ok n) b c limit other out
 
-  pub log-first-passed : {t : Bool} → t ≡ passed one → t ≡ true → only out (stopped limit) ≡ answer
+  pub log-first-passed : passed (searched b limit) ≡ true → only out (stopped limit) ≡ answer
   unfolding log_laid after_search ifb
-  log-first-passed p q = let k : passed (searched b limit) ≡ true = ap passed (sym e) ∙ sym p ∙ q in rw k
+  log-first-passed p = rw p
 
-  module _ {t : Bool} (p : t ≡ passed one) (q : t ≡ false) {two : Halt} (f : two ≡ searched c other) {u : Bool} (g : u ≡ passed two) where
-    first-within : passed (searched b limit) ≡ false
-    first-within = ap passed (sym e) ∙ sym p ∙ q
-
-    pub log-second-passed : u ≡ true → only out (stopped other) ≡ answer
+  module _ (p : passed (searched b limit) ≡ false) where
+    pub log-second-passed : passed (searched c other) ≡ true → only out (stopped other) ≡ answer
     unfolding log_laid after_search ifb
-    log-second-passed h = let k : passed (searched c other) ≡ true = ap passed (sym f) ∙ sym g ∙ h in rw (first-within, k)
+    log-second-passed q = rw (p, q)
 
-    pub log-both-searched : u ≡ false → {v w : Bool} → v ≡ found one → w ≡ found two → {told : Told Entry} → told ≡ success (entry_of v w n)
-        → {draft after : List ℕ} → draft ≡ joined_bytes b c → after ≡ draft ++ drop (length draft) out
-        → record { told = told; buffer = after } ≡ answer
+    pub log-both-searched : passed (searched c other) ≡ false → {one two : Bool} → one ≡ found (searched b limit) → two ≡ found (searched c other)
+        → {t : Told Entry} → t ≡ success (entry_of one two n) → {draft after : List ℕ} → draft ≡ joined_bytes b c
+        → after ≡ draft ++ drop (length draft) out → record { told = t; buffer = after } ≡ answer
     unfolding log_laid after_search ifb
-    log-both-searched h x y s d a =
-        let k : passed (searched c other) ≡ false = ap passed (sym f) ∙ sym g ∙ h in
-        let m = s ∙ entry-by _ _ _ _ n (sym (x ∙ ap found e)) (sym (y ∙ ap found f)) in
+    log-both-searched q e f g d a =
+        let m = g ∙ rw (e, f) in
         let o = a ∙ ap (λ (z : List ℕ). z ++ drop (length z) out) d in
-        rw (first-within, k) (λ i. record { told = m i; buffer = o i })
+        rw (p, q) (λ i. record { told = m i; buffer = o i })
 
 -- ---- what is laid out decides
 
-module _ (b c : Book) (limit other : ℕ) (out : List ℕ) {r : Laid} (e : r ≡ laid_of b c (length out)) where
-  pub log-over : r ≡ Over → only out (refused 17) ≡ log_laid (laid_of b c (length out)) b c limit other out
+module _ (b c : Book) (limit other : ℕ) (out : List ℕ) {r : Result ℕ Unjoined} (e : r ≡ laid_of b c (length out)) where
+  pub log-refused : {why : Unjoined} → r ≡ Err why → only out (told (Err (unlogged why))) ≡ log_laid (laid_of b c (length out)) b c limit other out
   unfolding log_laid
-  log-over g = rw (← e, g)
+  log-refused g = rw (← e, g)
 
-  pub log-short : r ≡ Short → only out (refused 19) ≡ log_laid (laid_of b c (length out)) b c limit other out
-  unfolding log_laid
-  log-short g = rw (← e, g)
-
-  pub log-is-laid : {n m : ℕ} → r ≡ LaidBook n → n ≡ m → {a : Answered Entry} → a ≡ log_laid (LaidBook m) b c limit other out
+  pub log-is-laid : {n m : ℕ} → r ≡ Ok n → n ≡ m → {a : Answered Entry} → a ≡ log_laid (Ok m) b c limit other out
       → a ≡ log_laid (laid_of b c (length out)) b c limit other out
   log-is-laid g f h = rw (← e, g, f) h

@@ -3,33 +3,40 @@
 use mathlib.Core.Path.{◌≡◌, refl, sym, ◌∙◌, ap}
 use mathlib.Core.Logic.{inl, inr, ⊎_elim}
 use mathlib.Core.List.{List, ◌++◌}
-use Prim.Native.Nat.{ℕ, ◌+◌, ◌-◌, ◌≤◌, ◌<◌}
-use native.Mathlib.Nat.{sub-zero}
+use Prim.Native.Nat.{ℕ, ◌+◌, ◌≤◌, ◌<◌}
 use native.Mathlib.Omega.{arith}
 use lib.ListN.{length, take, drop, length-replicate, replicate}
 use lib.Seq.{take_all}
+use Rattle.std.specs.Prelude.{Result, Ok, Err, MatchResult}
+use Rattle.std.specs.Result.{IsErrAnd}
 use Rattle.meaning.specs.Books.{Book, count}
 use Rattle.meaning.specs.Joined.{joined}
-use Rattle.meaning.specs.Told.{success, refused_at, refused, Answered}
+use Rattle.meaning.specs.Told.{success, refused_at, Answered}
 use Rattle.meaning.proofs.Tests.{lt-or-le, apart}
 use Rattle.book.specs.declared.refusal.Refusal.{Refusal}
 use Rattle.book.specs.declared.reader.Shape.{Shape}
-use Rattle.book.specs.declared.reader.Read.{Read}
-use Rattle.book.specs.declared.reader.Read.TheVariants.{Good, Refused}
 use Rattle.book.specs.Numbers.{number_of, place_of}
 use Rattle.book.specs.Numbers.{told as book_told}
 use Rattle.book.specs.Format.{BookRead, good, bad, read_of, told_of, book_of, book_in, ReadAs, book_bytes}
 use Rattle.book.specs.Making.{Finished}
-use Rattle.crews.specs.declared.lay.Laid.{Laid}
-use Rattle.crews.specs.declared.lay.Laid.TheVariants.{Book as LaidBook, TooMany as Over, NoRoom as Short}
-use Rattle.crews.specs.Join.{of_book, only, joined_bytes, laid_of, join_laid, on_books}
+use Rattle.crews.specs.declared.answer.Unjoined.{Unjoined}
+use Rattle.crews.specs.declared.answer.Unjoined.TheVariants.{TooMany as Over, NoRoom as Short}
+use Rattle.crews.specs.Join.{of_book, told, only, joined_bytes, laid_of, join_laid, on_books}
 use Rattle.crews.specs.Rows.{Together}
 use Rattle.crews.proofs.Laying.{Lays, lays-over, lays-short, lays-book, lays, laid_as}
 
 -- ---- two books are read
 
-pub read_as : (s : List ℕ) {x : Read} {h : Shape} → book_told x ≡ told_of (read_of s) → x ≡ Good h → ReadAs s h
-read_as s e g = sym e ∙ ap book_told g
+-- what `map_err` hands on: a value as it is, an error as it was made over
+module _ {T E D : Type 0} (P : E → D → Type 0) where
+  pub mapped-ok : (r : Result T E) {m : Result T D} → MatchResult r (λ x. m ≡ Ok x) (λ e. IsErrAnd m (P e)) → {x : T} → m ≡ Ok x → r ≡ Ok x
+  mapped-ok (Ok y) h {x} e = let z : y ≡ x = cc in ap Ok z
+  mapped-ok (Err y) h e = absurd (rw e at h)
+
+  pub mapped-err : (r : Result T E) {m : Result T D} → MatchResult r (λ x. m ≡ Ok x) (λ e. IsErrAnd m (P e)) → {d : D} → m ≡ Err d
+      → (y : E) × (r ≡ Err y) × P y d
+  mapped-err (Ok y) h e = apart cc
+  mapped-err (Err y) h e = (y, refl, rw e at h)
 
 module _ {S : Type 0} (out : List ℕ) (f : Book → Book → Answered S) where
   bad-first : (x y : BookRead) {i at : ℕ} → refused_at i at ≡ told_of x → only out (of_book 1 i at) ≡ on_books x y out f
@@ -51,59 +58,56 @@ module _ {S : Type 0} (out : List ℕ) (f : Book → Book → Answered S) where
   good-both h k (good n r index l) (bad j to) g e = apart cc
   good-both h k (bad j to) y g e = apart cc
 
-  module _ (s t : List ℕ) {x : Read} (e : book_told x ≡ told_of (read_of s)) where
-    pub first-refused : {why : Refusal} → x ≡ Refused why
+  module _ (s t : List ℕ) where
+    pub first-refused : (why : Refusal) → book_told (Err why) ≡ told_of (read_of s)
         → only out (of_book 1 (number_of why) (place_of why)) ≡ on_books (read_of s) (read_of t) out f
-    first-refused g = bad-first _ _ (sym (ap book_told g) ∙ e)
+    first-refused why e = bad-first _ _ e
 
-    module _ {h : Shape} (g : x ≡ Good h) {y : Read} (d : book_told y ≡ told_of (read_of t)) where
-      pub second-refused : {why : Refusal} → y ≡ Refused why
+    module _ {h : Shape} (e : ReadAs s h) where
+      pub second-refused : (why : Refusal) → book_told (Err why) ≡ told_of (read_of t)
           → only out (of_book 2 (number_of why) (place_of why)) ≡ on_books (read_of s) (read_of t) out f
       unfolding told_of
-      second-refused k = bad-second h _ _ (read_as s e g) (sym (ap book_told k) ∙ d)
+      second-refused why d = bad-second h _ _ e d
 
-      pub both_read : {k : Shape} → y ≡ Good k → {a : Answered S} → a ≡ f (book_in s) (book_in t)
+      pub both_read : {k : Shape} → ReadAs t k → {a : Answered S} → a ≡ f (book_in s) (book_in t)
           → a ≡ on_books (read_of s) (read_of t) out f
       unfolding told_of book_in
-      both_read {k} q p = p ∙ good-both h k _ _ (read_as s e g) (read_as t d q)
+      both_read {k} d p = p ∙ good-both h k _ _ e d
 
 -- ---- what is laid out
 
 module _ (b c : Book) (room : ℕ) where
-  pub over-atoms : 255 < b.atoms + c.atoms → Over ≡ laid_of b c room
+  pub over-atoms : 255 < b.atoms + c.atoms → Err Over ≡ laid_of b c room
   over-atoms h = sym (laid_as b c room (lays-over (inl h)))
 
   module _ (few : b.atoms + c.atoms ≤ 255) where
-    pub over-rules : 255 < count b + count c → Over ≡ laid_of b c room
+    pub over-rules : 255 < count b + count c → Err Over ≡ laid_of b c room
     over-rules h = sym (laid_as b c room (lays-over (inr h)))
 
     module _ (fewer : count b + count c ≤ 255) {n : ℕ} {draft : List ℕ} (f : Finished (joined b c) n draft) where
       together : Together b c
       together = record { atoms = few; rules = fewer }
 
-      pub too_short : room < n → Short ≡ laid_of b c room
+      pub too_short : room < n → Err Short ≡ laid_of b c room
       too_short h = sym (laid_as b c room (lays-short (together, rw (← f.size) h)))
 
-      pub laid_out : n ≤ room → LaidBook n ≡ laid_of b c room
-      laid_out h = ap LaidBook f.size ∙ sym (laid_as b c room (lays-book (together, rw (← f.size) h)))
+      pub laid_out : n ≤ room → Ok n ≡ laid_of b c room
+      laid_out h = ap Ok f.size ∙ sym (laid_as b c room (lays-book (together, rw (← f.size) h)))
 
   -- a book that is laid out fits the room
-  pub laid-room : {n : ℕ} → LaidBook n ≡ laid_of b c room → (n ≤ room) × (n ≡ length (joined_bytes b c))
+  pub laid-room : {n : ℕ} → Ok n ≡ laid_of b c room → (n ≤ room) × (n ≡ length (joined_bytes b c))
   laid-room {n} = go (lays b c room)
     where
-      go : {x : Laid} → Lays b c room x → LaidBook n ≡ x → (n ≤ room) × (n ≡ length (joined_bytes b c))
+      go : {x : Result ℕ Unjoined} → Lays b c room x → Ok n ≡ x → (n ≤ room) × (n ≡ length (joined_bytes b c))
       go (lays-over h) e = apart cc
       go (lays-short h) e = apart cc
       go (lays-book (t, h)) e = let z : n ≡ length (joined_bytes b c) = cc in (omega (arith, h), z)
 
--- which of the three it is
-pub over-book : {A : Type 0} {n : ℕ} → Over ≡ LaidBook n → A
-over-book e = apart cc
+-- a book or none, and which
+pub no-book : {A : Type 0} (why : Unjoined) {n : ℕ} → ◌≡◌ {A = Result ℕ Unjoined} (Err why) (Ok n) → A
+no-book why e = apart cc
 
-pub short-book : {A : Type 0} {n : ℕ} → Short ≡ LaidBook n → A
-short-book e = apart cc
-
-pub laid-book : {b : Book} {n m : ℕ} {draft : List ℕ} → LaidBook n ≡ LaidBook m → Finished b n draft → Finished b m draft
+pub laid-book : {b : Book} {n m : ℕ} {draft : List ℕ} → ◌≡◌ {A = Result ℕ Unjoined} (Ok n) (Ok m) → Finished b n draft → Finished b m draft
 laid-book {n = n} {m} e f = let z : n ≡ m = cc in rw z at f
 
 pub blank : length {A = ℕ} (replicate book_bytes 0) ≡ book_bytes
@@ -118,27 +122,20 @@ finished-inside {n = n} {draft} f = ⊎_elim
 
 -- the front of the draft, as code takes it: the joined book
 module _ (b c : Book) {n : ℕ} {draft : List ℕ} (f : Finished (joined b c) n draft) where
-  pub front_bytes : take (n - 0) (drop 0 draft) ≡ joined_bytes b c
-  front_bytes = rw sub-zero f.bytes
+  pub front_length : n ≡ length (take n draft)
+  front_length = f.size ∙ ap (length {A = ℕ}) (sym f.bytes)
 
-  pub front_length : n ≡ length (take (n - 0) (drop 0 draft))
-  front_length = f.size ∙ ap (length {A = ℕ}) (sym front_bytes)
-
-  pub front-room : {room : ℕ} {r : Laid} → r ≡ laid_of b c room → r ≡ LaidBook n → length (take (n - 0) (drop 0 draft)) ≤ room
+  pub front-room : {room : ℕ} {r : Result ℕ Unjoined} → r ≡ laid_of b c room → r ≡ Ok n → length (take n draft) ≤ room
   front-room {room} e g = let k = laid-room b c room (sym g ∙ e) in omega (arith, k.0, front_length)
 
 -- ---- the joined book handed over
 
-module _ (b c : Book) (out : List ℕ) {r : Laid} (e : r ≡ laid_of b c (length out)) where
-  pub join-over : r ≡ Over → only out (refused 17) ≡ join_laid (laid_of b c (length out)) b c out
+module _ (b c : Book) (out : List ℕ) {r : Result ℕ Unjoined} (e : r ≡ laid_of b c (length out)) where
+  pub join-refused : {why : Unjoined} → r ≡ Err why → only out (told (Err why)) ≡ join_laid (laid_of b c (length out)) b c out
   unfolding join_laid
-  join-over g = rw (← e, g)
+  join-refused g = rw (← e, g)
 
-  pub join-short : r ≡ Short → only out (refused 19) ≡ join_laid (laid_of b c (length out)) b c out
-  unfolding join_laid
-  join-short g = rw (← e, g)
-
-  pub join-laid : {n : ℕ} → r ≡ LaidBook n → {front after : List ℕ} → front ≡ joined_bytes b c
+  pub join-laid : {n : ℕ} → r ≡ Ok n → {front after : List ℕ} → front ≡ joined_bytes b c
       → after ≡ front ++ drop (length front) out
       → record { told = success n; buffer = after } ≡ join_laid (laid_of b c (length out)) b c out
   unfolding join_laid

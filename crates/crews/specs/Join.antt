@@ -5,7 +5,7 @@
 --   told             an answer's number and values, case by case
 --   laid_of b c room  whether the joined book is within the limits and the room, and its length
 --   join_of first second out     the answer and the buffer, of the bytes of the books and of the buffer before
-use Rattle.std.specs.Prelude.{List, [], ◌∷◌, ◌++◌, ℕ, ◌+◌, length, drop}
+use Rattle.std.specs.Prelude.{List, [], ◌∷◌, ◌++◌, ℕ, ◌+◌, length, drop, Result, Ok, Err}
 use Rattle.meaning.specs.Books.{Book, count}
 use Rattle.meaning.specs.Choice.{if_lt}
 use Rattle.meaning.specs.Joined.{joined}
@@ -13,21 +13,19 @@ use Rattle.meaning.specs.Told.{Told, success, refused_with, refused, Answered}
 use Rattle.book.specs.Numbers.{number_of, place_of}
 use Rattle.book.specs.Format.{BookRead, good, bad, read_of}
 use Rattle.book.specs.Writing.{bytes_of_book}
-use Rattle.crews.specs.declared.answer.Joined.{Joined}
-use Rattle.crews.specs.declared.answer.Joined.TheVariants.{Book as JoinedBook, First, Second, TooMany, NoRoom}
-use Rattle.crews.specs.declared.lay.Laid.{Laid}
-use Rattle.crews.specs.declared.lay.Laid.TheVariants.{Book as LaidBook, TooMany as Over, NoRoom as Short}
+use Rattle.crews.specs.declared.answer.Unjoined.{Unjoined}
+use Rattle.crews.specs.declared.answer.Unjoined.TheVariants.{First, Second, TooMany, NoRoom}
 
 abbrev pub of_book : {S : Type 0} → ℕ → ℕ → ℕ → Told S
 of_book which number place = refused_with number (which ∷ (place ∷ []))
 
 -- success tells the joined book's length
-abbrev pub told : Joined → Told ℕ
-told (JoinedBook n) = success n
-told (First f) = of_book 1 (number_of f) (place_of f)
-told (Second f) = of_book 2 (number_of f) (place_of f)
-told TooMany = refused 17
-told NoRoom = refused 19
+abbrev pub told : Result ℕ Unjoined → Told ℕ
+told (Ok n) = success n
+told (Err (First f)) = of_book 1 (number_of f) (place_of f)
+told (Err (Second f)) = of_book 2 (number_of f) (place_of f)
+told (Err TooMany) = refused 17
+told (Err NoRoom) = refused 19
 
 -- nothing is written
 abbrev pub only : {S : Type 0} → List ℕ → Told S → Answered S
@@ -40,15 +38,15 @@ joined_bytes b c = bytes_of_book (joined b c)
 abbrev pub written : {S : Type 0} → Book → Book → List ℕ → S → Answered S
 written b c out s = record { told = success s; buffer = joined_bytes b c ++ drop (length (joined_bytes b c)) out }
 
-unfoldable pub laid_of : Book → Book → ℕ → Laid
+unfoldable pub laid_of : Book → Book → ℕ → Result ℕ Unjoined
 laid_of b c room =
-    if_lt 255 (b.atoms + c.atoms) Over
-    (if_lt 255 (count b + count c) Over (if_lt room (length (joined_bytes b c)) Short (LaidBook (length (joined_bytes b c)))))
+    if_lt 255 (b.atoms + c.atoms) (Err TooMany)
+    (if_lt 255 (count b + count c) (Err TooMany)
+    (if_lt room (length (joined_bytes b c)) (Err NoRoom) (Ok (length (joined_bytes b c)))))
 
-unfoldable pub join_laid : Laid → Book → Book → List ℕ → Answered ℕ
-join_laid (LaidBook n) b c out = written b c out n
-join_laid Over b c out = only out (refused 17)
-join_laid Short b c out = only out (refused 19)
+unfoldable pub join_laid : Result ℕ Unjoined → Book → Book → List ℕ → Answered ℕ
+join_laid (Ok n) b c out = written b c out n
+join_laid (Err why) b c out = only out (told (Err why))
 
 abbrev pub join_in : Book → Book → List ℕ → Answered ℕ
 join_in b c out = join_laid (laid_of b c (length out)) b c out

@@ -8,6 +8,6 @@ mod lay;
 mod one_book;
 mod one_log;
 
-pub use answer::{Joined, Logged};
+pub use answer::{Logged, Unjoined, Unlogged};
 pub use one_book::join;
 pub use one_log::log;

@@ -1,46 +1,30 @@
 // Two books joined into one.
 ghost use Rattle.std.specs.Prelude.{◌≡◌, ℕ};
 ghost use Rattle.meaning.specs.Told.{Answered};
-ghost use Rattle.book.specs.Format.{book_in, ReadAs};
+ghost use Rattle.book.specs.ReadBook.{the_book};
 ghost use Rattle.crews.specs.Join.{told, join_in, join_of};
 
-use crate::answer::Joined;
-use crate::lay::{Laid, lay_out};
-use book::{BOOK_BYTES, Read, Shape, copy_front, read_book};
+use crate::answer::Unjoined;
+use crate::lay::lay_out;
+use book::{BOOK_BYTES, ReadBook, copy_front};
 
 // The joined book of two good books.
-fn join_good<'a>(
-    first: &'a [u8],
-    shape: Shape,
-    second: &'a [u8],
-    other: Shape,
-    out: &mut [u8],
-) -> Joined
-    requires { ReadAs first.now shape × ReadAs second.now other }
+fn join_good(first: &ReadBook, second: &ReadBook, out: &mut [u8]) -> Result<usize, Unjoined>
     ensures { ◌≡◌ {A = Answered ℕ} (record { told = told result; buffer = out.new })
-        (join_in (book_in first.now) (book_in second.now) out.old) }
+        (join_in (the_book first.now) (the_book second.now) out.old) }
 {
     let mut draft = [0u8; BOOK_BYTES];
-    match lay_out(first, shape, second, other, out.len(), &mut draft) {
-        Laid::TooMany => Joined::TooMany,
-        Laid::NoRoom => Joined::NoRoom,
-        Laid::Book(n) => {
-            copy_front(&draft[0..n], out);
-            Joined::Book(n)
-        }
-    }
+    let n = lay_out(first, second, out.len(), &mut draft)?;
+    copy_front(&draft[..n], out);
+    Ok(n)
 }
 
-// Writes the joined book to the front of the buffer, or says why not.
-pub fn join<'a>(first: &'a [u8], second: &'a [u8], out: &mut [u8]) -> Joined
+// Writes the joined book to the front of the buffer, or says why not; its length.
+pub fn join(first: &[u8], second: &[u8], out: &mut [u8]) -> Result<usize, Unjoined>
     ensures { ◌≡◌ {A = Answered ℕ} (record { told = told result; buffer = out.new })
         (join_of first.now second.now out.old) }
 {
-    match read_book(first) {
-        Read::Refused(why) => Joined::First(why),
-        Read::Good(shape) => match read_book(second) {
-            Read::Refused(why) => Joined::Second(why),
-            Read::Good(other) => join_good(first, shape, second, other, out),
-        },
-    }
+    let one = ReadBook::read(first).map_err(Unjoined::First)?;
+    let two = ReadBook::read(second).map_err(Unjoined::Second)?;
+    join_good(&one, &two, out)
 }

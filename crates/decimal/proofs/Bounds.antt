@@ -5,16 +5,15 @@ use Prim.Native.Nat.{ℕ, ◌+◌, ◌*◌, ◌-◌, ◌≤◌}
 use native.Mathlib.Omega.{arith}
 use lib.ListN.{length}
 use Rattle.meaning.proofs.Choice.{lt-either, eq-either}
-use Rattle.decimal.specs.declared.Digits.{Digits}
-use Rattle.decimal.specs.declared.Digits.TheVariants.{Value, Nothing}
+use Rattle.std.specs.Prelude.{Option, Some, None}
 use Rattle.decimal.specs.Digits.{value_from, plain_of}
 
 -- nothing, or a number of at most `most`
-pub data UpTo (most : ℕ) : Digits → Type 0 where
-  value : {v : ℕ} → v ≤ most → UpTo most (Value v)
-  nothing : UpTo most Nothing
+pub data UpTo (most : ℕ) : Option ℕ → Type 0 where
+  value : {v : ℕ} → v ≤ most → UpTo most (Some v)
+  nothing : UpTo most None
 
-pub value-one : (u v : ℕ) → Value u ≡ Value v → u ≡ v
+pub value-one : (u v : ℕ) → Some u ≡ Some v → u ≡ v
 value-one u v e = cc
 
 pub value-bound : (most v : ℕ) (l : List ℕ) → v ≤ most → UpTo most (value_from most v l)
@@ -32,6 +31,6 @@ plain-bound most l =
     eq-either (UpTo most) (length l) 1 _ _ (λ _. value-bound most 0 l (omega arith)) (λ _.
     eq-either (UpTo most) _ 48 _ _ (λ _. nothing) (λ _. value-bound most 0 l (omega arith))))
 
-pub up_to : {most v : ℕ} {d : Digits} → UpTo most d → d ≡ Value v → v ≤ most
+pub up_to : {most v : ℕ} {d : Option ℕ} → UpTo most d → d ≡ Some v → v ≤ most
 up_to {v} (value {v = u} h) e = rw (← value-one u v e) h
 up_to {v} nothing e = let z : ◌≡◌ {A = ℕ} 0 1 = cc in omega arith

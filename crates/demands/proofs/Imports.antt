@@ -7,6 +7,7 @@ use mathlib.Core.List.{List, [], ◌∷◌, map, Memᴰ}
 use Prim.Native.Nat.{ℕ, ◌≤◌}
 use lib.ListN.{length, take}
 use lib.Seq.{take_at}
+use Rattle.std.specs.Prelude.{Result, Ok, Err}
 use Rattle.meaning.specs.declared.kind.Kind.{Kind}
 use Rattle.meaning.specs.declared.kind.Kind.TheVariants.{Naming, Clearing}
 use Rattle.meaning.specs.Books.{Atoms}
@@ -26,8 +27,8 @@ use Rattle.imported.proofs.Fits.{test_fits}
 use Rattle.imported.proofs.Imports.{import-sound, import-complete, back-forth, back_one, certain-imported, cleared-imported}
 use Rattle.lparse.specs.Says.{Written, text_said, Says}
 use Rattle.lparse.specs.Rows.{TooLarge}
-use Rattle.lparse.specs.declared.answer.Imported.{Imported}
-use Rattle.lparse.specs.declared.answer.Imported.TheVariants.{Book as ImportedBook, Format, Kind as OtherKind, NoFit}
+use Rattle.lparse.specs.declared.answer.Unimported.{Unimported}
+use Rattle.lparse.specs.declared.answer.Unimported.TheVariants.{Format, Kind as OtherKind, NoFit}
 use Rattle.lparse.specs.Import.{told_book, import_of}
 use Rattle.lparse.proofs.Rows.{refused-30, refused-31, refused-32, import-keeps, import-given}
 use Rattle.demands.specs.Engine.{Engine, ours}
@@ -133,24 +134,24 @@ ours-import-3-twin = import-papers Clearing our_importer ours ours-import-1 ours
 
 -- ---- the promise determines the answer and every byte
 
-abbrev imported_at : Told ℕ → Imported
-imported_at (success n) = ImportedBook n
-imported_at (refused_with i l) = NoFit
-imported_at (refused_at i at) = if_eq i 30 (Format at) (OtherKind at)
-imported_at (refused i) = NoFit
+abbrev imported_at : Told ℕ → Result ℕ Unimported
+imported_at (success n) = Ok n
+imported_at (refused_with i l) = Err NoFit
+imported_at (refused_at i at) = if_eq i 30 (Err (Format at)) (Err (OtherKind at))
+imported_at (refused i) = Err NoFit
 
-imported-again : (x : Imported) → imported_at (told_book x) ≡ x
+imported-again : (x : Result ℕ Unimported) → imported_at (told_book x) ≡ x
 unfolding if_eq ifb
-imported-again (ImportedBook n) = refl
-imported-again (Format place) = refl
-imported-again (OtherKind place) = refl
-imported-again NoFit = refl
+imported-again (Ok n) = refl
+imported-again (Err (Format place)) = refl
+imported-again (Err (OtherKind place)) = refl
+imported-again (Err NoFit) = refl
 
 module _ (text out : List ℕ) where
-  abbrev ImportPromise : Imported → List ℕ → Type 0
+  abbrev ImportPromise : Result ℕ Unimported → List ℕ → Type 0
   ImportPromise r after = ◌≡◌ {A = Answered ℕ} (record { told = told_book r; buffer = after }) (import_of text out)
 
-  pub import-determined : (r q : Imported) (after other : List ℕ) → ImportPromise r after → ImportPromise q other
+  pub import-determined : (r q : Result ℕ Unimported) (after other : List ℕ) → ImportPromise r after → ImportPromise q other
       → (r ≡ q) × (after ≡ other)
   import-determined r q after other p s =
       answered-one told_book (one_again told_book imported_at imported-again) r q after other (equal-determined p s)

@@ -12,7 +12,7 @@ use Rattle.meaning.specs.Books.{Book}
 use Rattle.meaning.specs.Claim.{Holding, Contrary}
 use Rattle.book.specs.Rows.{atom_count}
 use Rattle.book.specs.Writing.{bytes_of_book}
-use Rattle.words.specs.declared.answer.Whose.TheVariants.{Atom}
+use Rattle.std.specs.Prelude.{Some}
 use Rattle.words.specs.Words.{Word}
 use Rattle.words.specs.Names.{whose_of}
 use Rattle.words.specs.Reading.{State, book_of, names_of, says, said, words_in}
@@ -68,7 +68,7 @@ module _ {s book from to : List ℕ} (m : Making our_maker s book from to) where
         let ended : to ≡ filled (ends_of state.names) = m.stops ∙ ap (λ (x : Answer). x.to) made.given in
         λ i. whose_of s (counted i) (begun i) (ended i) w
 
-    told-name : whose_of s (atom_count book) from to w ≡ Atom a → NameOf names w a
+    told-name : whose_of s (atom_count book) from to w ≡ Some a → NameOf names w a
     told-name e =
         let g = names_apart s state made.read in
         let (below, same) = whose-named s state.names (heard-spelled s state made.read) g w a.0 (sym asked ∙ e) in
@@ -79,7 +79,7 @@ module _ {s book from to : List ℕ} (m : Making our_maker s book from to) where
           only = λ i h k. g.apart i a.0 h (omega (arith, long, below)) (k ∙ sym same);
         }
 
-    name-told : NameOf names w a → whose_of s (atom_count book) from to w ≡ Atom a
+    name-told : NameOf names w a → whose_of s (atom_count book) from to w ≡ Some a
     name-told n =
         let long = length-map state.names (λ (x : Word). x.bytes) in
         asked ∙ named-whose s state.names (heard-spelled s state made.read) (names_apart s state made.read) w a.0

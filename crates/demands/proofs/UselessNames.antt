@@ -19,7 +19,7 @@ use Rattle.book.specs.Format.{and_then as records_then}
 use Rattle.book.specs.Rows.{Bytes}
 use Rattle.book.specs.Making.{atom_if, atoms_from}
 use Rattle.book.specs.Writing.{record_bytes, records_bytes, index_bytes, trailer_bytes, bytes_of_book}
-use Rattle.words.specs.declared.answer.Whose.TheVariants.{Atom}
+use Rattle.std.specs.Prelude.{Some}
 use Rattle.words.specs.Words.{blank, parting, blanks, span, start_of, end_of, word_at, pieces_from, pieces_at}
 use Rattle.words.specs.Names.{same_bytes, first_from, number_in, is_between, place_of, whose_of}
 use Rattle.words.specs.Terms.{in_range, name_byte, spelled, plain_term, term_of}
@@ -75,10 +75,10 @@ record Computed : Type 0 where
   turned : Making backwards second_fact fact_of_two (places 7 9) (places 8 10)
   ours-made : Making our_maker second_fact other_fact (places 7 9) (places 8 10)
   said : words_in second_fact ≡ says names facts
-  asked-b : our_asker second_fact 2 (places 7 9) (places 8 10) (98 ∷ []) ≡ Atom (atom_no 0)
+  asked-b : our_asker second_fact 2 (places 7 9) (places 8 10) (98 ∷ []) ≡ Some (atom_no 0)
   again : Making takes_first twice fact_of_two (places 7 9) (places 8 10)
   unsaid : words_in twice ≡ refused 41 9
-  asked-a : our_asker twice 2 (places 7 9) (places 8 10) (97 ∷ []) ≡ Atom (atom_no 0)
+  asked-a : our_asker twice 2 (places 7 9) (places 8 10) (97 ∷ []) ≡ Some (atom_no 0)
 
 computed : Computed
 unfolding ifb if_lt if_eq every count atom_if atoms_from record_bytes records_bytes index_bytes trailer_bytes bytes_of_book blank parting blanks span start_of

@@ -11,7 +11,7 @@
 --   NamesSound q m ask e     accepted for the atom told of a name means that the text's rules make the atom of that name certain, or clear
 --   NoneSound m check        accepted without an atom means that the text's rules have no reading
 --   DemandNames m ask e      all of it, and that every text is made or refused, and every name told
-use Rattle.std.specs.Prelude.{◌≡◌, ◌↔◌, List, [], ◌++◌, ℕ, ◌<◌, ◌≤◌, length, get_or, take, drop}
+use Rattle.std.specs.Prelude.{◌≡◌, ◌↔◌, List, [], ◌++◌, ℕ, ◌<◌, ◌≤◌, length, get_or, take, drop, Option, Some}
 use Rattle.meaning.specs.declared.AtomNo.{AtomNo}
 use Rattle.meaning.specs.declared.kind.Kind.{Kind}
 use Rattle.meaning.specs.Books.{Rule}
@@ -20,8 +20,6 @@ use Rattle.meaning.specs.Told.{success, refused_at, refused}
 use Rattle.book.specs.Rows.{atom_count}
 use Rattle.book.specs.Writing.{bytes_of_book}
 use Rattle.checker.specs.Numbers.{accepted, no_reading}
-use Rattle.words.specs.declared.answer.Whose.{Whose}
-use Rattle.words.specs.declared.answer.Whose.TheVariants.{Atom}
 use Rattle.words.specs.Names.{whose_of}
 use Rattle.words.specs.Reading.{says, words_in}
 use Rattle.words.specs.Make.{Answer, only, make_of}
@@ -33,7 +31,7 @@ abbrev pub Maker : Type 0
 Maker = List ℕ → List ℕ → List ℕ → List ℕ → Answer
 
 abbrev pub Asker : Type 0
-Asker = List ℕ → ℕ → List ℕ → List ℕ → List ℕ → Whose
+Asker = List ℕ → ℕ → List ℕ → List ℕ → List ℕ → Option AtomNo
 
 abbrev pub our_maker : Maker
 our_maker = make_of
@@ -60,7 +58,7 @@ pub record NameOf (l : List (List ℕ)) (w : List ℕ) (a : AtomNo) : Type 0 whe
 -- whoever wrote the paper; the atoms are counted as the book counts them
 abbrev pub NamesSound : Kind → Maker → Asker → Engine → Type 0
 NamesSound q m ask e = (s book from to : List ℕ) → Making m s book from to → (w : List ℕ) (a : AtomNo)
-    → ask s (atom_count book) from to w ≡ Atom a → (paper : List ℕ) → e.check book paper ≡ accepted q a
+    → ask s (atom_count book) from to w ≡ Some a → (paper : List ℕ) → e.check book paper ≡ accepted q a
     → (l : List (List ℕ)) × (rs : List Rule) × (words_in s ≡ says l rs) × NameOf l w a × Holding q (book_said l rs) a
 
 abbrev pub NoneSound : Maker → Checker → Type 0
@@ -77,7 +75,7 @@ MakesSaid m = (s out from to : List ℕ) (l : List (List ℕ)) (rs : List Rule) 
 -- a word is told with an atom exactly if it is its name
 abbrev pub TellsNames : Maker → Asker → Type 0
 TellsNames m ask = (s book from to : List ℕ) → Making m s book from to → (l : List (List ℕ)) (rs : List Rule) → words_in s ≡ says l rs
-    → (w : List ℕ) (a : AtomNo) → (ask s (atom_count book) from to w ≡ Atom a) ↔ NameOf l w a
+    → (w : List ℕ) (a : AtomNo) → (ask s (atom_count book) from to w ≡ Some a) ↔ NameOf l w a
 
 pub record DemandNames (m : Maker) (ask : Asker) (e : Engine) : Type 0 where
   pub sound : (q : Kind) → NamesSound q m ask e

@@ -2,18 +2,17 @@
 --
 --   backwards        numbers the names from the last one on; the places of the names are told as ours are
 --   takes_first       takes a name that is listed again for one more name, and the first of the two for a word that is both
-use Rattle.std.specs.Prelude.{List, [], ◌∷◌, map, reverse, ℕ, ◌-◌, length}
+use Rattle.std.specs.Prelude.{List, [], ◌∷◌, map, reverse, ℕ, ◌-◌, length, Ok, Err}
 use Rattle.meaning.specs.declared.AtomNo.{AtomNo}
 use Rattle.meaning.specs.Books.{atom_no, Rule}
 use Rattle.meaning.specs.Choice.{ifb}
 use Rattle.words.specs.declared.due.Due.{Due}
 use Rattle.words.specs.declared.due.Due.TheVariants.{Listing}
 use Rattle.words.specs.declared.decision.Act.TheVariants.{Note}
-use Rattle.words.specs.declared.decision.Decision.{Decision}
-use Rattle.words.specs.declared.decision.Decision.TheVariants.{Goes, Form, Name, TooMany}
+use Rattle.words.specs.declared.decision.Misplaced.TheVariants.{Form, Name, TooMany}
 use Rattle.words.specs.Words.{Piece, word, line, pieces}
 use Rattle.words.specs.Moves.{is_due, ended_of}
-use Rattle.words.specs.Reading.{State, Outcome, goes, wrong, on_decision, decision_of, on_ended, and_then, heard, start}
+use Rattle.words.specs.Reading.{State, Decision, Outcome, goes, wrong, on_decision, decision_of, on_ended, and_then, heard, start}
 use Rattle.words.specs.Make.{make_heard}
 use Rattle.demands.specs.DemandNames.{Maker}
 
@@ -49,10 +48,10 @@ second_fact = 97 ∷ 116 ∷ 111 ∷ 109 ∷ 115 ∷ 58 ∷ 32 ∷ 98 ∷ 32 ∷
 -- ---- a name listed twice
 
 unfoldable pub listed_again : Due → Decision → Decision
-listed_again due (Goes next act) = Goes next act
-listed_again due Form = Form
-listed_again due Name = ifb (is_due due Listing) (Goes Listing Note) Name
-listed_again due TooMany = TooMany
+listed_again due (Ok (next, act)) = Ok (next, act)
+listed_again due (Err Form) = Err Form
+listed_again due (Err Name) = ifb (is_due due Listing) (Ok (Listing, Note)) (Err Name)
+listed_again due (Err TooMany) = Err TooMany
 
 unfoldable pub piece_again : Piece → State → Outcome
 piece_again (word w) s = on_decision (listed_again s.due (decision_of w.bytes s)) w s

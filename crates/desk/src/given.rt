@@ -1,51 +1,39 @@
 // The words ROOM and BYTES, which several commands take, and bytes that were made, as an answer.
+ghost use Rattle.std.specs.Prelude.{IfSome};
 ghost use Rattle.system.specs.Counts.{IsPrefixLen};
 
-use talk::{Number, first_word, other_words, put_bytes, put_text, read_bytes, read_number};
+use talk::{Line, first_word, other_words, read_bytes, read_number};
 
-// Whether the words are right, and what they say: ROOM, and how many bytes there are.
+// What the words say: ROOM, and how many bytes there are.
 #[derive(Clone, Copy)]
 pub struct Given {
-    pub good: bool,
     pub size: usize,
     pub count: usize,
 }
 
-impl Given {
-    const NOTHING: Given = Given {
-        good: false,
-        size: 0,
-        count: 0,
-    };
-}
-
-// Reads ROOM, and the bytes into their buffer from byte 0 on.
-pub fn read_given(words: &[u8], bytes: &mut [u8], room: &[u8]) -> Given
-    ensures { IsPrefixLen result.count bytes.new
-        × IsPrefixLen result.size room.now }
+// The number that the first word says, where there is that much room.
+pub fn read_size(words: &[u8], room: &[u8]) -> Option<usize>
+    ensures { IfSome result (λ size. IsPrefixLen size room.now) }
 {
-    let Number::Value(asked) = read_number(first_word(words)) else {
-        return Given::NOTHING;
-    };
-    let size = asked as usize;
+    let size = read_number(first_word(words))? as usize;
     if room.len() < size {
-        return Given::NOTHING;
+        return None;
     }
-    let decoded = read_bytes(other_words(words), bytes);
-    if !decoded.good {
-        return Given::NOTHING;
-    }
-    Given {
-        good: true,
-        size,
-        count: decoded.count,
-    }
+    Some(size)
 }
 
-// A word and the bytes behind it, at the start of out.
-pub fn put_made(word: &[u8], bytes: &[u8], out: &mut [u8]) -> usize
-    ensures { IsPrefixLen result out.new }
+// Reads ROOM, and the bytes into their buffer from byte 0 on; none where the words are not right.
+pub fn read_given(words: &[u8], bytes: &mut [u8], room: &[u8]) -> Option<Given>
+    ensures { IfSome result (λ it. IsPrefixLen it.count bytes.new
+        × IsPrefixLen it.size room.now) }
 {
-    let held = put_text(word, out, 0);
-    put_bytes(bytes, out, held)
+    let size = read_size(words, room)?;
+    let count = read_bytes(other_words(words), bytes)?;
+    Some(Given { size, count })
+}
+
+// A word and the bytes behind it.
+pub fn put_made(word: &[u8], bytes: &[u8], out: &mut Line) {
+    out.text(word);
+    out.bytes(bytes);
 }

@@ -7,6 +7,7 @@
 
 use system::arg_count;
 
+mod buffers;
 mod call;
 mod fewer;
 mod find;
@@ -38,5 +39,11 @@ fn main(rt: HostRuntime) {
     let mut room = [0u8; 65536];
     // The longest answer but `readings` has `paper`, two numbers and the digits of all of the room.
     let mut out = [0u8; 131200];
-    input::answer_all(&rt, &mut line, &mut book, &mut other, &mut room, &mut out);
+    let mut buffers = buffers::Buffers {
+        book: &mut book,
+        other: &mut other,
+        room: &mut room,
+        out: &mut out,
+    };
+    input::answer_all(&rt, &mut line, &mut buffers);
 }

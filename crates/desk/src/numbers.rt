@@ -1,14 +1,16 @@
-// A word and two numbers, as several answers have them.
-ghost use Rattle.system.specs.Counts.{IsPrefixLen};
+// A word and one number or two, as several answers have them.
+use talk::Line;
 
-use talk::{put_number, put_text};
+// The word, which ends in a space, and the two numbers.
+pub fn put_two(word: &[u8], first: u64, second: u64, out: &mut Line) {
+    out.text(word);
+    out.number(first);
+    out.text(b" ");
+    out.number(second);
+}
 
-// The word, which ends in a space, and the two numbers, at the start of out.
-pub fn put_two(word: &[u8], first: u64, second: u64, out: &mut [u8]) -> usize
-    ensures { IsPrefixLen result out.new }
-{
-    let held = put_text(word, out, 0);
-    let held = put_number(first, out, held);
-    let held = put_text(b" ", out, held);
-    put_number(second, out, held)
+// `limit L`: more than this many tries are needed.
+pub fn put_limit(tries: u32, out: &mut Line) {
+    out.text(b"limit ");
+    out.number(tries as u64);
 }

@@ -4,12 +4,10 @@ use talk::{print, read_bytes};
 
 // Answers the command, or that its words are not right.
 pub fn answer_readings(rt: &impl Print, words: &[u8], book: &mut [u8]) {
-    let decoded = read_bytes(words, book);
-    if !decoded.good {
+    let Some(n) = read_bytes(words, book) else {
         print(rt, b"bad line\n");
         return;
-    }
-    let n = decoded.count;
+    };
     list(rt, &book[..n], b'|', b"");
     print(rt, b"\n");
 }

@@ -1,296 +1,103 @@
 // Why a step may be made: by which rule an atom holds, or which rules it has lost. Reasons say what
 // the checker has found to be so; which rules they name is tested, not proved.
-ghost use Rattle.std.specs.Prelude.{◌<◌, ◌≤◌};
-ghost use Rattle.book.specs.Format.{ReadAs};
-ghost use Rattle.system.specs.Counts.{IsPrefixLen};
+ghost use Rattle.std.specs.Prelude.{◌<◌};
 
-use book::{Shape, head, negatives, positives};
+use crate::paper::Paper;
+use book::ReadBook;
 use checker::{is_head, is_lost};
-use meaning::{AtomNo, RuleNo, has};
-use talk::{put_number, put_subject, put_text};
+use meaning::{AtomNo, Bits, RuleNo};
+use talk::{Line, count_rules, put_subject};
 
-// The lowest rule of the set with the atom as head; R where there is none.
-fn lowest_of(book: &[u8], shape: Shape, a: AtomNo, set: &[u64; 4]) -> u8
-    requires { ReadAs book.now shape }
-{
-    let mut r: u8 = 0;
-    while r < shape.rules {
-        if has(set, r) {
-            if head(book, shape, RuleNo(r)).0 == a.0 {
-                return r;
-            }
+// The lowest rule of the set with the atom as head; R where there is none: it is only printed, and R is
+// printed then.
+fn lowest_of(book: &ReadBook, a: AtomNo, set: &Bits) -> u8 {
+    for r in 0..book.shape.rules {
+        if set.has(r) && book.head(RuleNo(r)) == a {
+            return r;
         }
-        r += 1;
     }
-    r
+    book.shape.rules
 }
 
 // That the atom holds, and by which of the on rules.
-pub fn put_held(
-    book: &[u8],
-    shape: Shape,
-    names: &[u8],
-    a: AtomNo,
-    on: &[u64; 4],
-    line: &mut [u8],
-    held: usize,
-) -> usize
-    requires { ReadAs book.now shape × IsPrefixLen held line.old }
-    ensures { IsPrefixLen result line.new }
-{
-    let r = lowest_of(book, shape, a, on);
-    let held = put_subject(names, a.0, line, held);
-    let held = put_text(b" holds by rule ", line, held);
-    put_number(r as u64, line, held)
+pub fn put_held(paper: &Paper, a: AtomNo, on: &Bits, line: &mut Line) {
+    put_subject(paper.names, a.0, line);
+    line.text(b" holds by rule ");
+    line.number(lowest_of(&paper.book, a, on) as u64);
 }
 
-// The rule's number, behind a comma where it is not the first, if the atom is its head.
-fn put_headed(
-    book: &[u8],
-    shape: Shape,
-    a: AtomNo,
-    r: RuleNo,
-    is_first: bool,
-    line: &mut [u8],
-    held: usize,
-) -> usize
-    requires { ReadAs book.now shape × (r.0 < shape.rules) × IsPrefixLen held line.old }
-    ensures { IsPrefixLen result line.new }
-{
-    if head(book, shape, r).0 != a.0 {
-        return held;
+// The numbers of the rules with the atom as head, each behind a comma where it is not the first.
+fn put_rules_of(book: &ReadBook, a: AtomNo, line: &mut Line) {
+    let mut joint: &[u8] = b"";
+    for r in 0..book.shape.rules {
+        if book.head(RuleNo(r)) == a {
+            line.text(joint);
+            line.number(r as u64);
+            joint = b", ";
+        }
     }
-    if is_first {
-        return put_number(r.0 as u64, line, held);
-    }
-    let held = put_text(b", ", line, held);
-    put_number(r.0 as u64, line, held)
-}
-
-// The numbers of the rules with the atom as head.
-fn put_rules_of(book: &[u8], shape: Shape, a: AtomNo, line: &mut [u8], held: usize) -> usize
-    requires { ReadAs book.now shape × IsPrefixLen held line.old }
-    ensures { IsPrefixLen result line.new }
-{
-    let mut end = held;
-    let mut r: u8 = 0;
-    while r < shape.rules {
-        end = put_headed(book, shape, a, RuleNo(r), end == held, line, end);
-        r += 1;
-    }
-    end
-}
-
-// 1 where the atom is the rule's head, otherwise 0.
-fn one_if_head(book: &[u8], shape: Shape, a: AtomNo, r: RuleNo) -> u8
-    requires { ReadAs book.now shape × (r.0 < shape.rules) }
-    ensures { result ≤ 1 }
-{
-    if head(book, shape, r).0 == a.0 {
-        return 1;
-    }
-    0
-}
-
-// How many rules have the atom as head.
-fn count_rules(book: &[u8], shape: Shape, a: AtomNo) -> u8
-    requires { ReadAs book.now shape }
-{
-    let mut n: u8 = 0;
-    let mut r: u8 = 0;
-    while r < shape.rules {
-        n += one_if_head(book, shape, a, RuleNo(r));
-        r += 1;
-    }
-    n
 }
 
 // That so many rules are off, or that the step's own list puts them off.
-fn put_off(count: u8, is_listing: bool, line: &mut [u8], held: usize) -> usize
-    requires { IsPrefixLen held line.old }
-    ensures { IsPrefixLen result line.new }
-{
-    if is_listing {
-        if count == 1 {
-            return put_text(b" is off or goes off here", line, held);
-        }
-        return put_text(b" are off or go off here", line, held);
-    }
-    if count == 1 {
-        return put_text(b" is off", line, held);
-    }
-    put_text(b" are off", line, held)
+fn put_off(count: usize, is_listing: bool, line: &mut Line) {
+    line.text(match (is_listing, count) {
+        (true, 1) => b" is off or goes off here".as_slice(),
+        (true, _) => b" are off or go off here".as_slice(),
+        (false, 1) => b" is off".as_slice(),
+        (false, _) => b" are off".as_slice(),
+    });
 }
 
 // That the atom is left without a rule, and which rules it had.
-pub fn put_left(
-    book: &[u8],
-    shape: Shape,
-    names: &[u8],
-    a: AtomNo,
-    is_listing: bool,
-    line: &mut [u8],
-    held: usize,
-) -> usize
-    requires { ReadAs book.now shape × IsPrefixLen held line.old }
-    ensures { IsPrefixLen result line.new }
-{
-    let count = count_rules(book, shape, a);
-    let held = put_subject(names, a.0, line, held);
+pub fn put_left(paper: &Paper, a: AtomNo, is_listing: bool, line: &mut Line) {
+    let count = count_rules(&paper.book, a);
+    put_subject(paper.names, a.0, line);
     if count == 0 {
-        return put_text(b" has no rule", line, held);
+        line.text(b" has no rule");
+        return;
     }
-    let held = put_text(b" is left without a rule: ", line, held);
-    let held = put_rules_of(book, shape, a, line, held);
-    put_off(count, is_listing, line, held)
+    line.text(b" is left without a rule: ");
+    put_rules_of(&paper.book, a, line);
+    put_off(count, is_listing, line);
 }
 
-// A colon before the first reason, a semicolon before every other.
-fn put_joint(is_first: bool, line: &mut [u8], held: usize) -> usize
-    requires { IsPrefixLen held line.old }
-    ensures { IsPrefixLen result line.new }
+// Why a rule goes on: each positive atom holds, and each negative one is left without a rule. A colon
+// stands before the first reason, a semicolon before every other.
+pub fn put_why_on(paper: &Paper, r: RuleNo, on: &Bits, line: &mut Line)
+    requires { r.0 < paper.now.book.shape.rules }
 {
-    if is_first {
-        return put_text(b": ", line, held);
+    let mut joint: &[u8] = b": ";
+    for a in paper.book.positives(r) {
+        line.text(joint);
+        put_held(paper, AtomNo(*a), on, line);
+        joint = b"; ";
     }
-    put_text(b"; ", line, held)
-}
-
-// That each atom of the part holds; they are the first reasons.
-fn put_all_held(
-    book: &[u8],
-    shape: Shape,
-    names: &[u8],
-    part: &[u8],
-    on: &[u64; 4],
-    line: &mut [u8],
-    held: usize,
-) -> usize
-    requires { ReadAs book.now shape × IsPrefixLen held line.old }
-    ensures { IsPrefixLen result line.new }
-{
-    let mut end = held;
-    let mut i = 0;
-    while i < part.len() {
-        end = put_joint(i == 0, line, end);
-        end = put_held(book, shape, names, AtomNo(part[i]), on, line, end);
-        i += 1;
+    for a in paper.book.negatives(r) {
+        line.text(joint);
+        put_left(paper, AtomNo(*a), false, line);
+        joint = b"; ";
     }
-    end
-}
-
-// That each atom of the part is left without a rule; `is_first` tells whether reasons start here.
-fn put_all_left(
-    book: &[u8],
-    shape: Shape,
-    names: &[u8],
-    part: &[u8],
-    is_first: bool,
-    line: &mut [u8],
-    held: usize,
-) -> usize
-    requires { ReadAs book.now shape × IsPrefixLen held line.old }
-    ensures { IsPrefixLen result line.new }
-{
-    let mut end = held;
-    let mut i = 0;
-    while i < part.len() {
-        end = put_joint(is_first && i == 0, line, end);
-        end = put_left(book, shape, names, AtomNo(part[i]), false, line, end);
-        i += 1;
-    }
-    end
-}
-
-// Why a rule goes on: each positive atom holds, and each negative one is left without a rule.
-pub fn put_why_on(
-    book: &[u8],
-    shape: Shape,
-    names: &[u8],
-    r: RuleNo,
-    on: &[u64; 4],
-    line: &mut [u8],
-    held: usize,
-) -> usize
-    requires { ReadAs book.now shape × (r.0 < shape.rules) × IsPrefixLen held line.old }
-    ensures { IsPrefixLen result line.new }
-{
-    let body = positives(book, shape, r);
-    let held = put_all_held(book, shape, names, body, on, line, held);
-    let others = negatives(book, shape, r);
-    put_all_left(book, shape, names, others, body.len() == 0, line, held)
-}
-
-// The place of the first atom of the part that is the head of an on rule; the part's length where
-// there is none.
-fn first_held(book: &[u8], shape: Shape, part: &[u8], on: &[u64; 4]) -> usize
-    requires { ReadAs book.now shape }
-{
-    let mut i = 0;
-    while i < part.len() {
-        if is_head(book, shape, AtomNo(part[i]), on) {
-            return i;
-        }
-        i += 1;
-    }
-    i
 }
 
 // Why a rule goes off, where a negative atom holds: the first that does.
-pub fn put_blocked(
-    book: &[u8],
-    shape: Shape,
-    names: &[u8],
-    r: RuleNo,
-    on: &[u64; 4],
-    line: &mut [u8],
-    held: usize,
-) -> usize
-    requires { ReadAs book.now shape × (r.0 < shape.rules) × IsPrefixLen held line.old }
-    ensures { IsPrefixLen result line.new }
+pub fn put_blocked(paper: &Paper, r: RuleNo, on: &Bits, line: &mut Line)
+    requires { r.0 < paper.now.book.shape.rules }
 {
-    let part = negatives(book, shape, r);
-    let i = first_held(book, shape, part, on);
-    if part.len() <= i {
-        return held;
+    let mut atoms = paper.book.negatives(r).iter().map(|a| AtomNo(*a));
+    if let Some(a) = atoms.find(|a| is_head(&paper.book, *a, on)) {
+        put_held(paper, a, on, line);
     }
-    put_held(book, shape, names, AtomNo(part[i]), on, line, held)
 }
 
-// The place of the first atom of the part all of whose rules are gone; the part's length where
-// there is none.
-fn first_lost(book: &[u8], shape: Shape, part: &[u8], gone: &[u64; 4]) -> usize
-    requires { ReadAs book.now shape }
+// Why a rule goes off, where a positive atom is left without a rule: the first that is. Gives whether
+// there is one. `gone` has the rules that are off and those that a step lists.
+pub fn put_starved(paper: &Paper, r: RuleNo, gone: &Bits, is_listing: bool, line: &mut Line) -> bool
+    requires { r.0 < paper.now.book.shape.rules }
 {
-    let mut i = 0;
-    while i < part.len() {
-        if is_lost(book, shape, AtomNo(part[i]), gone) {
-            return i;
-        }
-        i += 1;
-    }
-    i
-}
-
-// Why a rule goes off, where a positive atom is left without a rule: the first that is. `gone` has
-// the rules that are off and those that a step lists.
-pub fn put_starved(
-    book: &[u8],
-    shape: Shape,
-    names: &[u8],
-    r: RuleNo,
-    gone: &[u64; 4],
-    is_listing: bool,
-    line: &mut [u8],
-    held: usize,
-) -> usize
-    requires { ReadAs book.now shape × (r.0 < shape.rules) × IsPrefixLen held line.old }
-    ensures { IsPrefixLen result line.new }
-{
-    let part = positives(book, shape, r);
-    let i = first_lost(book, shape, part, gone);
-    if part.len() <= i {
-        return held;
-    }
-    put_left(book, shape, names, AtomNo(part[i]), is_listing, line, held)
+    let mut atoms = paper.book.positives(r).iter().map(|a| AtomNo(*a));
+    let Some(a) = atoms.find(|a| is_lost(&paper.book, *a, gone)) else {
+        return false;
+    };
+    put_left(paper, a, is_listing, line);
+    true
 }

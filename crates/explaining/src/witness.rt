@@ -1,193 +1,104 @@
 // The witness of a paper, told where it is right: its reading, each listed rule with those listed
 // before it, and why each other rule fails. The listed rules are on, all others off, so that the
 // reasons are those of steps.
-ghost use Rattle.std.specs.Prelude.{◌≡◌, ◌+◌, ◌<◌, ◌≤◌, length};
-ghost use Rattle.meaning.specs.Paper.{paper_bytes};
-ghost use Rattle.book.specs.Format.{ReadAs};
+ghost use Rattle.std.specs.Prelude.{◌+◌, ◌<◌, length};
 ghost use Rattle.book.specs.Tables.{Below};
-ghost use Rattle.system.specs.Counts.{IsPrefixLen};
 
 use crate::lines::{LINE_ROOM, end_line, put_about, put_start};
+use crate::paper::Paper;
 use crate::reasons::{put_blocked, put_starved};
 use crate::tell::tell_on;
-use book::{Shape, heads_of, wide};
-use checker::{Trailer, Verdict, check_witness, with_rules};
-use meaning::{Bits, Claim, Colouring, RuleNo, has, put};
-use talk::{put_subject, put_text};
+use checker::{check_witness, with_rules};
+use meaning::{Bits, Claim, Colouring, RuleNo};
+use talk::{Line, put_subject};
 
-// The atom, behind a comma where it is not the first, if it is in the reading.
-fn put_member(
-    names: &[u8],
-    a: u8,
-    is_member: bool,
-    is_first: bool,
-    line: &mut [u8],
-    held: usize,
-) -> usize
-    requires { IsPrefixLen held line.old }
-    ensures { IsPrefixLen result line.new }
-{
-    if !is_member {
-        return held;
+// The atoms that the table has, each behind a comma where it is not the first, or that there is none.
+fn put_members(names: &[u8], headed: &[bool], line: &mut Line) {
+    if !headed.contains(&true) {
+        line.text(b"no atom");
     }
-    if is_first {
-        return put_subject(names, a, line, held);
+    let mut joint: &[u8] = b"";
+    for (a, is_member) in (0..255u8).zip(headed) {
+        if *is_member {
+            line.text(joint);
+            put_subject(names, a, line);
+            joint = b", ";
+        }
     }
-    let held = put_text(b", ", line, held);
-    put_subject(names, a, line, held)
-}
-
-// The atoms below `atoms` that the table has.
-fn put_members(
-    names: &[u8],
-    atoms: u8,
-    headed: &[bool; Colouring::ATOMS],
-    line: &mut [u8],
-    held: usize,
-) -> usize
-    requires { IsPrefixLen held line.old }
-    ensures { IsPrefixLen result line.new }
-{
-    let mut end = held;
-    let mut a: u8 = 0;
-    while a < atoms {
-        end = put_member(names, a, headed[wide(a)], end == held, line, end);
-        a += 1;
-    }
-    end
 }
 
 // The reading: the heads of the listed rules. The line has room for 255 names.
-fn tell_reading(rt: &impl Print, book: &[u8], shape: Shape, names: &[u8], at: usize, on: &[u64; 4])
-    requires { ReadAs book.now shape }
-{
+fn tell_reading(rt: &impl Print, paper: &Paper, on: &Bits) {
     let mut headed = [false; Colouring::ATOMS];
-    heads_of(book, shape, on, &mut headed);
-    let mut line = [0u8; 73728];
-    let held = put_start(0, at, &mut line);
-    let held = put_text(b"the witness: a reading with ", &mut line, held);
-    let end = put_members(names, shape.atoms, &headed, &mut line, held);
-    if end == held {
-        let end = put_text(b"no atom", &mut line, end);
-        end_line(rt, &mut line, end);
-        return;
-    }
-    end_line(rt, &mut line, end);
+    paper.book.heads_of(on, &mut headed);
+    let atoms = paper.book.shape.atoms as usize;
+    let mut room = [0u8; 73728];
+    let mut line = Line::new(&mut room);
+    put_start(0, paper.trailer.from, &mut line);
+    line.text(b"the witness: a reading with ");
+    put_members(paper.names, &headed[..atoms], &mut line);
+    end_line(rt, &mut line);
 }
 
-// Each listed rule, with the rules listed before it on.
-fn tell_listed(rt: &impl Print, book: &[u8], shape: Shape, names: &[u8], from: usize, list: &[u8])
-    requires { ReadAs book.now shape × Below shape.rules list.now
+// Each listed rule, with the rules listed before it on. The list starts at byte `from`.
+fn tell_listed(rt: &impl Print, paper: &Paper, from: usize, list: &[u8])
+    requires { Below paper.now.book.shape.rules list.now
         × (from + length list.now < 65536) }
 {
-    let mut before = [0u64; 4];
-    let mut i = 0;
-    while i < list.len() {
-        let n = list[i];
-        tell_on(rt, book, shape, names, 0, from + i, RuleNo(n), &before);
-        put(&mut before, n);
-        i += 1;
+    let mut before = Bits::EMPTY;
+    for (i, r) in list.iter().enumerate() {
+        tell_on(rt, paper, 0, from + i, RuleNo(*r), &before);
+        before.put(*r);
     }
 }
 
-// A rule that is not listed, and why it fails; nothing of one that is.
-fn tell_other<'a>(
-    rt: &impl Print,
-    book: &[u8],
-    shape: Shape,
-    names: &[u8],
-    at: usize,
-    r: RuleNo,
-    on: &'a [u64; 4],
-    off: &'a [u64; 4],
-)
-    requires { ReadAs book.now shape × (r.0 < shape.rules) }
+// A rule that is not listed, and why it fails.
+fn tell_other<'a>(rt: &impl Print, paper: &Paper, at: usize, r: RuleNo, on: &'a Bits, off: &'a Bits)
+    requires { r.0 < paper.now.book.shape.rules }
 {
-    if has(on, r.0) {
-        return;
+    let mut room = [0u8; LINE_ROOM];
+    let mut line = Line::new(&mut room);
+    put_about(paper, 0, at, r, b" off: ", &mut line);
+    line.text(b": ");
+    if !put_starved(paper, r, off, false, &mut line) {
+        put_blocked(paper, r, on, &mut line);
     }
-    let mut line = [0u8; LINE_ROOM];
-    let held = put_about(book, shape, names, 0, at, r, b" off: ", &mut line);
-    let held = put_text(b": ", &mut line, held);
-    let end = put_starved(book, shape, names, r, off, false, &mut line, held);
-    if end == held {
-        let end = put_blocked(book, shape, names, r, on, &mut line, end);
-        end_line(rt, &mut line, end);
-        return;
-    }
-    end_line(rt, &mut line, end);
+    end_line(rt, &mut line);
 }
 
 // Every rule that is not listed.
-fn tell_others<'a>(
-    rt: &impl Print,
-    book: &[u8],
-    shape: Shape,
-    names: &[u8],
-    at: usize,
-    on: &'a [u64; 4],
-    off: &'a [u64; 4],
-)
-    requires { ReadAs book.now shape }
-{
-    let mut r: u8 = 0;
-    while r < shape.rules {
-        tell_other(rt, book, shape, names, at, RuleNo(r), on, off);
-        r += 1;
+fn tell_others<'a>(rt: &impl Print, paper: &Paper, at: usize, on: &'a Bits, off: &'a Bits) {
+    for r in 0..paper.book.shape.rules {
+        if !on.has(r) {
+            tell_other(rt, paper, at, RuleNo(r), on, off);
+        }
     }
 }
 
 // The witness that lists these rules from byte `from` on.
-fn tell_witness(rt: &impl Print, book: &[u8], shape: Shape, names: &[u8], from: usize, list: &[u8])
-    requires { ReadAs book.now shape × Below shape.rules list.now
+fn tell_witness(rt: &impl Print, paper: &Paper, from: usize, list: &[u8])
+    requires { Below paper.now.book.shape.rules list.now
         × (from + length list.now < 65536) }
 {
-    let all = with_rules(Bits::empty(), list);
-    let rest = Bits::below(shape.rules).difference(all);
-    let on = all.w;
-    let off = rest.w;
-    tell_reading(rt, book, shape, names, from, &on);
-    tell_listed(rt, book, shape, names, from, list);
-    tell_others(rt, book, shape, names, from + list.len(), &on, &off);
+    let on = with_rules(Bits::empty(), list);
+    let off = Bits::below(paper.book.shape.rules).difference(on);
+    tell_reading(rt, paper, &on);
+    tell_listed(rt, paper, from, list);
+    tell_others(rt, paper, from + list.len(), &on, &off);
 }
 
 // The witness of a claim about an atom, where the checker finds it right.
-fn explain_witness(
-    rt: &impl Print,
-    book: &[u8],
-    shape: Shape,
-    names: &[u8],
-    paper: &[u8],
-    trailer: Trailer,
-)
-    requires { ReadAs book.now shape
-        × (trailer.from + trailer.count + 6 ≡ length paper.now)
-        × (length paper.now ≤ paper_bytes) }
-{
-    let from = trailer.from;
-    let end = from + trailer.count;
-    match check_witness(book, shape, paper, trailer) {
-        Verdict::Right => tell_witness(rt, book, shape, names, from, &paper[from..end]),
-        Verdict::Wrong(_) => {}
+fn explain_witness(rt: &impl Print, paper: &Paper) {
+    let from = paper.trailer.from;
+    let end = from + paper.trailer.count;
+    if let Ok(()) = check_witness(&paper.book, paper.bytes, paper.trailer) {
+        tell_witness(rt, paper, from, &paper.bytes[from..end]);
     }
 }
 
 // What stands behind the steps: a witness; nothing where the claim is that there is no reading.
-pub fn explain_grounds(
-    rt: &impl Print,
-    book: &[u8],
-    shape: Shape,
-    names: &[u8],
-    paper: &[u8],
-    trailer: Trailer,
-)
-    requires { ReadAs book.now shape
-        × (trailer.from + trailer.count + 6 ≡ length paper.now)
-        × (length paper.now ≤ paper_bytes) }
-{
-    let claim = trailer.claim;
-    match claim {
-        Claim::About(_, _) => explain_witness(rt, book, shape, names, paper, trailer),
-        Claim::NoReading => {}
+pub fn explain_grounds(rt: &impl Print, paper: &Paper) {
+    if let Claim::About(_, _) = paper.trailer.claim {
+        explain_witness(rt, paper);
     }
 }

@@ -7,7 +7,7 @@
 //     exporting --text TEXTFILE
 #![tactic(auto)]
 
-use aspif::{Exported, TEXT_ROOM, export};
+use aspif::{TEXT_ROOM, Unexported, export};
 use calling::{open_book, shift};
 use system::arg_count;
 use talk::{BOOK_ROOM, NAMES_ROOM, explain_book, first_bytes, print};
@@ -16,9 +16,9 @@ use talk::{BOOK_ROOM, NAMES_ROOM, explain_book, first_bytes, print};
 fn print_text(rt: &impl Print, book: &[u8]) {
     let mut text = [0u8; TEXT_ROOM];
     match export(book, &mut text) {
-        Exported::Text(n) => print(rt, first_bytes(&text, n)),
-        Exported::Book(why) => explain_book(rt, why, book),
-        Exported::NoRoom => print(rt, b""),
+        Ok(n) => print(rt, first_bytes(&text, n)),
+        Err(Unexported::Book(why)) => explain_book(rt, why, book),
+        Err(Unexported::NoRoom) => {}
     }
 }
 
@@ -26,9 +26,8 @@ fn main(rt: HostRuntime) {
     let mut book = [0u8; BOOK_ROOM];
     let mut names = [0u8; NAMES_ROOM];
     let is_right = arg_count(&rt) == 2 + shift(&rt);
-    let opened = open_book(&rt, is_right, b"exporting BOOKFILE", &mut book, &mut names);
-    if opened.good {
-        let n = opened.count;
-        print_text(&rt, &book[..n]);
+    let usage = b"exporting BOOKFILE";
+    if let Some(opened) = open_book(&rt, is_right, usage, &mut book, &mut names) {
+        print_text(&rt, opened.book);
     }
 }

@@ -2,74 +2,22 @@
 // claim. Other papers do only where the call says `--replace`, and what is no paper never does: a
 // slip in a file's name must not cost anybody a file, nor put one name in place of another, nor a
 // name in place of a clearance.
-use checker::{Checked, check};
+use checker::{Rejected, check};
 use meaning::{Claim, Kind};
 use talk::complain;
 
-// Whether the bytes are no paper, whatever the book: their length, their mark or their trailer.
-fn is_no_paper(answer: Checked) -> bool {
-    match answer {
-        Checked::Length => true,
-        Checked::Mark(_) => true,
-        Checked::Trailer(_) => true,
-        _ => false,
-    }
-}
-
-// Says in a line why a paper stays, which is no paper for the claim.
-fn complain_of_paper(rt: &impl Print, path: &[u8], answer: Checked) {
-    match answer {
-        Checked::Accepted(_) => complain(
-            rt,
-            path,
-            b"it is a paper for another claim; see --replace",
-        ),
-        _ => complain(
-            rt,
-            path,
-            b"it is a paper that this book refuses; see --replace",
-        ),
-    }
-}
-
-// Whether the two kinds are one.
-fn is_same(kind: Kind, other: Kind) -> bool {
-    match kind {
-        Kind::Naming => match other {
-            Kind::Naming => true,
-            Kind::Clearing => false,
-        },
-        Kind::Clearing => match other {
-            Kind::Naming => false,
-            Kind::Clearing => true,
-        },
-    }
-}
-
 // Whether the two claims are one.
-fn is_same_claim(claim: Claim, other: Claim) -> bool {
-    match claim {
-        Claim::About(kind, atom) => match other {
-            Claim::About(theirs, of) => is_same(kind, theirs) && atom.0 == of.0,
-            Claim::NoReading => false,
-        },
-        Claim::NoReading => match other {
-            Claim::About(_, _) => false,
-            Claim::NoReading => true,
-        },
-    }
-}
-
-// Whether the answer accepts a paper for the claim.
-fn is_for(answer: Checked, claim: Claim) -> bool {
-    match answer {
-        Checked::Accepted(other) => is_same_claim(claim, other),
+fn is_same(claim: Claim, other: Claim) -> bool {
+    match (claim, other) {
+        (Claim::About(Kind::Naming, a), Claim::About(Kind::Naming, b)) => a == b,
+        (Claim::About(Kind::Clearing, a), Claim::About(Kind::Clearing, b)) => a == b,
+        (Claim::NoReading, Claim::NoReading) => true,
         _ => false,
     }
 }
 
 // Whether the bytes that stand at the path give way to a paper for the claim. Where they do not a
-// line says so.
+// line says so. Bytes are no paper, whatever the book, by their length, their mark or their trailer.
 pub fn gives_way(
     rt: &impl Print,
     path: &[u8],
@@ -78,17 +26,18 @@ pub fn gives_way(
     old: &[u8],
     is_replacing: bool,
 ) -> bool {
-    if old.len() == 0 {
+    if old.is_empty() {
         return true;
     }
-    let answer = check(book, old);
-    if is_no_paper(answer) {
-        complain(rt, path, b"it is there and is no paper");
-        return false;
-    }
-    if is_replacing || is_for(answer, claim) {
-        return true;
-    }
-    complain_of_paper(rt, path, answer);
+    let why: &[u8] = match check(book, old) {
+        Err(Rejected::Length | Rejected::Mark(_) | Rejected::Trailer(_)) => {
+            b"it is there and is no paper"
+        }
+        _ if is_replacing => return true,
+        Ok(other) if is_same(claim, other) => return true,
+        Ok(_) => b"it is a paper for another claim; see --replace",
+        Err(_) => b"it is a paper that this book refuses; see --replace",
+    };
+    complain(rt, path, why);
     false
 }

@@ -7,9 +7,6 @@
 // and --words WORDSFILE or --text TEXTFILE in the place of BOOKFILE.
 #![tactic(auto)]
 
-ghost use Rattle.std.specs.Prelude.{◌≤◌};
-ghost use Rattle.system.specs.Counts.{IsPrefixLen};
-
 mod against;
 mod answer;
 mod arguments;
@@ -18,17 +15,15 @@ mod giving_way;
 
 use answer::tell_named;
 use arguments::{WITH_ATOM, WITHOUT_ATOM, is_right, read_limit};
-use atom::{complain_of_number, take_atom};
-use calling::{Asked, Opened, open_book};
-use meaning::{AtomNo, Claim, Kind, PAPER_BYTES};
+use atom::take_atom;
+use calling::open_book;
+use meaning::{Claim, Kind, PAPER_BYTES};
 use std::rt::{Env, Files};
-use talk::{BOOK_ROOM, NAMES_ROOM, Number, print};
+use talk::{BOOK_ROOM, NAMES_ROOM, print};
 
-// Reads the limit, behind the arguments that must be there, and asks for the paper.
-fn file_claim(rt: &(impl Env + Files + Print), book: &[u8], claim: Claim, must: usize, names: &[u8])
-    requires { must ≤ 4 }
-{
-    let Number::Value(limit) = read_limit(rt, must) else {
+// Reads the limit, and asks for the paper.
+fn file_claim(rt: &(impl Env + Files + Print), book: &[u8], claim: Claim, names: &[u8]) {
+    let Some(limit) = read_limit(rt, claim) else {
         print(rt, b"bad limit: LIMIT is a number up to 4294967295\n");
         return;
     };
@@ -36,34 +31,11 @@ fn file_claim(rt: &(impl Env + Files + Print), book: &[u8], claim: Claim, must: 
     tell_named(rt, book, claim, limit, names, &mut paper);
 }
 
-// Reads the atom, and names or clears it.
-fn file_atom(rt: &(impl Env + Files + Print), book: &[u8], kind: Kind, names: &[u8], asked: Asked) {
-    let Number::Value(atom) = take_atom(rt, names, asked) else {
-        return;
-    };
-    if 255 < atom {
-        complain_of_number(rt);
-        return;
-    }
-    let atom = AtomNo(atom as u8);
-    file_claim(rt, book, Claim::About(kind, atom), WITH_ATOM, names);
-}
-
 // How the program that writes papers of this kind is called.
-fn open_kind(
-    rt: &(impl Env + Files + Print),
-    kind: Kind,
-    book: &mut [u8],
-    names: &mut [u8],
-) -> Opened
-    ensures { IsPrefixLen result.count book.new
-        × IsPrefixLen result.names names.new }
-{
-    let naming = b"naming BOOKFILE ATOM PAPERFILE [LIMIT] [--replace]";
-    let clearing = b"clearing BOOKFILE ATOM PAPERFILE [LIMIT] [--replace]";
+fn usage(kind: Kind) -> &'static [u8] {
     match kind {
-        Kind::Naming => open_book(rt, is_right(rt, WITH_ATOM), naming, book, names),
-        Kind::Clearing => open_book(rt, is_right(rt, WITH_ATOM), clearing, book, names),
+        Kind::Naming => b"naming BOOKFILE ATOM PAPERFILE [LIMIT] [--replace]",
+        Kind::Clearing => b"clearing BOOKFILE ATOM PAPERFILE [LIMIT] [--replace]",
     }
 }
 
@@ -72,24 +44,22 @@ fn open_kind(
 pub fn file_paper(rt: &(impl Env + Files + Print), kind: Kind) {
     let mut book = [0u8; BOOK_ROOM];
     let mut names = [0u8; NAMES_ROOM];
-    let opened = open_kind(rt, kind, &mut book, &mut names);
-    if opened.good {
-        let n = opened.count;
-        let m = opened.names;
-        let asked = opened.asked;
-        file_atom(rt, &book[..n], kind, &names[..m], asked);
+    let is_right = is_right(rt, WITH_ATOM);
+    let Some(opened) = open_book(rt, is_right, usage(kind), &mut book, &mut names) else {
+        return;
+    };
+    if let Some(atom) = take_atom(rt, opened.names, opened.asked) {
+        file_claim(rt, opened.book, Claim::About(kind, atom), opened.names);
     }
 }
 
 // The same of the paper that the book has no reading.
 pub fn file_no_reading(rt: &(impl Env + Files + Print)) {
-    let usage = b"contradicting BOOKFILE PAPERFILE [LIMIT] [--replace]";
     let mut book = [0u8; BOOK_ROOM];
     let mut names = [0u8; NAMES_ROOM];
-    let opened = open_book(rt, is_right(rt, WITHOUT_ATOM), usage, &mut book, &mut names);
-    if opened.good {
-        let n = opened.count;
-        let m = opened.names;
-        file_claim(rt, &book[..n], Claim::NoReading, WITHOUT_ATOM, &names[..m]);
+    let is_right = is_right(rt, WITHOUT_ATOM);
+    let usage = b"contradicting BOOKFILE PAPERFILE [LIMIT] [--replace]";
+    if let Some(opened) = open_book(rt, is_right, usage, &mut book, &mut names) {
+        file_claim(rt, opened.book, Claim::NoReading, opened.names);
     }
 }

@@ -10,23 +10,13 @@ mod atoms;
 use atoms::show_atoms;
 use book::BOOK_BYTES;
 use calling::{TEXT_ROOM, explain_text, read_text};
-use lparse::{Imported, import};
-use saving::{is_replacing, save_book};
+use lparse::import;
+use saving::{is_replacing, is_right, save_book};
 use std::rt::{Env, Files};
-use system::arg_count;
 use talk::{complain_of_call, first_bytes};
 
 // The arguments that must be there, the program's own name among them.
 const MUST: usize = 3;
-
-// Whether there are as many arguments as there may be.
-fn is_right(rt: &impl Env) -> bool {
-    let count = arg_count(rt);
-    if is_replacing(rt, MUST) {
-        return count == MUST + 1;
-    }
-    count == MUST
-}
 
 // Saves the book in the file that the second argument names, and says what its atoms are.
 fn save_made(rt: &(impl Env + Files + Print), text: &[u8], book: &[u8]) {
@@ -38,26 +28,22 @@ fn save_made(rt: &(impl Env + Files + Print), text: &[u8], book: &[u8]) {
 // Makes the book of the text, or says why there is none.
 fn import_text(rt: &(impl Env + Files + Print), text: &[u8]) {
     let mut room = [0u8; BOOK_BYTES];
-    let answer = import(text, &mut room);
-    let Imported::Book(n) = answer else {
-        explain_text(rt, answer, b"");
-        return;
-    };
-    save_made(rt, text, first_bytes(&room, n));
+    match import(text, &mut room) {
+        Ok(n) => save_made(rt, text, first_bytes(&room, n)),
+        Err(why) => explain_text(rt, why, b""),
+    }
 }
 
 // Reads the text, and makes its book.
 fn import_argument(rt: &(impl Env + Files + Print)) {
-    let mut text = [0u8; TEXT_ROOM];
-    let taken = read_text(rt, 1, &mut text);
-    if taken.good {
-        let n = taken.count;
-        import_text(rt, &text[..n]);
+    let mut room = [0u8; TEXT_ROOM];
+    if let Some(text) = read_text(rt, 1, &mut room) {
+        import_text(rt, text);
     }
 }
 
 fn main(rt: HostRuntime) {
-    if !is_right(&rt) {
+    if !is_right(&rt, MUST) {
         complain_of_call(&rt, b"importing TEXTFILE BOOKFILE [--replace]");
         return;
     }

@@ -6,7 +6,7 @@ use calling::shift_at;
 use saving::is_replacing;
 use std::rt::Env;
 use system::{arg, arg_count};
-use talk::{Number, read_number};
+use talk::read_number;
 
 // The tries of each search where no limits are given.
 const LIMIT: u32 = 1000000;
@@ -49,12 +49,12 @@ pub fn is_right(rt: &impl Env) -> bool {
 }
 
 // The limit that stands so many places behind the three files, of a call that is right.
-pub fn read_limit(rt: &impl Env, behind: usize) -> Number
+pub fn read_limit(rt: &impl Env, behind: usize) -> Option<u32>
     requires { behind ≤ 1 }
 {
     let from = 4 + shift(rt);
     if arg_count(rt) < from + 2 {
-        return Number::Value(LIMIT);
+        return Some(LIMIT);
     }
     let mut word = [0u8; 16];
     let n = arg(rt, from + behind, &mut word);

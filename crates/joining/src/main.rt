@@ -14,36 +14,24 @@ use answer::tell_log;
 use arguments::{FIRST, is_right, read_limit, second};
 use calling::open_at;
 use std::rt::{Env, Files};
-use talk::{BOOK_ROOM, NAMES_ROOM, Number, complain_of_call, print};
+use talk::{BOOK_ROOM, NAMES_ROOM, complain_of_call, print};
 
 // Reads the limits of the two searches, and joins the books.
 fn join_books<'a>(rt: &(impl Env + Files + Print), first: &'a [u8], second: &'a [u8]) {
     let bad = b"bad limit: L1 and L2 are numbers up to 4294967295\n";
-    let Number::Value(limit) = read_limit(rt, 0) else {
-        print(rt, bad);
-        return;
-    };
-    let Number::Value(other) = read_limit(rt, 1) else {
-        print(rt, bad);
-        return;
-    };
-    tell_log(rt, first, second, limit, other);
+    match (read_limit(rt, 0), read_limit(rt, 1)) {
+        (Some(limit), Some(other)) => tell_log(rt, first, second, limit, other),
+        _ => print(rt, bad),
+    }
 }
 
 // Opens the second book, and joins it to the first.
 fn join_to(rt: &(impl Env + Files + Print), first: &[u8]) {
     let mut other = [0u8; BOOK_ROOM];
     let mut names = [0u8; NAMES_ROOM];
-    let opened = open_at(
-        rt,
-        second(rt),
-        b" in the second book",
-        &mut other,
-        &mut names,
-    );
-    if opened.good {
-        let n = opened.count;
-        join_books(rt, first, &other[..n]);
+    let whose = b" in the second book";
+    if let Some(opened) = open_at(rt, second(rt), whose, &mut other, &mut names) {
+        join_books(rt, first, opened.book);
     }
 }
 
@@ -52,10 +40,8 @@ fn join_to(rt: &(impl Env + Files + Print), first: &[u8]) {
 fn join_arguments(rt: &(impl Env + Files + Print)) {
     let mut first = [0u8; BOOK_ROOM];
     let mut names = [0u8; NAMES_ROOM];
-    let opened = open_at(rt, FIRST, b" in the first book", &mut first, &mut names);
-    if opened.good {
-        let n = opened.count;
-        join_to(rt, &first[..n]);
+    if let Some(opened) = open_at(rt, FIRST, b" in the first book", &mut first, &mut names) {
+        join_to(rt, opened.book);
     }
 }
 

@@ -1,20 +1,9 @@
--- Text gathered in a buffer (specs/Gathered): one text after another is both at once; where there is room for all of it the buffer holds
+-- Text gathered in a buffer (talk's Gathered): one text after another is both at once; where there is room for all of it the buffer holds
 -- what it held with the text behind it, and every other byte is as before.
 use Rattle.std.proofs.Common.{◌≡◌, ℕ, suc, ◌+◌, ◌<◌, ◌≤◌, List, [], ◌∷◌, ◌++◌, length, get_or, take, drop, set, sym, refl, ap, ◌∙◌, add-zero, arith, length-append, length-set, drop_of_length-le, length-take-le, drop-cons, take_at}
 use lib.Seq.{sets, sets-eq}
-use Rattle.meaning.proofs.Choice.{lt_yes, lt_no, lt-either}
-use Rattle.listing.specs.Gathered.{Piece, with_byte, gather}
-
--- ---- one byte
-
-pub put_full : (x : ℕ) (p : Piece) → length p.bytes ≤ p.held → p ≡ gather (x ∷ []) p
-unfolding gather with_byte
-put_full x p h = sym (lt_no _ _ _ _ h)
-
-pub put-room : (x : ℕ) (p : Piece) → p.held < length p.bytes
-    → record { bytes = set p.bytes p.held x; held = p.held + 1 } ≡ gather (x ∷ []) p
-unfolding gather with_byte
-put-room x p h = sym (lt_yes _ _ _ _ h)
+use Rattle.meaning.proofs.Choice.{lt_yes, lt-either}
+use Rattle.talk.specs.Gathered.{Piece, with_byte, gather}
 
 -- ---- one text after another
 
@@ -73,7 +62,7 @@ gather-held text p h =
 -- ---- a turn of a loop
 
 -- one byte of a text, and what is left of it
-pub gather-turn : (text : List ℕ) (i : ℕ) (p q : Piece) → i < length text → q ≡ gather (get_or text i 0 ∷ []) p
+pub gather-turn : (text : List ℕ) (i : ℕ) (p q : Piece) → i < length text → q ≡ with_byte (get_or text i 0) p
     → gather (drop i text) p ≡ gather (drop (i + 1) text) q
 unfolding gather
 gather-turn text i p q h e =

@@ -1,14 +1,14 @@
 -- The lines of a listing (specs/Text): the digits that `io` promises are the number's text; a line is gathered part by part; the longest
 -- one takes no more bytes than a piece keeps free.
-use Rattle.std.proofs.Common.{◌≡◌, ℕ, zero, suc, ◌+◌, ◌-◌, ◌*◌, ◌/◌, ◌^◌, ◌<◌, ◌≤◌, List, [], ◌∷◌, ◌++◌, length, get_or, take, drop, sym, refl, ap, ◌∙◌, ⊎_elim, arith, length-append, drop_of_length-le, length-take, drop-cons}
+use Rattle.std.proofs.Common.{◌≡◌, ℕ, zero, suc, ◌+◌, ◌-◌, ◌*◌, ◌/◌, ◌^◌, ◌<◌, ◌≤◌, List, [], ◌∷◌, ◌++◌, length, get_or, drop, sym, refl, ap, ◌∙◌, ⊎_elim, arith, length-append, drop_of_length-le, drop-cons}
 use native.Mathlib.Nat.{pow-le-pow_right}
 use Rattle.system.specs.Digits.{last_digits, IsDigitCount}
 use Rattle.meaning.proofs.Tests.{lt-or-le}
 use Rattle.meaning.specs.Choice.{if_lt}
 use Rattle.meaning.proofs.Choice.{lt_yes, lt_no, lt-either, eq_yes, eq_no, eq-either}
-use Rattle.listing.specs.Gathered.{Piece, gather}
-use Rattle.listing.specs.Text.{places, number_text, place_text, places_text, line_text, longest_line}
-use Rattle.listing.proofs.Gathering.{gather_append}
+use Rattle.talk.specs.Gathered.{Piece, with_byte, gather}
+use Rattle.listing.specs.Text.{places, number_text, place_text, places_text, line_text, longest_line, HasRoom}
+use Rattle.listing.proofs.Gathering.{gather_append, gather-within}
 
 -- ---- the digits of a number
 
@@ -49,7 +49,7 @@ pub no_place : (asked a byte : ℕ) (p : Piece) → (byte ≡ asked → ⊥) →
 unfolding gather place_text
 no_place asked a byte p h = sym (ap (λ (l : List ℕ). gather l p) (eq_no _ _ _ _ h))
 
-pub one_place : (asked a byte : ℕ) (p q r : Piece) → byte ≡ asked → q ≡ gather (32 ∷ []) p → r ≡ gather (number_text a) q
+pub one_place : (asked a byte : ℕ) (p q r : Piece) → byte ≡ asked → q ≡ with_byte 32 p → r ≡ gather (number_text a) q
     → r ≡ gather (place_text asked a byte) p
 unfolding gather place_text
 one_place asked a byte p q r h e f = f ∙ ap (gather (number_text a)) e ∙ sym (ap (λ (l : List ℕ). gather l p) (eq_yes _ _ _ _ h))
@@ -68,8 +68,8 @@ pub places-end : (asked : ℕ) (row : List ℕ) (a : ℕ) (p : Piece) → length
 unfolding places_text gather
 places-end asked row a p h = ap (λ (l : List ℕ). gather (places_text asked a l) p) (drop_of_length-le row {i = a} h)
 
-pub line-gathered : (n : ℕ) (row : List ℕ) (end : ℕ) (p q r s t : Piece) → q ≡ gather (number_text n) p → r ≡ gather (58 ∷ []) q
-    → s ≡ gather (places_text 1 0 row) r → t ≡ gather (end ∷ []) s → t ≡ gather (line_text n row end) p
+pub line-gathered : (n : ℕ) (row : List ℕ) (end : ℕ) (p q r s t : Piece) → q ≡ gather (number_text n) p → r ≡ with_byte 58 q
+    → s ≡ gather (places_text 1 0 row) r → t ≡ with_byte end s → t ≡ gather (line_text n row end) p
 unfolding line_text gather
 line-gathered n row end p q r s t e f g h =
     h ∙ ap (gather (end ∷ [])) (g ∙ ap (gather (places_text 1 0 row)) (f ∙ ap (gather (58 ∷ [])) e))
@@ -127,13 +127,20 @@ line-length n row end h =
       places-length 1 0 row (omega arith),
     )
 
--- so that a line of a page has room where that many bytes are free
-pub line-room : (n k : ℕ) (bytes : List ℕ) (end held size : ℕ) → k ≤ 255 → held + longest_line ≤ size
-    → held + length (line_text n (take k bytes) end) ≤ size
-line-room n k bytes end held size h room =
-    omega (arith, line-length n (take k bytes) end (omega (arith, length-take k bytes)))
+-- so that a line has room where that many bytes are free
+pub line-room : (n : ℕ) (row : List ℕ) (end held size : ℕ) → length row ≤ 255 → held + longest_line ≤ size
+    → held + length (line_text n row end) ≤ size
+line-room n row end held size h room = omega (arith, line-length n row end h)
 
 -- which is what is left behind each line
-pub room-left : (size held r : ℕ) → r ≡ if_lt (size - held) longest_line 0 held → longest_line ≤ size → held ≤ size
+room-left : (size held r : ℕ) → r ≡ if_lt (size - held) longest_line 0 held → longest_line ≤ size → held ≤ size
     → r + longest_line ≤ size
 room-left size held r e h k = rw e (lt-either (λ (m : ℕ). m + longest_line ≤ size) _ _ _ _ (λ l. omega arith) (λ l. omega arith))
+
+pub room-stays : (text : List ℕ) (p q r : Piece) → HasRoom p → p.held + length text ≤ length p.bytes → q ≡ gather text p → r.bytes ≡ q.bytes
+    → r.held ≡ if_lt (length q.bytes - q.held) longest_line 0 q.held → HasRoom r
+room-stays text p q r (size, room) fits e same h =
+    let inside : (q.held ≤ length q.bytes) × (length q.bytes ≡ length p.bytes) = rw e (gather-within text p (omega arith)) in
+    let long : length r.bytes ≡ length q.bytes = ap length same in
+    let left : r.held + longest_line ≤ length q.bytes = room-left _ _ _ h (omega arith) (omega arith) in
+    (omega arith, omega arith)

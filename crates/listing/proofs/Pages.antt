@@ -1,57 +1,36 @@
 -- A listing goes on from page to page (specs/Following) as walk's `Listing` says it, so that at its end it has listed the readings of the
 -- one walk, each once. Each full page has a try for each of its rows at least, so that the sums fit and the listing ends.
-use Rattle.std.proofs.Common.{◌≡◌, ℕ, zero, suc, ◌+◌, ◌-◌, ◌*◌, ◌<◌, ◌≤◌, List, [], ◌∷◌, ◌++◌, length, get_or, take, drop, set, replicate, sym, refl, ap, ◌∙◌, subst, ⊎_elim, append_assoc, suc-mul, div-le_self, arith, length-append, length-drop, length-take-le, get_or-drop, drop-cons, take-suc, get_or-append-add}
+use Rattle.std.proofs.Common.{◌≡◌, ℕ, zero, suc, ◌+◌, ◌-◌, ◌*◌, ◌<◌, ◌≤◌, List, [], ◌∷◌, ◌++◌, length, take, drop, replicate, sym, refl, ap, ◌∙◌, subst, ⊎_elim, append_assoc, suc-mul, div-le_self, arith, length-append, length-drop, length-take-le, get_or-drop, get_or-append-add}
+use Rattle.std.specs.Prelude.{Option, Some, None, Result, Ok, Err}
 use lib.ListN.{length-map, get_or-replicate}
 use lib.ListN.{get_or-append, get_or-eq_default, length-replicate}
-use lib.Seq.{set_at, append_snoc}
 use Rattle.meaning.specs.Books.{Book}
 use Rattle.meaning.specs.Told.{Told, success, refused_at, refused, Answered}
 use Rattle.meaning.proofs.Tests.{lt-or-le, apart}
 use Rattle.meaning.proofs.Choice.{eq-either}
 use Rattle.book.specs.Format.{read_of, book_in, book_of, ReadAs}
 use Rattle.book.specs.Rows.{Bytes}
-use Rattle.book.specs.Numbers.{number_of, place_of}
 use Rattle.book.proofs.Shapes.{told-good}
 use Rattle.book.specs.declared.reader.Shape.{Shape}
-use Rattle.book.specs.declared.refusal.Refusal.{Refusal}
 use Rattle.walk.specs.Events.{Event, clash, fork, reading, quiet}
 use Rattle.walk.specs.Readings.{readings_in, readings}
 use Rattle.walk.specs.Run.{row_of}
 use Rattle.walk.specs.declared.page_answer.Page.{Page}
-use Rattle.walk.specs.declared.page_answer.Page.TheVariants.{Whole, Last, Cut, Book as BadBook, NoRoom}
+use Rattle.walk.specs.declared.page_answer.Page.TheVariants.{Whole, Last, Cut}
+use Rattle.walk.specs.declared.page_answer.NoPage.{NoPage}
 use Rattle.walk.specs.Page.{PageEnd, whole, told, room_in, page_in, page_read, page_of}
 use Rattle.walk.specs.Listing.{rows_in, SameRow, Ending, Shows}
 use Rattle.walk.specs.Listing.{Listing, no_call, last-page, cut-page, full-page}
 use Rattle.walk.proofs.Paging.{Outcome, all-rows, full-page as full, limit-met, no_room, page-outcome, room-some, rooms-fit}
 use Rattle.walk.proofs.Shown.{book-shows, page-goes}
 use Rattle.talk.specs.declared.refusals.Refused.{Refused}
-use Rattle.talk.specs.declared.refusals.Refused.TheVariants.{At, Plain}
 use Rattle.listing.specs.declared.whole.End.{End}
-use Rattle.listing.specs.declared.whole.End.TheVariants.{Ended, Stopped, Refused as NoPage}
+use Rattle.listing.specs.declared.whole.End.TheVariants.{Ended, Stopped}
 use Rattle.listing.specs.declared.whole.Step.{Step}
 use Rattle.listing.specs.declared.whole.Step.TheVariants.{Goes, Done}
-use Rattle.listing.specs.Following.{refusal_of, atoms_only, Follows, Shown}
+use Rattle.listing.specs.Following.{told_at, refusal_of, atoms_only, Follows, Shown}
 
 -- ---- the row that is kept
-
-row-turn : (row kept : List ℕ) (i : ℕ) → i < length row → i < length kept
-    → set (take i row ++ drop i kept) i (get_or row i 0) ≡ take (i + 1) row ++ drop (i + 1) kept
-row-turn row kept i h k =
-    let next : i + 1 ≡ suc i = omega arith in
-    rw next
-    (ap (λ (l : List ℕ). set (take i row ++ l) i (get_or row i 0)) (drop-cons kept i 0 k)
-    ∙ set_at (take i row) _ _ _ i (length-take-le i row (omega arith))
-    ∙ sym (append_snoc (take i row) _ _) ∙ ap (λ (l : List ℕ). l ++ drop (suc i) kept) (sym (take-suc row i 0 h)))
-
--- one byte more of the row is copied, with the bytes behind it as they were
-pub copied-turn : (rows kept row : List ℕ) (from i : ℕ) → row ≡ take i (drop from rows) ++ drop i kept → from + i < length rows
-    → i < length kept → set row i (get_or rows (from + i) 0) ≡ take (i + 1) (drop from rows) ++ drop (i + 1) kept
-copied-turn rows kept row from i e h k =
-    let shown = drop from rows in
-    let z = length-drop from rows in
-    ap (λ (l : List ℕ). set l i (get_or rows (from + i) 0)) e
-    ∙ ap (λ (x : ℕ). set (take i shown ++ drop i kept) i x) (sym (get_or-drop from rows i 0))
-    ∙ row-turn shown kept i (omega arith) k
 
 -- the last of so many rows lies within them
 pub row_within : (count atoms size : ℕ) → 1 ≤ count → count * atoms ≤ size → (count - 1) * atoms + atoms ≤ size
@@ -106,14 +85,14 @@ room-count atoms size count e h =
 
 -- ---- what a call for a page makes of a listing
 
-module _ (atoms before size : ℕ) (row : List ℕ) {A : Answered PageEnd} (x : Page) {buffer : List ℕ}
+module _ (atoms before size : ℕ) (row : List ℕ) {A : Answered PageEnd} (x : Result Page NoPage) {buffer : List ℕ}
     (e : record { told = told x; buffer = buffer } ≡ A) where
   tells : {t : Told PageEnd} → told x ≡ t → A.told ≡ t
   tells f = sym (ap (λ (a : Answered PageEnd). a.told) e) ∙ f
 
-  pub follows-whole : {more sets count : ℕ} → x ≡ Whole more → length buffer ≡ size → count ≡ room_in (atoms_only atoms) (length buffer)
+  pub follows-whole : {more sets count : ℕ} → x ≡ Ok (Whole more) → length buffer ≡ size → count ≡ room_in (atoms_only atoms) (length buffer)
       → sets ≡ before + count → SameRow row (take atoms (drop ((count - 1) * atoms) buffer))
-      → Follows atoms before size A row (Goes sets more)
+      → Follows atoms before size A row (Ok (Goes sets more))
   unfolding Follows
   follows-whole {more} {sets} {count} f l c s same =
       let all : count ≡ room_in (atoms_only atoms) size = c ∙ ap (room_in (atoms_only atoms)) l in (
@@ -123,23 +102,18 @@ module _ (atoms before size : ℕ) (row : List ℕ) {A : Answered PageEnd} (x : 
             (subst (λ (a : Answered PageEnd). SameRow row (take atoms (drop ((count - 1) * atoms) a.buffer))) e same),
       )
 
-  pub follows-last : {all rows sets : ℕ} → x ≡ Last all rows → sets ≡ before + rows
-      → Follows atoms before size A row (Done (Ended sets all))
+  pub follows-last : {all rows sets : ℕ} → x ≡ Ok (Last all rows) → sets ≡ before + rows
+      → Follows atoms before size A row (Ok (Done (Ended sets all)))
   unfolding Follows
   follows-last f s = (_, tells (ap told f), s)
 
-  pub follows-cut : {rows sets : ℕ} → x ≡ Cut rows → sets ≡ before + rows → Follows atoms before size A row (Done (Stopped sets))
+  pub follows-cut : {rows sets : ℕ} → x ≡ Ok (Cut rows) → sets ≡ before + rows → Follows atoms before size A row (Ok (Done (Stopped sets)))
   unfolding Follows
   follows-cut f s = (_, tells (ap told f), s)
 
-  pub follows-book : {why : Refusal} {f : Refused} → x ≡ BadBook why → f ≡ At (number_of why) (place_of why)
-      → Follows atoms before size A row (Done (NoPage f))
+  pub follows-refused : {why : NoPage} (f : Refused) → x ≡ Err why → told (Err why) ≡ refusal_of f → Follows atoms before size A row (Err f)
   unfolding Follows
-  follows-book g h = tells (ap told g) ∙ sym (ap refusal_of h)
-
-  pub follows-no-room : x ≡ NoRoom → Follows atoms before size A row (Done (NoPage (Plain 8)))
-  unfolding Follows
-  follows-no-room g = tells (ap told g)
+  follows-refused f g h = tells (ap told g ∙ h)
 
 -- ---- each row of a full page has a try
 
@@ -160,8 +134,11 @@ whole-adds b limit n row out (limit-met more f later q h k) t e = apart (cc)
 whole-adds b limit n row out (no_room h) t e = apart (cc)
 
 refusal-apart : (f : Refused) {t : PageEnd} {x : Told PageEnd} → x ≡ success t → x ≡ refusal_of f → ⊥
-refusal-apart (At n at) {t} p q = let z : success t ≡ refused_at n at = sym p ∙ q in apart (cc)
-refusal-apart (Plain n) {t} p q = let z : success t ≡ refused n = sym p ∙ q in apart (cc)
+refusal-apart f p q = told-apart f.number f.place p q
+  where
+    told-apart : (n : ℕ) (place : Option ℕ) {t : PageEnd} {x : Told PageEnd} → x ≡ success t → x ≡ told_at n place → ⊥
+    told-apart n (Some at) {t} p q = let z : success t ≡ refused_at n at = sym p ∙ q in apart (cc)
+    told-apart n None {t} p q = let z : success t ≡ refused n = sym p ∙ q in apart (cc)
 
 -- ---- the pages of one listing
 
@@ -219,13 +196,13 @@ module _ (s : List ℕ) (shape : Shape) (Good-book : ReadAs s shape) (limit : �
           rows-count (book_in s).atoms m page.buffer,
         )
 
-    same_step : {atoms : ℕ} {one other : Step} → atoms ≡ (book_in s).atoms → one ≡ other
+    same_step : {atoms : ℕ} {one other : Result Step Refused} → atoms ≡ (book_in s).atoms → one ≡ other
         → Follows atoms before (length out) page kept one → Follows (book_in s).atoms before (length out) page kept other
     same_step {atoms} {one} e g h =
-        subst (λ (step : Step). Follows (book_in s).atoms before (length out) page kept step) g
+        subst (λ (step : Result Step Refused). Follows (book_in s).atoms before (length out) page kept step) g
         (subst (λ (n : ℕ). Follows n before (length out) page kept one) e h)
 
-    goes-more : {sets more : ℕ} → Follows (book_in s).atoms before (length out) page kept (Goes sets more)
+    goes-more : {sets more : ℕ} → Follows (book_in s).atoms before (length out) page kept (Ok (Goes sets more))
         → SoFar s limit first sets more kept × (tries < more)
     unfolding Follows room_in
     goes-more {sets} {more} (answer, sum, same) =
@@ -250,7 +227,7 @@ module _ (s : List ℕ) (shape : Shape) (Good-book : ReadAs s shape) (limit : �
           omega arith,
         )
 
-    done-shown : Bytes s → (end : End) → Follows (book_in s).atoms before (length out) page kept (Done end) → Shown (book_in s) limit end
+    done-shown : Bytes s → (end : End) → Follows (book_in s).atoms before (length out) page kept (Ok (Done end)) → Shown (book_in s) limit (Ok end)
     unfolding Follows Shown Shows
     done-shown bytes (Ended sets all) (rows, answer, sum) =
         let (shows, tries, within) =
@@ -262,18 +239,26 @@ module _ (s : List ℕ) (shape : Shape) (Good-book : ReadAs s shape) (limit : �
         book-shows s _ _ _ _ (told-good (read_of s) _ _ _ Good-book) limit bytes first
         (f.goes _ _ (cut-page row out rows (λ i. refl) answer)) in
         (rows-listed rows sets sum ∙ ap length shows, longer)
-    done-shown bytes (NoPage refusal) answer =
+
+    refused-shown : (refusal : Refused) → Follows (book_in s).atoms before (length out) page kept (Err refusal) → Shown (book_in s) limit (Err refusal)
+    unfolding Follows Shown
+    refused-shown refusal answer =
         let told_in = ap (λ (a : Answered PageEnd). a.told) (sym (page-good tries row out)) ∙ answer in
         ⊎_elim (λ g. refusal-apart refusal g.1 told_in)
         (⊎_elim (λ g. refusal-apart refusal g.2 told_in) (λ g. refusal-apart refusal g.1 told_in))
         (page-goes (book_in s) limit tries row out f.within room)
 
     -- another page follows
-    pub so_far_more : {atoms sets more : ℕ} {step : Step} → atoms ≡ (book_in s).atoms → step ≡ Goes sets more
+    pub so_far_more : {atoms sets more : ℕ} {step : Result Step Refused} → atoms ≡ (book_in s).atoms → step ≡ Ok (Goes sets more)
         → Follows atoms before (length out) page kept step → SoFar s limit first sets more kept × (tries < more)
     so_far_more e g h = goes-more (same_step e g h)
 
     -- the listing is at its end
-    pub so-far-done : {atoms : ℕ} {end : End} {step : Step} → atoms ≡ (book_in s).atoms → step ≡ Done end
-        → Follows atoms before (length out) page kept step → Bytes s → Shown (book_in s) limit end
+    pub so-far-done : {atoms : ℕ} {end : End} {step : Result Step Refused} → atoms ≡ (book_in s).atoms → step ≡ Ok (Done end)
+        → Follows atoms before (length out) page kept step → Bytes s → Shown (book_in s) limit (Ok end)
     so-far-done {end = end} e g h bytes = done-shown bytes end (same_step e g h)
+
+    -- it is never refused
+    pub so-far-refused : {atoms : ℕ} {refusal : Refused} {step : Result Step Refused} → atoms ≡ (book_in s).atoms → step ≡ Err refusal
+        → Follows atoms before (length out) page kept step → Shown (book_in s) limit (Err refusal)
+    so-far-refused {refusal = refusal} e g h = refused-shown refusal (same_step e g h)

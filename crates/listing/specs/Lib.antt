@@ -1,4 +1,3 @@
 -- What a listing writes, and how it goes on. Read in this order.
-pub mod Gathered
 pub mod Text
 pub mod Following

@@ -4,10 +4,12 @@
 --   place_text asked a byte     a space and the place's number, where its byte in a row is the one that is asked for
 --   places_text asked a row     these of each place of a row, from place a on
 --   line_text n row end         the line of reading n: its number, a colon, its atoms, and the line end
+--   HasRoom piece              a piece of 65,536 bytes with room for the longest line
 --   longest_line                the bytes of the longest one: twenty digits, a colon, 255 atoms below 1,000, a line end
-use Rattle.std.specs.Prelude.{ℕ, zero, suc, ◌+◌, ◌*◌, ◌^◌, List, [], ◌∷◌, ◌++◌}
+use Rattle.std.specs.Prelude.{◌≡◌, ◌≤◌, length, ℕ, zero, suc, ◌+◌, ◌*◌, ◌^◌, List, [], ◌∷◌, ◌++◌}
 use Rattle.system.specs.Digits.{last_digits}
 use Rattle.meaning.specs.Choice.{if_lt, if_eq}
+use Rattle.talk.specs.Gathered.{Piece}
 
 -- the fewest digits that hold n, from k to k + more
 unfoldable pub places : ℕ → ℕ → ℕ → ℕ
@@ -29,3 +31,6 @@ line_text n row end = number_text n ++ (58 ∷ (places_text 1 0 row ++ (end ∷ 
 
 abbrev pub longest_line : ℕ
 longest_line = 20 + 1 + 255 * 4 + 1
+
+abbrev pub HasRoom : Piece → Type 0
+HasRoom piece = (length piece.bytes ≡ 65536) × (piece.held + longest_line ≤ length piece.bytes)

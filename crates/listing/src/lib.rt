@@ -6,7 +6,7 @@
 #![tactic(auto)]
 
 mod named;
-mod piece;
+mod page;
 mod rows;
 mod whole;
 

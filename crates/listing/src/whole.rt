@@ -1,16 +1,16 @@
 // The whole listing, page by page. Each page goes on where the one before ended, so that each try
 // is made once; going down again to that place costs one closing a level.
-ghost use Rattle.std.specs.Prelude.{◌≡◌, ◌-◌, ◌*◌, ◌≤◌, [], ◌++◌, length, take, drop};
+ghost use Rattle.std.specs.Prelude.{◌≡◌, ◌-◌, ◌*◌, ◌≤◌, [], ◌++◌, length, take, drop, Err};
 ghost use Rattle.book.specs.Format.{book_in, ReadAs};
-ghost use Rattle.walk.specs.Page.{room_in, page_of};
+ghost use Rattle.walk.specs.Page.{told, room_in, page_of};
 ghost use Rattle.walk.specs.Listing.{SameRow};
-ghost use Rattle.listing.specs.Following.{atoms_only, Follows, Shown};
+ghost use Rattle.listing.specs.Following.{refusal_of, atoms_only, Follows, Shown};
 
-use crate::named::print_page;
-use book::{Read, Shape, read_book};
+use crate::page::print_page;
+use book::{Shape, read_book};
 use meaning::Colouring;
-use talk::{Refused, print, put_number, put_refused, put_size, put_text, refused_book};
-use walk::{Page, page};
+use talk::{Line, Refused, put_refused, put_size};
+use walk::{NoPage, Page, page};
 
 // The tries of a listing, and of each book of a table.
 pub const LIMIT: u32 = 1000000;
@@ -22,8 +22,6 @@ enum End {
     Ended(u64, u32),
     // Those up to the limit: one more try would pass it.
     Stopped(u64),
-    // None: no page can be had.
-    Refused(Refused),
 }
 
 // What a page makes of a listing.
@@ -36,30 +34,33 @@ enum Step {
 
 // Writes `WORD SETS tries TRIES` and the line end.
 fn print_counts(rt: &impl Print, word: &[u8], sets: u64, tries: u32, line_end: u8) {
-    let mut line = [0u8; 128];
-    let held = put_text(word, &mut line, 0);
-    let held = put_text(b" ", &mut line, held);
-    let held = put_number(sets, &mut line, held);
-    let held = put_text(b" tries ", &mut line, held);
-    let held = put_number(tries as u64, &mut line, held);
-    let held = put_text(&[line_end], &mut line, held);
-    print(rt, &line[..held]);
+    let mut room = [0u8; 128];
+    let mut line = Line::new(&mut room);
+    line.text(word);
+    line.text(b" ");
+    line.number(sets);
+    line.text(b" tries ");
+    line.number(tries as u64);
+    line.byte(line_end);
+    line.print(rt);
 }
 
 // Writes `refused NUMBER PLACE`, or `refused NUMBER` where there is no place, and the line end.
 fn print_refused(rt: &impl Print, refused: Refused, line_end: u8) {
-    let mut line = [0u8; 128];
-    let held = put_refused(refused, &mut line, 0);
-    let held = put_text(&[line_end], &mut line, held);
-    print(rt, &line[..held]);
+    let mut room = [0u8; 128];
+    let mut line = Line::new(&mut room);
+    put_refused(refused, &mut line);
+    line.byte(line_end);
+    line.print(rt);
 }
 
 // Writes `rules R atoms A` and the line end: the first line of a listing.
 fn print_start(rt: &impl Print, shape: Shape, line_end: u8) {
-    let mut line = [0u8; 128];
-    let held = put_size(shape, &mut line, 0);
-    let held = put_text(&[line_end], &mut line, held);
-    print(rt, &line[..held]);
+    let mut room = [0u8; 128];
+    let mut line = Line::new(&mut room);
+    put_size(shape, &mut line);
+    line.byte(line_end);
+    line.print(rt);
 }
 
 // How many rows a full page has; a book without atoms has one reading.
@@ -81,10 +82,16 @@ fn keep_row(rows: &[u8], count: usize, atoms: usize, last: &mut [u8])
         ++ drop atoms last.old }
 {
     let from = (count - 1) * atoms;
-    let mut i = 0;
-    while i < atoms {
-        last[i] = rows[from + i];
-        i += 1;
+    last[..atoms].copy_from_slice(&rows[from..from + atoms]);
+}
+
+// Why no page can be had.
+fn refused_page(why: NoPage) -> Refused
+    ensures { told (Err why) ≡ refusal_of result }
+{
+    match why {
+        NoPage::Book(why) => Refused::from(why),
+        NoPage::NoRoom => Refused::plain(8),
     }
 }
 
@@ -100,7 +107,7 @@ fn list_page(
     tries: u32,
     rows: &mut [u8],
     last: &mut [u8],
-) -> Step
+) -> Result<Step, Refused>
     requires { (atoms ≤ 255) × (atoms ≤ length rows.old) × (length rows.old ≤ 65280)
         × (before ≤ 1000000) × (atoms ≤ length last.old)
         × SameRow (drop atoms last.old) [] }
@@ -111,29 +118,36 @@ fn list_page(
         last.new result }
 {
     match page(book, LIMIT, tries, last, rows) {
-        Page::Whole(more) => {
+        Ok(Page::Whole(more)) => {
             let count = room_for(rows.len(), atoms);
             print_page(rt, rows, atoms, count as u64, before, line_end, names);
             keep_row(rows, count, atoms, last);
-            Step::Goes(before + count as u64, more)
+            Ok(Step::Goes(before + count as u64, more))
         }
-        Page::Last(all, count) => {
+        Ok(Page::Last(all, count)) => {
             print_page(rt, rows, atoms, count as u64, before, line_end, names);
-            Step::Done(End::Ended(before + count as u64, all))
+            Ok(Step::Done(End::Ended(before + count as u64, all)))
         }
-        Page::Cut(count) => {
+        Ok(Page::Cut(count)) => {
             print_page(rt, rows, atoms, count as u64, before, line_end, names);
-            Step::Done(End::Stopped(before + count as u64))
+            Ok(Step::Done(End::Stopped(before + count as u64)))
         }
-        Page::Book(why) => Step::Done(End::Refused(refused_book(why))),
-        Page::NoRoom => Step::Done(End::Refused(Refused::Plain(8))),
+        Err(why) => Err(refused_page(why)),
     }
 }
 
 // Writes the readings of a good book, and gives how many they are and the tries. A page of 65,280
 // bytes has room for 256 rows of 255 atoms. Each full page has a try for each of its rows at least,
 // so the listing comes to an end.
-fn list_pages(rt: &impl Print, book: &[u8], shape: Shape, line_end: u8, names: &[u8]) -> End
+// No `ReadBook`: the proof that all readings are shown needs the bytes in the slice to be bytes, which
+// isn't known of a field.
+fn list_pages(
+    rt: &impl Print,
+    book: &[u8],
+    shape: Shape,
+    line_end: u8,
+    names: &[u8],
+) -> Result<End, Refused>
     requires { ReadAs book.now shape }
     ensures { Shown (book_in book.now) 1000000 result }
 {
@@ -145,35 +159,29 @@ fn list_pages(rt: &impl Print, book: &[u8], shape: Shape, line_end: u8, names: &
     loop {
         match list_page(
             rt, book, atoms, line_end, names, before, tries, &mut rows, &mut last,
-        ) {
+        )? {
             Step::Goes(sets, more) => {
                 before = sets;
                 tries = more;
             }
-            Step::Done(end) => {
-                return end;
-            }
+            Step::Done(end) => return Ok(end),
         }
     }
 }
 
-// Writes the last line of a listing.
-fn print_end(rt: &impl Print, end: End, line_end: u8) {
-    match end {
-        End::Ended(sets, tries) => print_counts(rt, b"end", sets, tries, line_end),
-        End::Stopped(sets) => print_counts(rt, b"stopped", sets, LIMIT, line_end),
-        End::Refused(refused) => print_refused(rt, refused, line_end),
-    }
+// Writes the first line of a good book's listing and its readings, and gives how it ended.
+fn list_book(rt: &impl Print, book: &[u8], line_end: u8, names: &[u8]) -> Result<End, Refused> {
+    let shape = read_book(book)?;
+    print_start(rt, shape, line_end);
+    list_pages(rt, book, shape, line_end, names)
 }
 
 // Writes what the program `readings` prints for the book, with `line_end` at the end of each line, and
 // with names where there are any.
 pub fn list(rt: &impl Print, book: &[u8], line_end: u8, names: &[u8]) {
-    match read_book(book) {
-        Read::Refused(why) => print_refused(rt, refused_book(why), line_end),
-        Read::Good(shape) => {
-            print_start(rt, shape, line_end);
-            print_end(rt, list_pages(rt, book, shape, line_end, names), line_end);
-        }
+    match list_book(rt, book, line_end, names) {
+        Ok(End::Ended(sets, tries)) => print_counts(rt, b"end", sets, tries, line_end),
+        Ok(End::Stopped(sets)) => print_counts(rt, b"stopped", sets, LIMIT, line_end),
+        Err(refused) => print_refused(rt, refused, line_end),
     }
 }

@@ -5,6 +5,7 @@ use mathlib.Core.List.{List, [], ◌∷◌, ◌++◌, append_assoc}
 use Prim.Native.Nat.{ℕ}
 use native.Mathlib.Omega.{arith}
 use lib.ListN.{length}
+use Rattle.std.specs.Prelude.{Option, Some, None, Ok, Err}
 use Rattle.meaning.specs.Told.{refused_at, Answered}
 use Rattle.meaning.proofs.Choice.{b-either, lt-either, eq-either}
 use Rattle.imported.specs.Making.{rule_atoms, rules_atoms, mentioned, distinct_from}
@@ -16,15 +17,13 @@ use Rattle.lparse.specs.declared.due.Due.TheVariants.{Number, Name, PlusWord, Mi
 use Rattle.lparse.specs.declared.due.Standing.TheVariants.{Head as InHead, Free as InFree, Negative as InNegative, Positive as InPositive, Table as InTable, Plus as InPlus, Minus as InMinus}
 use Rattle.lparse.specs.declared.due.Said.{Said}
 use Rattle.lparse.specs.declared.due.Said.TheVariants.{Nothing as Silent, Choice as Chooses, Atom}
-use Rattle.lparse.specs.declared.due.Move.{Move}
-use Rattle.lparse.specs.declared.due.Move.TheVariants.{Goes, Format, Kind as OtherKind}
+use Rattle.lparse.specs.declared.due.Misplaced.TheVariants.{Format, Kind as OtherKind}
 use Rattle.lparse.specs.Words.{Word, word_at, words_at}
-use Rattle.decimal.specs.declared.Digits.{Digits}
-use Rattle.decimal.specs.declared.Digits.TheVariants.{Value, Nothing}
-use Rattle.lparse.specs.declared.step.Step.{Step}
-use Rattle.lparse.specs.declared.step.Step.TheVariants.{Goes as Takes, Format as WrongFormat, Kind as WrongKind, Done}
-use Rattle.lparse.specs.Reading.{text_atom, on_kind, on_atom, on_listed, on_head_count, on_negatives, on_number, number_in, on_value, signed, on_sign, move_of, step_at, Part, with, with_atom, with_choice, Heard, says, wrong, adding, heard_at}
-use Rattle.lparse.specs.Collect.{text_in, text_of, numbers_of, collected, collect_heard, collect_of, Stands, whole, Notes, atoms_said}
+use Rattle.lparse.specs.declared.step.Taken.{Taken}
+use Rattle.lparse.specs.declared.step.Unread.{Unread}
+use Rattle.lparse.specs.declared.step.Unread.TheVariants.{Format as WrongFormat, Kind as WrongKind}
+use Rattle.lparse.specs.Reading.{Step, Move, text_atom, on_kind, on_atom, on_listed, on_head_count, on_negatives, on_number, number_in, on_value, signed, on_sign, move_of, step_at, Part, with, with_atom, with_choice, Heard, says, wrong, adding, heard_at}
+use Rattle.lparse.specs.Collect.{unimported, told, text_in, text_of, numbers_of, collected, collect_heard, collect_of, Stands, whole, Notes, atoms_said}
 use Rattle.lparse.proofs.Reading.{by_step, heard-by, took-move}
 use Rattle.lparse.proofs.Spelled.{nothing}
 use Rattle.lparse.proofs.Phases.{Open, NoRule, NoTable, NoPlus, Fits, FitsRole, body_open, heard-fits}
@@ -85,9 +84,9 @@ choice-first p = simp append_assoc
 
 -- so for every move
 unfoldable pub First : Word → Move → Type 0
-First w (Goes next said) = (p : Part) → Fits next p → atoms_of (with w said p) ≡ atoms_said said ++ atoms_of p
-First w Format = Unit {0}
-First w OtherKind = Unit {0}
+First w (Ok (next, said)) = (p : Part) → Fits next p → atoms_of (with w said p) ≡ atoms_said said ++ atoms_of p
+First w (Err Format) = Unit {0}
+First w (Err OtherKind) = Unit {0}
 
 module _ (w : Word) where
   first-number : (role : Role) (n : ℕ) → First w (on_number role n)
@@ -108,10 +107,10 @@ module _ (w : Word) where
   first-number Minus n = eq-either (First w) n 0 _ _ (λ e p f. refl) (λ e p f. minus-first w (text_atom n) p f)
   first-number Models n = λ p f. refl
 
-  first-value : (role : Role) (d : Digits) → First w (on_value role d)
+  first-value : (role : Role) (d : Option ℕ) → First w (on_value role d)
   unfolding First on_value
-  first-value role (Value n) = first-number role n
-  first-value role Nothing = tt
+  first-value role (Some n) = first-number role n
+  first-value role None = tt
 
   pub first : (due : Due) (l : List ℕ) → First w (move_of due l)
   unfolding First Fits FitsRole move_of on_sign with atoms_said
@@ -121,7 +120,7 @@ module _ (w : Word) where
   first MinusWord l = b-either (First w) (signed l 45) _ _ (λ e p f. refl) (λ e. tt)
   first End l = tt
 
--- ---- the loop: at its start, in a turn, and at its three ends
+-- ---- the loop: at its start, in a turn, and at its ends
 
 pub heard-at-fits : (s : List ℕ) (at : ℕ) (due : Due) (p : Part) → heard_at s at due ≡ says p → Fits due p
 unfolding heard_at
@@ -141,7 +140,7 @@ gather-start s seen = go (text_in s) (heard-at-fits s 0 (Number Kind))
     go (wrong i at) f = refl
 
 -- what one word more says is gathered first
-turn-said : (seen : List ℕ) (l : List TextAtom) (w : Word) (next : Due) (said : Said) (h : Heard) → First w (Goes next said)
+turn-said : (seen : List ℕ) (l : List TextAtom) (w : Word) (next : Due) (said : Said) (h : Heard) → First w (Ok (next, said))
     → ((p : Part) → h ≡ says p → Fits next p)
     → gathered l (adding w said h) seen ≡ gathered (distinct_from l (atoms_said said)) h seen
 unfolding First gathered adding atoms_said distinct_from
@@ -153,23 +152,20 @@ turn-said seen l w next Chooses (wrong i at) f fits = refl
 turn-said seen l w next (Atom a standing) (wrong i at) f fits = refl
 
 module _ (s seen : List ℕ) (at : ℕ) (due : Due) (l : List TextAtom) {r : Step} (e : r ≡ step_at s at due) where
-  pub gather-turn : (next : Due) (said : Said) (from end : ℕ) → r ≡ Takes next said from end
-      → gathered l (heard_at s at due) seen ≡ gathered (distinct_from l (atoms_said said)) (heard_at s end next) seen
+  pub gather-turn : (t : Taken) → r ≡ Ok (Some t)
+      → gathered l (heard_at s at due) seen ≡ gathered (distinct_from l (atoms_said t.said)) (heard_at s t.end t.next) seen
   unfolding by_step
-  gather-turn next said from end g =
+  gather-turn t g =
       ap (λ h. gathered l h seen) (heard-by s at due e g)
-      ∙ turn-said seen l (word_at s from) next said (heard_at s end next) (rw (took-move s at due e next said from end g) at (first (word_at s from) due (word_at s from).bytes))
-      (heard-at-fits s end next)
+      ∙ turn-said seen l (word_at s t.from) t.next t.said (heard_at s t.end t.next)
+      (rw (took-move s at due e t g) at (first (word_at s t.from) due (word_at s t.from).bytes)) (heard-at-fits s t.end t.next)
 
-  pub gather-format : (place : ℕ) → r ≡ WrongFormat place → record { told = refused_at 30 place; buffer = seen } ≡ gathered l (heard_at s at due) seen
+  pub gather-unread : (u : Unread) → r ≡ Err u → record { told = told (Err (unimported u)); buffer = seen } ≡ gathered l (heard_at s at due) seen
   unfolding gathered by_step
-  gather-format place g = sym (ap (λ h. gathered l h seen) (heard-by s at due e g))
+  gather-unread (WrongFormat place) g = sym (ap (λ h. gathered l h seen) (heard-by s at due e g))
+  gather-unread (WrongKind place) g = sym (ap (λ h. gathered l h seen) (heard-by s at due e g))
 
-  pub gather-kind : (place : ℕ) → r ≡ WrongKind place → record { told = refused_at 31 place; buffer = seen } ≡ gathered l (heard_at s at due) seen
-  unfolding gathered by_step
-  gather-kind place g = sym (ap (λ h. gathered l h seen) (heard-by s at due e g))
-
-  pub gather-end : r ≡ Done → collected l seen ≡ gathered l (heard_at s at due) seen
+  pub gather-end : r ≡ Ok None → collected l seen ≡ gathered l (heard_at s at due) seen
   unfolding gathered by_step distinct_from atoms_of mentioned rules_atoms
   gather-end g = sym (ap (λ h. gathered l h seen) (heard-by s at due e g))
 
@@ -186,10 +182,10 @@ gathering-start s seen found h =
 
 pub gathering-turn : (s seen : List ℕ) (at : ℕ) (due : Due) {found after : List ℕ} {n m : ℕ} {r : Step}
     → Gathering s seen found n (heard_at s at due) → r ≡ step_at s at due
-    → (next : Due) (said : Said) (from end : ℕ) → r ≡ Takes next said from end → Notes (atoms_said said) n found m after
-    → Gathering s seen after m (heard_at s end next)
-gathering-turn s seen at due g e next said from end f notes = record {
-  atoms = distinct_from g.atoms (atoms_said said);
+    → (t : Taken) → r ≡ Ok (Some t) → Notes (atoms_said t.said) n found m after
+    → Gathering s seen after m (heard_at s t.end t.next)
+gathering-turn s seen at due g e t f notes = record {
+  atoms = distinct_from g.atoms (atoms_said t.said);
   stand = notes.behind g.atoms g.stand;
-  same = g.same ∙ gather-turn s seen at due g.atoms e next said from end f;
+  same = g.same ∙ gather-turn s seen at due g.atoms e t f;
 }

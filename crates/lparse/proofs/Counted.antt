@@ -1,32 +1,25 @@
--- How many of an array's atoms are smaller than one, one by one.
-use mathlib.Core.Path.{◌≡◌, ap, ◌∙◌}
+-- How many of an array's atoms are smaller than one: those that pass the test, counted.
+use mathlib.Core.Bool.{Bool, true, false}
 use mathlib.Core.List.{List}
-use Prim.Native.Nat.{ℕ, ◌+◌, ◌<◌, ◌≤◌}
-use native.Mathlib.Numerals.{add-one}
+use mathlib.Core.Path.{◌≡◌, refl, sym, ◌∙◌}
+use Prim.Native.Nat.{ℕ, suc, ◌+◌}
 use native.Mathlib.Omega.{arith}
-use lib.ListN.{length, get_or, drop, drop_of_length-le}
-use lib.Seq.{drop-cons}
-use borrow.Author.Tests.{lt-ltb, le-ltb}
-use Rattle.meaning.proofs.Choice.{b-yes, b-no}
+use lib.ListN.{length}
+use Rattle.std.proofs.Common.{ltb, cond}
+use Rattle.std.specs.List.{filter}
+use Rattle.std.proofs.lemmas.List.Sums.{length-filter}
+use Rattle.std.proofs.lemmas.List.Recursion.{is_count_by}
+use Rattle.meaning.specs.Choice.{ifb}
 use Rattle.imported.specs.declared.TextAtom.{TextAtom}
 use Rattle.imported.specs.Making.{count_in}
 use Rattle.lparse.specs.Forming.{place_of}
 
-module _ (s : List ℕ) (a : TextAtom) (i n : ℕ) (e : place_of s a ≡ n + place_of (drop i s) a) where
-  pub place_end : length s ≤ i → place_of s a ≡ n
-  unfolding place_of count_in
-  place_end h = let g = rw (drop_of_length-le s h) at e in omega arith
+one_more : (b : Bool) (n : ℕ) → ifb b (suc n) n ≡ cond b (1 + n) n
+unfolding ifb
+one_more true n = omega arith
+one_more false n = refl
 
-  pub place-smaller : i < length s → get_or s i 0 < a.0 → {m : ℕ} → m ≡ n + 1 → place_of s a ≡ m + place_of (drop (i + 1) s) a
-  unfolding place_of count_in
-  place-smaller h f g =
-      let k = rw (drop-cons s i 0 h) at e in
-      let j = k ∙ ap (λ x. n + x) (b-yes _ _ _ (lt-ltb _ _ f)) in
-      rw (add-one i) (omega arith)
-
-  pub place_other : i < length s → a.0 ≤ get_or s i 0 → {m : ℕ} → m ≡ n → place_of s a ≡ m + place_of (drop (i + 1) s) a
-  unfolding place_of count_in
-  place_other h f g =
-      let k = rw (drop-cons s i 0 h) at e in
-      let j = k ∙ ap (λ x. n + x) (b-no _ _ _ (le-ltb _ _ f)) in
-      rw (add-one i) (omega arith)
+pub counted : (a : TextAtom) (l : List ℕ) → length (filter (λ x. ltb x a.0) l) ≡ place_of l a
+unfolding place_of count_in
+counted a l =
+    length-filter _ l ∙ sym (is_count_by (λ xs. place_of xs a) (λ x. ltb x a.0) refl (λ x xs. one_more (ltb x a.0) (place_of xs a)) l)

@@ -17,7 +17,8 @@ use Rattle.book.specs.declared.making.Making.{Making}
 use Rattle.book.specs.Making.{listed, rule_by, Adds}
 use Rattle.book.proofs.AtomsFrom.{atoms-of, atoms-none}
 use Rattle.book.proofs.Made.{over, adds-passed}
-use Rattle.lparse.specs.declared.due.Standing.TheVariants.{Plus, Minus}
+use Rattle.lparse.specs.declared.due.Standing.{Standing}
+use Rattle.lparse.specs.declared.due.Standing.TheVariants.{Head, Free, Negative, Positive, Table, Plus, Minus}
 use Rattle.lparse.specs.Opened.{capped, no_atoms}
 use Rattle.lparse.specs.Forming.{entry_rules}
 use Rattle.lparse.proofs.Capped.{capped-real, capped-least}
@@ -99,3 +100,14 @@ module _ (n k : ℕ) {h : ℕ} (e : h ≡ capped k) (l : h < 255) (f : n < k) {m
   unfolding entry_rules
   minus-added i j adds = let z : h ≡ k = capped-real k e (omega arith) in
       rw (← z) (rw (j, i, one-listed n (omega arith), one-listed h l) at adds)
+
+-- an atom that stands elsewhere adds no rule
+pub no-entry : (s : Standing) (k n : ℕ) → (s ≡ Plus → ⊥) → (s ≡ Minus → ⊥) → entry_rules s k n ≡ []
+unfolding entry_rules
+no-entry Head k n p q = refl
+no-entry Free k n p q = refl
+no-entry Negative k n p q = refl
+no-entry Positive k n p q = refl
+no-entry Table k n p q = refl
+no-entry Plus k n p q = absurd (p refl)
+no-entry Minus k n p q = absurd (q refl)

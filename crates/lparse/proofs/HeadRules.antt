@@ -110,22 +110,27 @@ heads-begun free heads pos neg count c m d k e clear low = (e ∙ ap capped (sym
 
 module _ (free : Bool) (heads : List ℕ) (pos neg : List Bool) (count c : ℕ) (m : Making) (d : List ℕ) {made : Making} {helper j : ℕ} {e : List ℕ}
     (s : HeadsAdded free heads pos neg count c m d made helper j e) where
-  pub heads-turn : j < count → count ≤ 255 → {next : Making} {f : List ℕ} {h : ℕ}
-      → ((k : ℕ) → helper ≡ capped k → Clear neg k → get_or heads j 0 < 255 → Adds (head_rules free k (get_or heads j 0) pos neg) made e next f)
+  pub heads-turn : j < length (take count heads) → count ≤ 255 → {next : Making} {f : List ℕ} {h : ℕ}
+      → ((k : ℕ) → helper ≡ capped k → Clear neg k → get_or (take count heads) j 0 < 255
+      → Adds (head_rules free k (get_or (take count heads) j 0) pos neg) made e next f)
       → h ≡ capped (helper + 1) → HeadsAdded free heads pos neg count c m d next h (j + 1) f
-  heads-turn inside few {h = h} adds g k i clear low =
+  heads-turn within few {h = h} adds g k i clear low =
       let (p, u) = s k i clear low in
+      let inside : j < count = omega (arith, length-take-le count heads (omega (arith, low.long))) in
+      let read : get_or (take count heads) j 0 ≡ get_or heads j 0 = get_or-take count heads j 0 inside in
       let t : take (j + 1) heads ≡ take j heads ++ (get_or heads j 0 ∷ []) = ap (λ z. take z heads) (add-one j) ∙ take-suc heads j 0 (omega (arith, low.long)) in
       let z : length (take j heads) ≡ j = length-take-le j heads (omega (arith, low.long)) in
       let y : k + j + 1 ≡ k + (j + 1) = omega arith in (
         g ∙ ap (λ x. capped (x + 1)) p ∙ capped-on (k + j) 1 ∙ ap capped y,
         rw (t, rules-last free pos neg k (take j heads) (get_or heads j 0), z)
-            (adds_then u (adds (k + j) p (record { long = clear.long; above = λ x v. clear.above x (omega arith) }) (low.below j inside))),
+            (adds_then u (rw read at (adds (k + j) p (record { long = clear.long; above = λ x v. clear.above x (omega arith) }) (rw read (low.below j inside))))),
       )
 
-  pub heads-all : j ≡ count → (k : ℕ) → c ≡ capped k → Clear neg k → Low heads count
-      → Adds (open_rules free k (take count heads) pos neg) m d made e
-  heads-all i k g clear low = let (p, u) = s k g clear low in rw i at u
+  pub heads-all : j ≤ length (take count heads) → length (take count heads) ≤ j → count ≤ 255 → (k : ℕ) → c ≡ capped k → Clear neg k
+      → Low heads count → Adds (open_rules free k (take count heads) pos neg) m d made e
+  heads-all most least few k g clear low =
+      let (p, u) = s k g clear low in
+      let i : j ≡ count = omega (arith, length-take-le count heads (omega (arith, low.long))) in rw i at u
 
 -- the heads, one more
 pub heads-none : (free : Bool) → Heads [] (opening free)

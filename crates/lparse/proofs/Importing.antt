@@ -11,6 +11,7 @@ use native.Mathlib.Omega.{arith}
 use lib.ListN.{length, take, drop, replicate, length-replicate, length-append}
 use lib.Seq.{take_all, take-append-le, take-length}
 use borrow.Author.Tests.{le-leb, lt-leb}
+use Rattle.std.specs.Prelude.{Option, Some, None, Result, Ok, Err}
 use Rattle.meaning.specs.Books.{Book, count}
 use Rattle.meaning.specs.Told.{Told, success, refused_at, refused, Answered}
 use Rattle.meaning.proofs.Tests.{both, refuted, lt-or-le, not_first, apart}
@@ -25,16 +26,14 @@ use Rattle.imported.specs.declared.TextAtom.{TextAtom}
 use Rattle.imported.specs.Text.{Text}
 use Rattle.imported.specs.Making.{mentioned, distinct, atom_count, made_atoms, made_rules, made_book, fits_rule, fits_in}
 use Rattle.imported.proofs.Fits.{test_fits, count-made}
-use Rattle.lparse.specs.declared.importer.Laid.{Laid}
-use Rattle.lparse.specs.declared.importer.Laid.TheVariants.{Book as LaidBook, NoFit as Short}
-use Rattle.lparse.specs.declared.gather.Collected.{Collected}
-use Rattle.lparse.specs.declared.gather.Collected.TheVariants.{Atoms, TooMany, Format as WrongFormat, Kind as OtherKind}
+use Rattle.lparse.specs.declared.answer.Unimported.{Unimported}
+use Rattle.lparse.specs.declared.answer.Unimported.TheVariants.{Format as WrongFormat, Kind as OtherKind, NoFit}
 use Rattle.lparse.specs.declared.form.Forming.{Forming}
 use Rattle.lparse.specs.Reading.{Part, Heard, says, wrong}
 use Rattle.lparse.specs.Collect.{text_in, text_of, numbers_of, told, collected, collect_heard, collect_of}
 use Rattle.lparse.specs.Opened.{capped}
 use Rattle.lparse.specs.Make.{counted, Readable, Complete}
-use Rattle.lparse.specs.Import.{only, laid_of, hand_laid, hand_over, import_heard, import_of}
+use Rattle.lparse.specs.Import.{told_book, only, laid_of, hand_laid, hand_over, import_heard, import_of}
 use Rattle.lparse.proofs.Noting.{numbers-length}
 use Rattle.lparse.proofs.Capped.{capped-least, capped-on}
 
@@ -57,25 +56,25 @@ module _ (t : Text) where
 -- ---- what is laid out
 
 module _ (b : Book) (room : ℕ) where
-  no-fit : fits_in b ≡ false → Short ≡ laid_of b room
+  no-fit : fits_in b ≡ false → None ≡ laid_of b room
   unfolding laid_of
   no-fit e = sym (b-no _ _ _ e)
 
   -- a book that is laid out is within the limits and the room
-  pub laid-within : {n : ℕ} → laid_of b room ≡ LaidBook n → (fits_in b ≡ true) × (n ≡ length (bytes_of_book b)) × (n ≤ room)
+  pub laid-within : {n : ℕ} → laid_of b room ≡ Some n → (fits_in b ≡ true) × (n ≡ length (bytes_of_book b)) × (n ≤ room)
   unfolding laid_of
   laid-within {n} = b-either P (fits_in b) _ _
       (λ f. lt-either P _ _ _ _ (λ k e. apart cc) (λ k e. let z : length (bytes_of_book b) ≡ n = cc in (f, sym z, omega arith)))
       (λ f e. apart cc)
     where
-      P : Laid → Type 0
-      P x = x ≡ LaidBook n → (fits_in b ≡ true) × (n ≡ length (bytes_of_book b)) × (n ≤ room)
+      P : Option ℕ → Type 0
+      P x = x ≡ Some n → (fits_in b ≡ true) × (n ≡ length (bytes_of_book b)) × (n ≤ room)
 
 module _ (t : Text) (room : ℕ) {m : Making} {draft : List ℕ} (made : Made (made_rules t) m draft) where
-  pub laid-over : m.fits ≡ false → Short ≡ laid_of (made_book t) room
+  pub laid-over : m.fits ≡ false → None ≡ laid_of (made_book t) room
   laid-over e = no-fit (made_book t) room (over-small t (made-over made e))
 
-  pub laid-many : {n : ℕ} → n ≡ capped (made_book t).atoms → 255 < n → Short ≡ laid_of (made_book t) room
+  pub laid-many : {n : ℕ} → n ≡ capped (made_book t).atoms → 255 < n → None ≡ laid_of (made_book t) room
   laid-many e h = no-fit (made_book t) room (over-atoms t (capped-least (made_book t).atoms {m = 256} (rw e at h)))
 
   module _ (fine : m.fits ≡ true) {atoms : ℕ} (same : atoms ≡ (made_book t).atoms) (few : atoms ≤ 255) where
@@ -83,13 +82,13 @@ module _ (t : Text) (room : ℕ) {m : Making} {draft : List ℕ} (made : Made (m
     fit = small-fits t (made-whole made fine).small (rw same at few)
 
     module _ {n : ℕ} {after : List ℕ} (f : Finished (made_book t) n after) where
-      pub laid-short : room < n → Short ≡ laid_of (made_book t) room
+      pub laid-short : room < n → None ≡ laid_of (made_book t) room
       unfolding laid_of
       laid-short h = sym (b-yes _ _ _ fit ∙ lt_yes _ _ _ _ (rw (← f.size) h))
 
-      pub laid-book : n ≤ room → LaidBook n ≡ laid_of (made_book t) room
+      pub laid-book : n ≤ room → Some n ≡ laid_of (made_book t) room
       unfolding laid_of
-      laid-book h = ap LaidBook f.size ∙ sym (b-yes _ _ _ fit ∙ lt_no _ _ _ _ (rw (← f.size) h))
+      laid-book h = ap Some f.size ∙ sym (b-yes _ _ _ fit ∙ lt_no _ _ _ _ (rw (← f.size) h))
 
 pub blank : length {A = ℕ} (replicate book_bytes 0) ≡ book_bytes
 blank = length-replicate {A = ℕ} book_bytes 0
@@ -114,10 +113,10 @@ pub finished-made : (t : Text) {atoms n : ℕ} {draft : List ℕ} → atoms ≡ 
 unfolding made_book
 finished-made t e f = rw e at f
 
-pub short-book : {A : Type 0} {n : ℕ} → Short ≡ LaidBook n → A
+pub short-book : {A : Type 0} {n : ℕ} → None ≡ Some n → A
 short-book e = apart cc
 
-pub same-book : {b : Book} {n m : ℕ} {draft : List ℕ} → LaidBook n ≡ LaidBook m → Finished b n draft → Finished b m draft
+pub same-book : {b : Book} {n m : ℕ} {draft : List ℕ} → Some n ≡ Some m → Finished b n draft → Finished b m draft
 same-book {n = n} {m} e f = let z : n ≡ m = cc in rw z at f
 
 -- a book in the draft is no longer than the draft
@@ -135,17 +134,17 @@ module _ (b : Book) {n : ℕ} {draft : List ℕ} (f : Finished b n draft) where
   front_length : n ≡ length (take (n - 0) (drop 0 draft))
   front_length = f.size ∙ ap (length {A = ℕ}) (sym front_bytes)
 
-  pub front-room : {room : ℕ} {r : Laid} → r ≡ laid_of b room → r ≡ LaidBook n → length (take (n - 0) (drop 0 draft)) ≤ room
+  pub front-room : {room : ℕ} {r : Option ℕ} → r ≡ laid_of b room → r ≡ Some n → length (take (n - 0) (drop 0 draft)) ≤ room
   front-room {room} e g = let k = laid-within b room (sym e ∙ g) in omega (arith, k.2, front_length)
 
 -- ---- the book handed over
 
-module _ (s out : List ℕ) {p : Part} (h : text_in s ≡ says p) {r : Laid} (e : r ≡ laid_of (made_book (text_of p)) (length out)) where
-  pub given-short : r ≡ Short → only out (refused 32) ≡ import_of s out
+module _ (s out : List ℕ) {p : Part} (h : text_in s ≡ says p) {r : Option ℕ} (e : r ≡ laid_of (made_book (text_of p)) (length out)) where
+  pub given-short : r ≡ None → only out (refused 32) ≡ import_of s out
   unfolding import_heard hand_laid
   given-short g = rw (h, ← e, g)
 
-  pub given-book : {n : ℕ} → r ≡ LaidBook n → {front after : List ℕ} → front ≡ bytes_of_book (made_book (text_of p))
+  pub given-book : {n : ℕ} → r ≡ Some n → {front after : List ℕ} → front ≡ bytes_of_book (made_book (text_of p))
       → after ≡ front ++ drop (length front) out
       → record { told = success n; buffer = after } ≡ import_of s out
   unfolding import_heard hand_laid
@@ -204,22 +203,18 @@ module _ (seen out : List ℕ) {after : List ℕ} where
   heard-wrong {i} {place} (says p) f = lt-either (λ x. passed (refused_at i place) after ≡ x → only out (refused_at i place) ≡ hand_over (made_book (text_of p)) out) _ _ _ _
       (λ h f. let g = ap (λ a. a.told) f in apart cc) (λ h f. let g = ap (λ a. a.told) f in apart cc) f
 
-module _ (s seen out : List ℕ) (r : Collected) {after : List ℕ} (e : passed (told r) after ≡ collect_of s seen) where
+module _ (s seen out : List ℕ) (r : Result ℕ Unimported) {after : List ℕ} (e : passed (told r) after ≡ collect_of s seen) where
   said : {x : Told ℕ} → told r ≡ x → passed x after ≡ collect_heard (text_in s) seen
   unfolding collect_of
   said g = ap (λ x. passed x after) (sym g) ∙ e
 
-  pub atoms-said : {n : ℕ} → r ≡ Atoms n → Readable s (take (n - 0) (drop 0 after))
+  pub atoms-said : {n : ℕ} → r ≡ Ok n → Readable s (take (n - 0) (drop 0 after))
   atoms-said g = heard-atoms seen out s (text_in s) refl (said (ap told g))
 
-  pub atoms-within : {n : ℕ} → r ≡ Atoms n → n ≤ length after
+  pub atoms-within : {n : ℕ} → r ≡ Ok n → n ≤ length after
   atoms-within g = heard-within seen out (text_in s) (said (ap told g))
 
-  pub many-said : r ≡ TooMany → only out (refused 32) ≡ import_of s out
-  many-said g = heard-many seen out (text_in s) (said (ap told g))
-
-  pub format-said : {place : ℕ} → r ≡ WrongFormat place → only out (refused_at 30 place) ≡ import_of s out
-  format-said g = heard-wrong seen out (text_in s) (said (ap told g))
-
-  pub kind-said : {place : ℕ} → r ≡ OtherKind place → only out (refused_at 31 place) ≡ import_of s out
-  kind-said g = heard-wrong seen out (text_in s) (said (ap told g))
+  pub refused-said : (u : Unimported) → r ≡ Err u → only out (told_book (Err u)) ≡ import_of s out
+  refused-said NoFit g = heard-many seen out (text_in s) (said (ap told g))
+  refused-said (WrongFormat place) g = heard-wrong seen out (text_in s) (said (ap told g))
+  refused-said (OtherKind place) g = heard-wrong seen out (text_in s) (said (ap told g))

@@ -3,12 +3,12 @@ use mathlib.Core.Path.{◌≡◌}
 use mathlib.Core.Bool.{true}
 use mathlib.Core.List.{List, ◌∷◌, map}
 use Prim.Native.Nat.{ℕ}
+use Rattle.std.specs.Prelude.{Ok}
 use Rattle.meaning.specs.Sets.{every}
 use Rattle.imported.specs.Making.{rules_atoms}
 use Rattle.lparse.specs.declared.due.Due.{Due}
 use Rattle.lparse.specs.declared.due.Due.TheVariants.{Number, Name, PlusWord, MinusWord, End}
 use Rattle.lparse.specs.declared.due.Said.{Said}
-use Rattle.lparse.specs.declared.due.Move.TheVariants.{Goes}
 use Rattle.lparse.specs.Words.{Word}
 use Rattle.lparse.specs.Reading.{move_of, Part, with, says, adding, on_move, heard}
 use Rattle.lparse.specs.Says.{Token, Spelling, from_one, headed}
@@ -35,7 +35,7 @@ Proper MinusWord = Unit {0}
 Proper End = Unit {0}
 
 module _ (len : ℕ) (w : Word) (ws : List Word) where
-  pub heard-one : (due next : Due) (said : Said) (q p : Part) → move_of due w.bytes ≡ Goes next said → heard len next ws ≡ says q
+  pub heard-one : (due next : Due) (said : Said) (q p : Part) → move_of due w.bytes ≡ Ok (next, said) → heard len next ws ≡ says q
       → with w said q ≡ p → heard len due (w ∷ ws) ≡ says p
   unfolding heard on_move adding
   heard-one due next said q p e f g = rw (e, f, g)

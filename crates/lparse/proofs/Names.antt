@@ -7,11 +7,11 @@ use mathlib.Core.List.{List, [], ◌∷◌, Memᴰ}
 use Prim.Native.Nat.{ℕ, suc, ◌+◌, ◌-◌, ◌<◌, ◌≤◌}
 use native.Mathlib.Omega.{arith}
 use native.Mathlib.Numerals.{add-one}
-use lib.Dec.{eqb}
 use lib.ListN.{length, get_or, drop, length-drop, drop_of_length-le}
 use lib.Seq.{drop-cons, length-take-le}
+use Rattle.std.specs.Prelude.{Option, Some, None, Ok, Err}
 use Rattle.meaning.specs.Choice.{ifb, if_eq}
-use Rattle.meaning.proofs.Choice.{b-yes, b-no, eq_yes, eq_no, eq-either}
+use Rattle.meaning.proofs.Choice.{eq_yes, eq_no, eq-either}
 use Rattle.imported.specs.declared.TextAtom.{TextAtom}
 use Rattle.imported.specs.Text.{same_text, Text}
 use Rattle.imported.specs.Making.{mentioned, distinct, number}
@@ -22,16 +22,15 @@ use Rattle.lparse.specs.declared.due.Standing.{Standing}
 use Rattle.lparse.specs.declared.due.Standing.TheVariants.{Head as InHead, Free as InFree, Negative as InNegative, Positive as InPositive, Table as InTable, Plus as InPlus, Minus as InMinus}
 use Rattle.lparse.specs.declared.due.Said.{Said}
 use Rattle.lparse.specs.declared.due.Said.TheVariants.{Nothing as Silent, Choice as Chooses, Atom}
-use Rattle.lparse.specs.declared.step.Step.{Step}
-use Rattle.lparse.specs.declared.step.Step.TheVariants.{Goes as Takes, Format as WrongFormat, Kind as WrongKind, Done}
-use Rattle.lparse.specs.declared.named.Whose.TheVariants.{Atom as AtomOf, Nothing as Nobody}
-use Rattle.lparse.specs.declared.named.Name.{Name}
-use Rattle.lparse.specs.declared.named.Name.TheVariants.{At, Nothing as Nameless}
+use Rattle.lparse.specs.declared.step.Taken.{Taken}
+use Rattle.lparse.specs.declared.step.Unread.{Unread}
+use Rattle.lparse.specs.declared.step.Unread.TheVariants.{Format as WrongFormat, Kind as WrongKind}
 use Rattle.lparse.specs.Words.{end_of, Word, word_at}
-use Rattle.lparse.specs.Reading.{text_atom, step_at, Entry, Part, with, with_atom, with_choice, Heard, says, wrong, adding, heard_at}
+use Rattle.lparse.specs.Reading.{Step, text_atom, step_at, Entry, Part, with, with_atom, with_choice, Heard, says, wrong, adding, heard_at}
 use Rattle.lparse.specs.Collect.{numbers_of}
 use Rattle.lparse.specs.Forming.{place_of}
-use Rattle.lparse.specs.Names.{whose_in, whose_of, nth_in, name_heard, name_of, in_table, is_named, found_by, left_by}
+use Rattle.lparse.specs.Names.{whose_in, whose_of, nth_in, name_heard, name_of, in_table, is_named, name_at, name_said}
+use Rattle.lparse.specs.Nth.{kth_found, kth_left}
 use Rattle.lparse.specs.Says.{Written, Says}
 use Rattle.lparse.proofs.SaidText.{says-read}
 use Rattle.lparse.proofs.Noting.{numbers-atoms}
@@ -40,16 +39,16 @@ use Rattle.lparse.proofs.Reading.{by_step, heard-by, took-ahead, took-end}
 -- ---- the atom with a number
 
 module _ (s : List ℕ) (n i : ℕ) (e : whose_of s n ≡ whose_in s (drop i s) n) where
-  pub whose-none : length s ≤ i → Nobody ≡ whose_of s n
+  pub whose-none : length s ≤ i → None ≡ whose_of s n
   unfolding whose_in
   whose-none h = sym (e ∙ ap (λ l. whose_in s l n) (drop_of_length-le s h))
 
   module _ (h : i < length s) {m : ℕ} (p : m ≡ place_of s (text_atom (get_or s i 0))) where
-    next : whose_of s n ≡ if_eq (place_of s (text_atom (get_or s i 0))) n (AtomOf (text_atom (get_or s i 0))) (whose_in s (drop (suc i) s) n)
+    next : whose_of s n ≡ if_eq (place_of s (text_atom (get_or s i 0))) n (Some (text_atom (get_or s i 0))) (whose_in s (drop (suc i) s) n)
     unfolding whose_in
     next = e ∙ ap (λ l. whose_in s l n) (drop-cons s i 0 h)
 
-    pub whose-here : m ≡ n → AtomOf (text_atom (get_or s i 0)) ≡ whose_of s n
+    pub whose-here : m ≡ n → Some (text_atom (get_or s i 0)) ≡ whose_of s n
     whose-here f = sym (next ∙ eq_yes _ _ _ _ (sym p ∙ f))
 
     pub whose-next : (m ≡ n → ⊥) → whose_of s n ≡ whose_in s (drop (i + 1) s) n
@@ -58,21 +57,21 @@ module _ (s : List ℕ) (n i : ℕ) (e : whose_of s n ≡ whose_in s (drop i s) 
 -- ---- one word more in front
 
 -- a name found, or else the name that the rest has
-unfoldable pub or_else : Name → Name → Name
-or_else (At i j) y = At i j
-or_else Nameless y = y
+unfoldable pub or_else : Option (ℕ × ℕ) → Option (ℕ × ℕ) → Option (ℕ × ℕ)
+or_else (Some (i, j)) y = Some (i, j)
+or_else None y = y
 
-stays : (x : Name) → x ≡ or_else x Nameless
+stays : (x : Option (ℕ × ℕ)) → x ≡ or_else x None
 unfolding or_else
-stays (At i j) = refl
-stays Nameless = refl
+stays (Some (i, j)) = refl
+stays None = refl
 
 -- what the whole search gives, from the name found so far and what is heard of the rest
-unfoldable pub named_by : Name → ℕ → Heard → TextAtom → Name
+unfoldable pub named_by : Option (ℕ × ℕ) → ℕ → Heard → TextAtom → Option (ℕ × ℕ)
 named_by found left (says p) a = or_else found (nth_in p.table a left)
-named_by found left (wrong i at) a = Nameless
+named_by found left (wrong i at) a = None
 
-pub named_start : (h : Heard) (a : TextAtom) (k : ℕ) → name_heard h a k ≡ named_by Nameless k h a
+pub named_start : (h : Heard) (a : TextAtom) (k : ℕ) → name_heard h a k ≡ named_by None k h a
 unfolding name_heard named_by or_else
 named_start (says p) a k = refl
 named_start (wrong i at) a k = refl
@@ -85,31 +84,31 @@ word_bytes s from end e f h =
     let g = length-take-le (end_of s from - from) (drop from s) (omega (arith, length-drop from s)) in omega (arith, g)
 
 -- a word that is no name of the atom changes nothing; one that is takes a turn
-turn-none : (found : Name) (left from end : ℕ) (y : Name) → or_else found y ≡ or_else (found_by found false left from end) y
-unfolding or_else found_by ifb
-turn-none (At i j) left from end y = refl
-turn-none Nameless left from end y = refl
+turn-none : (found : Option (ℕ × ℕ)) (left from end : ℕ) (y : Option (ℕ × ℕ)) → or_else found y ≡ or_else (kth_found found (name_at false from end) left) y
+unfolding or_else kth_found ifb
+turn-none (Some (i, j)) left from end y = refl
+turn-none None left from end y = eq-either (λ x. y ≡ or_else x y) left 0 _ _ (λ e. refl) (λ e. refl)
 
-module _ (from end : ℕ) (rest : ℕ → Name) where
-  turn-named : (found : Name) (left : ℕ)
-      → or_else found (if_eq left 0 (At from end) (rest (left - 1))) ≡ or_else (found_by found true left from end) (rest (left - 1))
-  unfolding or_else found_by ifb
-  turn-named (At i j) left = refl
-  turn-named Nameless left =
-      eq-either (λ x. if_eq left 0 (At from end) (rest (left - 1)) ≡ or_else x (rest (left - 1))) left 0 _ _
+module _ (from end : ℕ) (rest : ℕ → Option (ℕ × ℕ)) where
+  turn-named : (found : Option (ℕ × ℕ)) (left : ℕ)
+      → or_else found (if_eq left 0 (Some (from, end)) (rest (left - 1))) ≡ or_else (kth_found found (name_at true from end) left) (rest (left - 1))
+  unfolding or_else kth_found ifb
+  turn-named (Some (i, j)) left = refl
+  turn-named None left =
+      eq-either (λ x. if_eq left 0 (Some (from, end)) (rest (left - 1)) ≡ or_else x (rest (left - 1))) left 0 _ _
       (λ e. eq_yes _ _ _ _ e) (λ e. eq_no _ _ _ _ e)
 
 module _ (w : Word) (a : TextAtom) (from end : ℕ) (place : w.place ≡ from) (long : from + length w.bytes ≡ end) where
-  entry-turn : (c : TextAtom) (l : List Entry) (found : Name) (left : ℕ) (b : Bool) → same_text a c ≡ b
-      → or_else found (nth_in (record { atom = c; name = w } ∷ l) a left) ≡ or_else (found_by found b left from end) (nth_in l a (left_by left b))
-  unfolding nth_in left_by ifb
+  entry-turn : (c : TextAtom) (l : List Entry) (found : Option (ℕ × ℕ)) (left : ℕ) (b : Bool) → same_text a c ≡ b
+      → or_else found (nth_in (record { atom = c; name = w } ∷ l) a left) ≡ or_else (kth_found found (name_at b from end) left) (nth_in l a (kth_left left (name_at b from end)))
+  unfolding nth_in kth_left ifb
   entry-turn c l found left true e = rw (e, place, long) (turn-named from end (λ k. nth_in l a k) found left)
   entry-turn c l found left false e = rw e (turn-none found left from end (nth_in l a left))
 
-  atom-turn : (c : TextAtom) (standing : Standing) (p : Part) (found : Name) (left : ℕ)
+  atom-turn : (c : TextAtom) (standing : Standing) (p : Part) (found : Option (ℕ × ℕ)) (left : ℕ)
       → or_else found (nth_in (with_atom w c standing p).table a left)
-      ≡ or_else (found_by found (is_named (Atom c standing) a) left from end) (nth_in p.table a (left_by left (is_named (Atom c standing) a)))
-  unfolding with_atom is_named in_table left_by ifb
+      ≡ or_else (kth_found found (name_at (is_named (Atom c standing) a) from end) left) (nth_in p.table a (kth_left left (name_at (is_named (Atom c standing) a) from end)))
+  unfolding with_atom is_named in_table kth_left ifb
   atom-turn c InHead p found left = turn-none found left from end _
   atom-turn c InFree p found left = turn-none found left from end _
   atom-turn c InNegative p found left = turn-none found left from end _
@@ -118,10 +117,10 @@ module _ (w : Word) (a : TextAtom) (from end : ℕ) (place : w.place ≡ from) (
   atom-turn c InPlus p found left = turn-none found left from end _
   atom-turn c InMinus p found left = turn-none found left from end _
 
-  named-turn : (said : Said) (h : Heard) (found : Name) (left : ℕ)
+  named-turn : (said : Said) (h : Heard) (found : Option (ℕ × ℕ)) (left : ℕ)
       → named_by found left (adding w said h) a
-      ≡ named_by (found_by found (is_named said a) left from end) (left_by left (is_named said a)) h a
-  unfolding named_by adding with with_choice is_named left_by ifb
+      ≡ named_by (kth_found found (name_at (is_named said a) from end) left) (kth_left left (name_at (is_named said a) from end)) h a
+  unfolding named_by adding with with_choice is_named kth_left ifb
   named-turn Silent (says p) found left = turn-none found left from end _
   named-turn Chooses (says p) found left = turn-none found left from end _
   named-turn (Atom c standing) (says p) found left = atom-turn c standing p found left
@@ -129,76 +128,26 @@ module _ (w : Word) (a : TextAtom) (from end : ℕ) (place : w.place ≡ from) (
   named-turn Chooses (wrong i at) found left = refl
   named-turn (Atom c standing) (wrong i at) found left = refl
 
--- ---- the functions of one word
-
-module _ (a c : TextAtom) (standing : Standing) {said : Said} (e : said ≡ Atom c standing) {b : Bool} (f : b ≡ in_table standing) where
-  pub named-elsewhere : b ≡ false → false ≡ is_named said a
-  unfolding is_named
-  named-elsewhere g = rw (e, ← f) (sym (b-no _ _ _ g))
-
-  pub named_table : b ≡ true → eqb a.0 c.0 ≡ is_named said a
-  unfolding is_named same_text
-  named_table g = rw (e, ← f) (sym (b-yes _ _ _ g))
-
-module _ (a : TextAtom) {said : Said} where
-  pub named-silent : said ≡ Silent → false ≡ is_named said a
-  unfolding is_named
-  named-silent e = rw e
-
-  pub named-choice : said ≡ Chooses → false ≡ is_named said a
-  unfolding is_named
-  named-choice e = rw e
-
-module _ (named : Bool) (left from end : ℕ) {found : Name} where
-  pub found-stays : {i j : ℕ} → found ≡ At i j → found ≡ found_by found named left from end
-  unfolding found_by
-  found-stays e = rw e
-
-  module _ (e : found ≡ Nameless) where
-    pub found-other : named ≡ false → Nameless ≡ found_by found named left from end
-    unfolding found_by
-    found-other g = rw e (sym (b-no _ _ _ g))
-
-    pub found_passed : named ≡ true → (left ≡ 0 → ⊥) → Nameless ≡ found_by found named left from end
-    unfolding found_by
-    found_passed g h = rw e (sym (b-yes _ _ _ g ∙ eq_no _ _ _ _ h))
-
-    pub found_here : named ≡ true → left ≡ 0 → At from end ≡ found_by found named left from end
-    unfolding found_by
-    found_here g h = rw e (sym (b-yes _ _ _ g ∙ eq_yes _ _ _ _ h))
-
-module _ (left : ℕ) {named : Bool} where
-  pub left-same : named ≡ false → left ≡ left_by left named
-  unfolding left_by
-  left-same g = sym (b-no _ _ _ g)
-
-  pub left_less : named ≡ true → {n : ℕ} → n ≡ left - 1 → n ≡ left_by left named
-  unfolding left_by
-  left_less g e = e ∙ sym (b-yes _ _ _ g)
-
 -- ---- the search for a name
 
-module _ (s : List ℕ) (a : TextAtom) (at : ℕ) (due : Due) (found : Name) (left : ℕ) {r : Step} (e : r ≡ step_at s at due) where
-  pub name-turn : (next : Due) (said : Said) (from end : ℕ) → r ≡ Takes next said from end
-      → {named : Bool} → named ≡ is_named said a → {f : Name} → f ≡ found_by found named left from end → {l : ℕ} → l ≡ left_by left named
-      → named_by found left (heard_at s at due) a ≡ named_by f l (heard_at s end next) a
+module _ (s : List ℕ) (a : TextAtom) (at : ℕ) (due : Due) (found : Option (ℕ × ℕ)) (left : ℕ) {r : Step} (e : r ≡ step_at s at due) where
+  pub name-turn : (t : Taken) → r ≡ Ok (Some t)
+      → {here : Option (ℕ × ℕ)} → here ≡ name_said t.said a t.from t.end → {f : Option (ℕ × ℕ)} → f ≡ kth_found found here left → {l : ℕ} → l ≡ kth_left left here
+      → named_by found left (heard_at s at due) a ≡ named_by f l (heard_at s t.end t.next) a
   unfolding by_step word_at
-  name-turn next said from end g n i j =
-      let (f, h, k) = took-ahead s at due e next said from end g in
+  name-turn t g n i j =
+      let (f, h, k) = took-ahead s at due e t g in
       ap (λ h. named_by found left h a) (heard-by s at due e g)
-      ∙ named-turn (word_at s from) a from end refl (word_bytes s from end (took-end s at due e next said from end g) h k) said
-      (heard_at s end next) found left
+      ∙ named-turn (word_at s t.from) a t.from t.end refl (word_bytes s t.from t.end (took-end s at due e t g) h k) t.said
+      (heard_at s t.end t.next) found left
       ∙ sym (rw (i, j, n))
 
-  pub name-format : (place : ℕ) → r ≡ WrongFormat place → Nameless ≡ named_by found left (heard_at s at due) a
+  pub name-unread : (u : Unread) → r ≡ Err u → None ≡ named_by found left (heard_at s at due) a
   unfolding by_step named_by
-  name-format place g = sym (ap (λ h. named_by found left h a) (heard-by s at due e g))
+  name-unread (WrongFormat place) g = sym (ap (λ h. named_by found left h a) (heard-by s at due e g))
+  name-unread (WrongKind place) g = sym (ap (λ h. named_by found left h a) (heard-by s at due e g))
 
-  pub name-kind : (place : ℕ) → r ≡ WrongKind place → Nameless ≡ named_by found left (heard_at s at due) a
-  unfolding by_step named_by
-  name-kind place g = sym (ap (λ h. named_by found left h a) (heard-by s at due e g))
-
-  pub name_done : r ≡ Done → found ≡ named_by found left (heard_at s at due) a
+  pub name_done : r ≡ Ok None → found ≡ named_by found left (heard_at s at due) a
   unfolding by_step named_by nth_in
   name_done g = stays found ∙ sym (ap (λ h. named_by found left h a) (heard-by s at due e g))
 
@@ -214,17 +163,17 @@ module _ (t : Text) where
   place-number a = rw (numbers-atoms (distinct (mentioned t)))
 
   whose-among : (l : List TextAtom) (n : ℕ) (a : TextAtom) → ((c : TextAtom) → Memᴰ c l → Mentioned t c) → Memᴰ a l
-      → number t a ≡ n → whose_in seen (numbers_of l) n ≡ AtomOf a
+      → number t a ≡ n → whose_in seen (numbers_of l) n ≡ Some a
   unfolding whose_in numbers_of
   whose-among (c ∷ l) n a f m e =
-      eq-either (λ x. x ≡ AtomOf a) (place_of seen c) n _ _
-      (λ g. ap AtomOf (number-one t c a (f c (Memᴰ.head refl)) (f a m) (sym (place-number c) ∙ g ∙ sym e)))
+      eq-either (λ x. x ≡ Some a) (place_of seen c) n _ _
+      (λ g. ap Some (number-one t c a (f c (Memᴰ.head refl)) (f a m) (sym (place-number c) ∙ g ∙ sym e)))
       (λ g. ⊎_elim (λ p. absurd (g (ap (place_of seen) (sym p) ∙ place-number a ∙ e)))
       (λ k. whose-among l n a (λ d j. f d (Memᴰ.tail j)) k e) (Memᴰ.cases_cons m))
   whose-among [] n a f m e = absurd (Memᴰ.not-nil m)
 
   -- the atom of the text that the book calls by its number
-  pub atom-at-right : (a : TextAtom) → Mentioned t a → whose_of seen (number t a) ≡ AtomOf a
+  pub atom-at-right : (a : TextAtom) → Mentioned t a → whose_of seen (number t a) ≡ Some a
   atom-at-right a m =
       whose-among (distinct (mentioned t)) (number t a) a
       (λ c k. ⊎_elim (λ z. absurd (Memᴰ.not-nil z)) (λ z. z) (distinct-by (mentioned t) [] c k)) (distinct_of (mentioned t) [] a m) refl

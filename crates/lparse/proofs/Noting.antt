@@ -1,17 +1,18 @@
 -- One atom more in the array of a text's different atoms, if it is not there yet, and the copy to the array lent (specs/Collect).
 use mathlib.Core.Path.{◌≡◌, refl, ap, sym, ◌∙◌}
-use mathlib.Core.Bool.{true, false}
-use mathlib.Core.List.{List, [], ◌∷◌, ◌++◌, map, map-append}
+use mathlib.Core.Bool.{Bool, true, false}
+use mathlib.Core.List.{List, [], ◌∷◌, ◌++◌, map}
 use Prim.Native.Nat.{ℕ, suc, ◌+◌, ◌≤◌, ◌<◌}
 use native.Mathlib.Numerals.{add-one}
 use native.Mathlib.Omega.{arith}
-use lib.ListN.{length, take, drop, get_or, set, length-append, length-set, length-map, get_or-map}
-use lib.Seq.{take-suc, take-suc-set, get_or-take, length-take-le, paste-suc}
-use native.Mathlib.Nat.{zero-add}
-use borrow.Author.Tests.{eq-eqb, ne_eqb}
+use lib.ListN.{length, take, drop, set, length-append, length-set}
+use lib.Seq.{take-suc-set}
+use lib.Dec.{eqb}
+use borrow.Author.Tests.{eq-eqb, eqb-true}
+use Rattle.std.specs.List.{list_any}
 use Rattle.meaning.specs.Sets.{some}
+use Rattle.meaning.proofs.Tests.{same}
 use Rattle.meaning.specs.Told.{refused, success, Answered}
-use Rattle.meaning.proofs.Sets.{some-here, some-append}
 use Rattle.meaning.proofs.Choice.{b-yes, b-no, b-either, lt_yes, lt_no}
 use Rattle.imported.specs.Text.{same_text}
 use Rattle.imported.specs.Making.{add_new, distinct_from}
@@ -57,20 +58,20 @@ stands-long (whole g e h f) = g
 stands-long (passed g e h) = g
 
 -- the search for an atom among the first
-module _ (a : TextAtom) (found : List ℕ) where
-  pub none-next : (i : ℕ) → i < length found → (a.0 ≡ get_or found i 0 → ⊥) → some (same_text a) (map text_atom (take i found)) ≡ false
-      → some (same_text a) (map text_atom (take (i + 1) found)) ≡ false
-  unfolding same_text some
-  none-next i h e g =
-      rw (add-one i, take-suc found i 0 h, map-append, some-append, g) (rw (ne_eqb a.0 (get_or found i 0) e))
+eqb-turned : (m n : ℕ) → eqb m n ≡ eqb n m
+eqb-turned m n = same _ _ (λ e. eq-eqb n m (sym (eqb-true m n e))) (λ e. eq-eqb m n (sym (eqb-true n m e)))
 
-  pub one-here : (i n : ℕ) → i < n → n ≤ length found → a.0 ≡ get_or found i 0
-      → some (same_text a) (map text_atom (take n found)) ≡ true
-  unfolding same_text
-  one-here i n h g e =
-      some-here (same_text a) (map text_atom (take n found)) i (text_atom 0)
-      (rw (length-map (take n found) text_atom, length-take-le n found g) h)
-      (rw (get_or-map text_atom (take n found) i 0, get_or-take n found i 0 h) (eq-eqb a.0 (get_or found i 0) e))
+any-some : (a : TextAtom) (l : List ℕ) → list_any (λ y. eqb y a.0) l ≡ some (same_text a) (map text_atom l)
+unfolding same_text some
+any-some a [] = refl
+any-some a (x ∷ l) = rw (eqb-turned x a.0, any-some a l) refl
+
+module _ (a : TextAtom) (l : List ℕ) {r : Bool} (e : r ≡ list_any (λ y. eqb y a.0) l) where
+  pub stands-there : r ≡ true → some (same_text a) (map text_atom l) ≡ true
+  stands-there h = sym (any-some a l) ∙ sym e ∙ h
+
+  pub stands-not : r ≡ false → some (same_text a) (map text_atom l) ≡ false
+  stands-not h = sym (any-some a l) ∙ sym e ∙ h
 
 module _ (a : TextAtom) (n : ℕ) (found : List ℕ) where
   pub note-passed : 255 < n → Notes (a ∷ []) n found n found
@@ -115,10 +116,6 @@ unfolding distinct_from
 note-silent n found = record { behind = λ l s. s }
 
 -- ---- the copy
-
-pub copy_more : (found seen : List ℕ) (i : ℕ) → i < length found → i < length seen → {b : List ℕ} → b ≡ take i found ++ drop i seen
-    → set b i (get_or found i 0) ≡ take (i + 1) found ++ drop (i + 1) seen
-copy_more found seen i h g e = rw (e, add-one) (simp zero-add at (paste-suc seen 0 found i 0 (omega arith) h))
 
 module _ (seen : List ℕ) {l : List TextAtom} {n : ℕ} {found : List ℕ} where
   pub handed-many : Stands l n found → 255 < n → ◌≡◌ {A = Answered ℕ} (record { told = refused 32; buffer = seen }) (collected l seen)

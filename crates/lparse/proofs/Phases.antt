@@ -5,10 +5,9 @@ use mathlib.Core.List.{List, [], ◌∷◌}
 use Prim.Native.Nat.{ℕ, suc, ◌+◌, ◌-◌}
 use native.Mathlib.Omega.{arith}
 use lib.ListN.{length}
+use Rattle.std.specs.Prelude.{Option, Some, None, Ok, Err}
 use Rattle.meaning.specs.Choice.{ifb}
 use Rattle.meaning.proofs.Choice.{b-either, lt-either, eq-either}
-use Rattle.decimal.specs.declared.Digits.{Digits}
-use Rattle.decimal.specs.declared.Digits.TheVariants.{Value, Nothing}
 use Rattle.imported.specs.declared.TextAtom.{TextAtom}
 use Rattle.imported.specs.Text.{TextRule}
 use Rattle.lparse.specs.declared.due.Role.{Role}
@@ -16,10 +15,9 @@ use Rattle.lparse.specs.declared.due.Role.TheVariants.{Kind, Head, HeadCount, He
 use Rattle.lparse.specs.declared.due.Due.{Due}
 use Rattle.lparse.specs.declared.due.Due.TheVariants.{Number, Name, PlusWord, MinusWord, End}
 use Rattle.lparse.specs.declared.due.Said.{Said}
-use Rattle.lparse.specs.declared.due.Move.{Move}
-use Rattle.lparse.specs.declared.due.Move.TheVariants.{Goes, Format, Kind as OtherKind}
+use Rattle.lparse.specs.declared.due.Misplaced.TheVariants.{Format, Kind as OtherKind}
 use Rattle.lparse.specs.Words.{Word}
-use Rattle.lparse.specs.Reading.{body_of, heads_of, on_kind, on_atom, on_listed, on_head_count, on_negatives, on_number, number_in, on_value, on_sign, move_of, signed, whole, Entry, Part, nothing_more, with, with_atom, with_choice, Heard, says, wrong, adding, on_move, heard}
+use Rattle.lparse.specs.Reading.{Move, body_of, heads_of, on_kind, on_atom, on_listed, on_head_count, on_negatives, on_number, number_in, on_value, on_sign, move_of, signed, whole, Entry, Part, nothing_more, with, with_atom, with_choice, Heard, says, wrong, adding, on_move, heard}
 
 -- m negatives and n positives of the open rule are left, and no head of a choice
 pub record Open (m n : ℕ) (heads neg pos : List TextAtom) : Type 0 where
@@ -84,9 +82,9 @@ heads-left n p =
 
 -- what is due before a word fits what it says and what fits behind it
 unfoldable Back : Word → Due → Move → Type 0
-Back w due (Goes next said) = (p : Part) → Fits next p → Fits due (with w said p)
-Back w due Format = Unit {0}
-Back w due OtherKind = Unit {0}
+Back w due (Ok (next, said)) = (p : Part) → Fits next p → Fits due (with w said p)
+Back w due (Err Format) = Unit {0}
+Back w due (Err OtherKind) = Unit {0}
 
 module _ (w : Word) where
   back-number : (role : Role) (n : ℕ) → Back w (Number role) (on_number role n)
@@ -118,10 +116,10 @@ module _ (w : Word) where
   back-number Minus n = eq-either (Back w (Number Minus)) n 0 _ _ (λ e p f. f.behind-plus) (λ e p f. f)
   back-number Models n = λ p f. f
 
-  back-value : (role : Role) (d : Digits) → Back w (Number role) (on_value role d)
+  back-value : (role : Role) (d : Option ℕ) → Back w (Number role) (on_value role d)
   unfolding Back on_value
-  back-value role (Value n) = back-number role n
-  back-value role Nothing = tt
+  back-value role (Some n) = back-number role n
+  back-value role None = tt
 
   back : (due : Due) (l : List ℕ) → Back w due (move_of due l)
   unfolding Back Fits FitsRole move_of on_sign with with_atom
@@ -132,7 +130,7 @@ module _ (w : Word) where
   back End l = tt
 
   -- what was heard of one word more
-  fits_said : (due next : Due) (said : Said) (h : Heard) → Back w due (Goes next said)
+  fits_said : (due next : Due) (said : Said) (h : Heard) → Back w due (Ok (next, said))
       → ((p : Part) → h ≡ says p → Fits next p) → (p : Part) → adding w said h ≡ says p → Fits due p
   unfolding Back adding
   fits_said due next said (says q) b rest p e =
@@ -142,9 +140,9 @@ module _ (w : Word) where
   fits-move : (due : Due) (m : Move) (k : Due → Heard) → Back w due m
       → ((next : Due) (p : Part) → k next ≡ says p → Fits next p) → (p : Part) → on_move m w k ≡ says p → Fits due p
   unfolding on_move
-  fits-move due (Goes next said) k b rest p e = fits_said due next said (k next) b (rest next) p e
-  fits-move due Format k b rest p e = let z : ◌≡◌ {A = ℕ} 0 1 = cc in absurd (omega arith)
-  fits-move due OtherKind k b rest p e = let z : ◌≡◌ {A = ℕ} 0 1 = cc in absurd (omega arith)
+  fits-move due (Ok (next, said)) k b rest p e = fits_said due next said (k next) b (rest next) p e
+  fits-move due (Err Format) k b rest p e = let z : ◌≡◌ {A = ℕ} 0 1 = cc in absurd (omega arith)
+  fits-move due (Err OtherKind) k b rest p e = let z : ◌≡◌ {A = ℕ} 0 1 = cc in absurd (omega arith)
 
 fits-end : (len : ℕ) (due : Due) (p : Part) → ifb (whole due) (says nothing_more) (wrong 30 len) ≡ says p → Fits due p
 unfolding whole ifb Fits

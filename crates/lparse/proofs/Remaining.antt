@@ -8,11 +8,10 @@ use Prim.Native.Nat.{ℕ, ◌+◌, ◌-◌}
 use native.Mathlib.Nat.{add-zero}
 use native.Mathlib.Omega.{arith}
 use lib.ListN.{length, length-append}
+use Rattle.std.specs.Prelude.{Option, Some, None, Ok, Err}
 use Rattle.meaning.specs.Books.{Rule}
 use Rattle.meaning.specs.Choice.{ifb}
 use Rattle.meaning.proofs.Choice.{b-either, lt-either, eq-either}
-use Rattle.decimal.specs.declared.Digits.{Digits}
-use Rattle.decimal.specs.declared.Digits.TheVariants.{Value, Nothing}
 use Rattle.imported.specs.Text.{TextRule, basic, choice, Text}
 use Rattle.imported.specs.Making.{free_heads, made, choice_rules, made_from, plus_rule, minus_rule}
 use Rattle.imported.specs.declared.TextAtom.{TextAtom}
@@ -23,10 +22,9 @@ use Rattle.lparse.specs.declared.due.Due.TheVariants.{Number, Name, PlusWord, Mi
 use Rattle.lparse.specs.declared.due.Standing.TheVariants.{Head as InHead, Free as InFree, Negative as InNegative, Positive as InPositive, Table as InTable, Plus as InPlus, Minus as InMinus}
 use Rattle.lparse.specs.declared.due.Said.{Said}
 use Rattle.lparse.specs.declared.due.Said.TheVariants.{Nothing as Silent, Choice as Chooses, Atom}
-use Rattle.lparse.specs.declared.due.Move.{Move}
-use Rattle.lparse.specs.declared.due.Move.TheVariants.{Goes, Format, Kind as OtherKind}
+use Rattle.lparse.specs.declared.due.Misplaced.TheVariants.{Format, Kind as OtherKind}
 use Rattle.lparse.specs.Words.{Word}
-use Rattle.lparse.specs.Reading.{text_atom, body_of, heads_of, on_kind, on_atom, on_listed, on_head_count, on_negatives, on_number, number_in, on_value, signed, on_sign, move_of, Part, with, with_atom, with_choice}
+use Rattle.lparse.specs.Reading.{Move, text_atom, body_of, heads_of, on_kind, on_atom, on_listed, on_head_count, on_negatives, on_number, number_in, on_value, signed, on_sign, move_of, Part, with, with_atom, with_choice}
 use Rattle.lparse.specs.Forming.{closes, opens_rule}
 use Rattle.lparse.proofs.Phases.{Open, Fits, FitsRole, body_open}
 use Rattle.lparse.proofs.Spelled.{nothing}
@@ -169,10 +167,10 @@ module _ (t : Text) where
       }
 
   unfoldable pub Turn : Word → Due → Move → Type 0
-  Turn w due (Goes next said) = (c : ℕ) (b : Begun) (q : Part) → Fits next q
+  Turn w due (Ok (next, said)) = (c : ℕ) (b : Begun) (q : Part) → Fits next q
       → Turned c next (entry_of said) (begun_after said b) q (texts_left (in_rule due) b (with w said q)) (with w said q).plus (with w said q).minus
-  Turn w due Format = Unit {0}
-  Turn w due OtherKind = Unit {0}
+  Turn w due (Err Format) = Unit {0}
+  Turn w due (Err OtherKind) = Unit {0}
 
   -- the same rules by another name
   turned_as : {c : ℕ} {next : Due} {added : List Rule} {b : Begun} {q : Part} {l m : List TextRule} {plus minus : List TextAtom} → l ≡ m
@@ -227,10 +225,10 @@ module _ (t : Text) where
         record { rules = rw (no-rule, f.no_plus); helpers = refl; order = inr no-rule })
     turn-number Models n = λ c b q f. record { rules = refl; helpers = refl; order = inl refl }
 
-    turn-value : (role : Role) (d : Digits) → Turn w (Number role) (on_value role d)
+    turn-value : (role : Role) (d : Option ℕ) → Turn w (Number role) (on_value role d)
     unfolding Turn on_value
-    turn-value role (Value n) = turn-number role n
-    turn-value role Nothing = tt
+    turn-value role (Some n) = turn-number role n
+    turn-value role None = tt
 
     pub turn : (due : Due) (l : List ℕ) → Turn w due (move_of due l)
     unfolding Turn Fits FitsRole move_of on_sign with with_atom in_rule rule_role begun_after entry_of whole_texts helper_after closes opens_rule ifb remaining texts_left made_from

@@ -6,25 +6,21 @@ use mathlib.Core.List.{List, [], ◌∷◌, ◌++◌, append-nil}
 use Prim.Native.Nat.{ℕ, ◌<◌, ◌≤◌}
 use native.Mathlib.Omega.{arith}
 use lib.ListN.{length}
+use Rattle.std.specs.Prelude.{Option, Some, None, Ok, Err}
 use Rattle.meaning.specs.Choice.{ifb}
 use Rattle.meaning.specs.Books.{Book}
 use Rattle.meaning.specs.Told.{success, refused_at, refused}
 use Rattle.meaning.proofs.Tests.{true-and-false, apart}
 use Rattle.meaning.proofs.Choice.{b-yes, b-either, lt_no, lt-either, eq-either, eq_no}
 use Rattle.book.specs.Writing.{bytes_of_book}
-use Rattle.decimal.specs.declared.Digits.{Digits}
-use Rattle.decimal.specs.declared.Digits.TheVariants.{Value, Nothing}
 use Rattle.imported.specs.Making.{made_book, fits_in}
 use Rattle.lparse.specs.declared.due.Role.{Role}
 use Rattle.lparse.specs.declared.due.Role.TheVariants.{Kind, Head, HeadCount, Heads, Literals, Negatives, Negative, Positive, Table, Plus, Minus, Models}
 use Rattle.lparse.specs.declared.due.Due.{Due}
 use Rattle.lparse.specs.declared.due.Due.TheVariants.{Number, Name, PlusWord, MinusWord, End}
-use Rattle.lparse.specs.declared.due.Move.{Move}
-use Rattle.lparse.specs.declared.due.Move.TheVariants.{Goes, Format, Kind as OtherKind}
-use Rattle.lparse.specs.declared.importer.Laid.{Laid}
-use Rattle.lparse.specs.declared.importer.Laid.TheVariants.{Book as LaidBook, NoFit as Short}
+use Rattle.lparse.specs.declared.due.Misplaced.TheVariants.{Format, Kind as OtherKind}
 use Rattle.lparse.specs.Words.{Word, words}
-use Rattle.lparse.specs.Reading.{on_kind, on_atom, on_listed, on_head_count, on_negatives, on_number, number_in, on_value, signed, on_sign, move_of, whole, nothing_more, Heard, says, wrong, on_move, heard, heard_at}
+use Rattle.lparse.specs.Reading.{Move, on_kind, on_atom, on_listed, on_head_count, on_negatives, on_number, number_in, on_value, signed, on_sign, move_of, whole, nothing_more, Heard, says, wrong, on_move, heard, heard_at}
 use Rattle.lparse.specs.Collect.{text_in, text_of}
 use Rattle.lparse.specs.Says.{Written, text_said, Says}
 use Rattle.lparse.specs.Import.{laid_of, hand_laid, book_given, import_heard, import_of}
@@ -52,12 +48,12 @@ begins-walked {ws} (more, t, s) = says-walked 0 kind ws more (heard_as t) (words
 -- ---- another rule type is told only where a type is due
 
 unfoldable Other : Due → List ℕ → Move → Type 0
-Other due l (Goes next said) = Unit {0}
-Other due l Format = Unit {0}
-Other due l OtherKind = (due ≡ kind) × ((n : ℕ) × (number_in l ≡ Value n) × (n ≡ 0 → ⊥) × (n ≡ 1 → ⊥) × (n ≡ 3 → ⊥))
+Other due l (Ok (next, said)) = Unit {0}
+Other due l (Err Format) = Unit {0}
+Other due l (Err OtherKind) = (due ≡ kind) × ((n : ℕ) × (number_in l ≡ Some n) × (n ≡ 0 → ⊥) × (n ≡ 1 → ⊥) × (n ≡ 3 → ⊥))
 
 module _ (l : List ℕ) where
-  other-number : (role : Role) (n : ℕ) → number_in l ≡ Value n → Other (Number role) l (on_number role n)
+  other-number : (role : Role) (n : ℕ) → number_in l ≡ Some n → Other (Number role) l (on_number role n)
   unfolding Other on_number on_kind on_atom on_listed on_head_count on_negatives
   other-number Kind n v =
       eq-either (Other kind l) n 0 _ _ (λ e. tt) (λ e. eq-either (Other kind l) n 1 _ _ (λ f. tt)
@@ -74,10 +70,10 @@ module _ (l : List ℕ) where
   other-number Minus n v = eq-either (Other (Number Minus) l) n 0 _ _ (λ e. tt) (λ e. tt)
   other-number Models n v = tt
 
-  other-value : (role : Role) (d : Digits) → number_in l ≡ d → Other (Number role) l (on_value role d)
+  other-value : (role : Role) (d : Option ℕ) → number_in l ≡ d → Other (Number role) l (on_value role d)
   unfolding Other on_value
-  other-value role (Value n) v = other-number role n v
-  other-value role Nothing v = tt
+  other-value role (Some n) v = other-number role n v
+  other-value role None v = tt
 
   other : (due : Due) → Other due l (move_of due l)
   unfolding Other move_of on_sign
@@ -87,13 +83,13 @@ module _ (l : List ℕ) where
   other MinusWord = b-either (Other MinusWord l) (signed l 45) _ _ (λ e. tt) (λ e. tt)
   other End = tt
 
-other-told : {ws : List Word} {w : Word} {end : Due} → Walked kind ws end → move_of end w.bytes ≡ OtherKind → OtherType ws w
+other-told : {ws : List Word} {w : Word} {end : Due} → Walked kind ws end → move_of end w.bytes ≡ Err OtherKind → OtherType ws w
 unfolding Other
 other-told {ws} {w} {end} k m =
     let (e, (n, v, zero, one, three)) = rw m at (other w.bytes end) in
     record { behind = walked-rules ws (rw e at k); number = n; read = v; not-closing = zero; not-basic = one; not-choice = three }
 
-other-move : {ws : List Word} {w : Word} → OtherType ws w → Walked kind ws kind × (move_of kind w.bytes ≡ OtherKind)
+other-move : {ws : List Word} {w : Word} → OtherType ws w → Walked kind ws kind × (move_of kind w.bytes ≡ Err OtherKind)
 unfolding on_number on_kind
 other-move {ws} {w} o =
     (rules-walked ws o.behind, number-move w Kind o.number o.read ∙ eq_no _ _ _ _ o.not-closing ∙ eq_no _ _ _ _ o.not-basic ∙ eq_no _ _ _ _ o.not-choice)
@@ -137,10 +133,10 @@ module _ (s : List ℕ) (at : ℕ) where
             let (to, r) = begins-walked b in
             let (mid, said, h, g) = walked-parted before w r in
             let z = walked_one h k in
-            let f : Goes to said ≡ Format = sym g ∙ ap (λ d. move_of d w.bytes) z ∙ m in apart cc;
+            let f : Ok (to, said) ≡ Err Format = sym g ∙ ap (λ d. move_of d w.bytes) z ∙ m in apart cc;
         no-type = λ o.
             let (h, g) = other-move o in
-            let f : OtherKind ≡ Format = sym g ∙ ap (λ d. move_of d w.bytes) (walked_one h k) ∙ m in apart cc;
+            let f : Err OtherKind ≡ Err Format = sym g ∙ ap (λ d. move_of d w.bytes) (walked_one h k) ∙ m in apart cc;
       })
       go (at-end end k m n q) = inr (record {
         place = q;
@@ -158,9 +154,9 @@ module _ (s : List ℕ) (at : ℕ) where
     where
       go : (end : Due) → Walked kind t.before end → (m : Move) → move_of end t.word.bytes ≡ m
           → on_move m t.word (λ next. heard (length s) next t.stands.after) ≡ wrong 30 at
-      go end k (Goes next said) m = absurd (t.no-beginning (walked-begins (walked-last t.word m k)))
-      go end k Format m = rw t.stands.place
-      go end k OtherKind m = absurd (t.no-type (other-told k m))
+      go end k (Ok (next, said)) m = absurd (t.no-beginning (walked-begins (walked-last t.word m k)))
+      go end k (Err Format) m = rw t.stands.place
+      go end k (Err OtherKind) m = absurd (t.no-type (other-told k m))
 
   missing-heard : Missing s at → Refused 30
   unfolding heard_at heard ifb
@@ -177,39 +173,39 @@ module _ (s : List ℕ) (at : ℕ) where
 -- ---- what is told
 
 module _ (b : Book) (out : List ℕ) where
-  laid-no-place : (x : Laid) {i at : ℕ} → (hand_laid x b out).told ≡ refused_at i at → ⊥
+  laid-no-place : (x : Option ℕ) {i at : ℕ} → (hand_laid x b out).told ≡ refused_at i at → ⊥
   unfolding hand_laid
-  laid-no-place (LaidBook n) e = apart cc
-  laid-no-place Short e = apart cc
+  laid-no-place (Some n) e = apart cc
+  laid-no-place None e = apart cc
 
-  laid-refused : (x : Laid) → (hand_laid x b out).told ≡ refused 32 → x ≡ Short
+  laid-refused : (x : Option ℕ) → (hand_laid x b out).told ≡ refused 32 → x ≡ None
   unfolding hand_laid
-  laid-refused (LaidBook n) e = apart cc
-  laid-refused Short e = refl
+  laid-refused (Some n) e = apart cc
+  laid-refused None e = refl
 
-  laid-keeps : (x : Laid) → ((n : ℕ) → (hand_laid x b out).told ≡ success n → ⊥) → (hand_laid x b out).buffer ≡ out
+  laid-keeps : (x : Option ℕ) → ((n : ℕ) → (hand_laid x b out).told ≡ success n → ⊥) → (hand_laid x b out).buffer ≡ out
   unfolding hand_laid
-  laid-keeps (LaidBook n) f = absurd (f n refl)
-  laid-keeps Short f = refl
+  laid-keeps (Some n) f = absurd (f n refl)
+  laid-keeps None f = refl
 
-  laid-success : (x : Laid) {n : ℕ} → (hand_laid x b out).told ≡ success n → x ≡ LaidBook n
+  laid-success : (x : Option ℕ) {n : ℕ} → (hand_laid x b out).told ≡ success n → x ≡ Some n
   unfolding hand_laid
-  laid-success (LaidBook m) e = cc
-  laid-success Short e = apart cc
+  laid-success (Some m) e = cc
+  laid-success None e = apart cc
 
-  short-large : laid_of b (length out) ≡ Short → (fits_in b ≡ false) ⊎ (length out < length (bytes_of_book b))
+  short-large : laid_of b (length out) ≡ None → (fits_in b ≡ false) ⊎ (length out < length (bytes_of_book b))
   unfolding laid_of
   short-large = b-either P (fits_in b) _ _ (λ f. lt-either P _ _ _ _ (λ k e. inr k) (λ k e. apart cc)) (λ f e. inl f)
     where
-      P : Laid → Type 0
-      P x = x ≡ Short → (fits_in b ≡ false) ⊎ (length out < length (bytes_of_book b))
+      P : Option ℕ → Type 0
+      P x = x ≡ None → (fits_in b ≡ false) ⊎ (length out < length (bytes_of_book b))
 
-  large-short : (fits_in b ≡ false) ⊎ (length out < length (bytes_of_book b)) → laid_of b (length out) ≡ Short
+  large-short : (fits_in b ≡ false) ⊎ (length out < length (bytes_of_book b)) → laid_of b (length out) ≡ None
   unfolding laid_of
-  large-short h = b-either (λ x. x ≡ Short) (fits_in b) _ _
-      (λ f. lt-either (λ x. x ≡ Short) _ _ _ _ (λ k. refl) (λ k. absurd (⊎_elim (λ g. true-and-false f g) (λ g. omega arith) h))) (λ f. refl)
+  large-short h = b-either (λ x. x ≡ None) (fits_in b) _ _
+      (λ f. lt-either (λ x. x ≡ None) _ _ _ _ (λ k. refl) (λ k. absurd (⊎_elim (λ g. true-and-false f g) (λ g. omega arith) h))) (λ f. refl)
 
-  within-laid : fits_in b ≡ true → length (bytes_of_book b) ≤ length out → laid_of b (length out) ≡ LaidBook (length (bytes_of_book b))
+  within-laid : fits_in b ≡ true → length (bytes_of_book b) ≤ length out → laid_of b (length out) ≡ Some (length (bytes_of_book b))
   unfolding laid_of
   within-laid e h = b-yes _ _ _ e ∙ lt_no _ _ _ _ h
 

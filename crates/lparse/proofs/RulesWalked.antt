@@ -6,11 +6,10 @@ use mathlib.Core.List.{List, [], ◌∷◌, ◌++◌, append-nil}
 use Prim.Native.Nat.{ℕ, suc, ◌+◌, ◌-◌}
 use native.Mathlib.Omega.{arith}
 use lib.ListN.{length, length-append}
+use Rattle.std.specs.Prelude.{Option, Some, None, Ok, Err}
 use Rattle.meaning.specs.Sets.{every}
 use Rattle.meaning.proofs.Tests.{and_left, and_right}
 use Rattle.meaning.proofs.Choice.{b-either, lt-either, eq-either, eq_yes, eq_no, lt_no}
-use Rattle.decimal.specs.declared.Digits.{Digits}
-use Rattle.decimal.specs.declared.Digits.TheVariants.{Value, Nothing}
 use Rattle.imported.specs.Making.{rule_atoms, rules_atoms, mentioned}
 use Rattle.imported.specs.declared.TextAtom.{TextAtom}
 use Rattle.imported.specs.Text.{TextRule, basic, choice}
@@ -19,10 +18,9 @@ use Rattle.lparse.specs.declared.due.Role.TheVariants.{Kind, Head, HeadCount, He
 use Rattle.lparse.specs.declared.due.Due.{Due}
 use Rattle.lparse.specs.declared.due.Due.TheVariants.{Number, Name, PlusWord, MinusWord, End}
 use Rattle.lparse.specs.declared.due.Standing.TheVariants.{Head as InHead, Free as InFree, Negative as InNegative, Positive as InPositive}
-use Rattle.lparse.specs.declared.due.Move.{Move}
-use Rattle.lparse.specs.declared.due.Move.TheVariants.{Goes, Format, Kind as OtherKind}
+use Rattle.lparse.specs.declared.due.Misplaced.TheVariants.{Format, Kind as OtherKind}
 use Rattle.lparse.specs.Words.{Word}
-use Rattle.lparse.specs.Reading.{body_of, heads_of, on_kind, on_atom, on_listed, on_head_count, on_negatives, on_number, number_in, on_value, signed, on_sign, move_of, Part, nothing_more, with, with_atom, with_choice, says, heard}
+use Rattle.lparse.specs.Reading.{Move, body_of, heads_of, on_kind, on_atom, on_listed, on_head_count, on_negatives, on_number, number_in, on_value, signed, on_sign, move_of, Part, nothing_more, with, with_atom, with_choice, says, heard}
 use Rattle.lparse.specs.Says.{Token, number, atom_tokens, rules_tokens, table_tokens, minus_tokens, plus_tokens, behind_rules, tokens_of, Spelling, none, more, from_one, headed}
 use Rattle.lparse.specs.Rows.{RuleWords}
 use Rattle.lparse.proofs.Spelled.{literals_before, head-tokens, choice-tokens}
@@ -132,9 +130,9 @@ record Bare (p : Part) : Type 0 where
   minus : p.minus ≡ []
 
 unfoldable Kept : Word → Due → Move → Type 0
-Kept w due (Goes next said) = of_rule next ≡ true → (of_rule due ≡ true) × ((p : Part) → Bare p → Bare (with w said p))
-Kept w due Format = Unit {0}
-Kept w due OtherKind = Unit {0}
+Kept w due (Ok (next, said)) = of_rule next ≡ true → (of_rule due ≡ true) × ((p : Part) → Bare p → Bare (with w said p))
+Kept w due (Err Format) = Unit {0}
+Kept w due (Err OtherKind) = Unit {0}
 
 never : {A : Type 0} → false ≡ true → A
 never e = let z : ◌≡◌ {A = ℕ} 0 1 = cc in absurd (omega arith)
@@ -167,10 +165,10 @@ module _ (w : Word) where
   kept-number Minus n = eq-either (Kept w (Number Minus)) n 0 _ _ (λ e h. never h) (λ e h. never h)
   kept-number Models n = λ h. never h
 
-  kept-value : (role : Role) (d : Digits) → Kept w (Number role) (on_value role d)
+  kept-value : (role : Role) (d : Option ℕ) → Kept w (Number role) (on_value role d)
   unfolding Kept on_value
-  kept-value role (Value n) = kept-number role n
-  kept-value role Nothing = tt
+  kept-value role (Some n) = kept-number role n
+  kept-value role None = tt
 
   kept : (due : Due) (l : List ℕ) → Kept w due (move_of due l)
   unfolding Kept of_rule move_of on_sign

@@ -6,12 +6,11 @@ use Prim.Native.Nat.{ℕ, zero, suc, ◌<◌}
 use native.Mathlib.Omega.{arith}
 use lib.ListN.{length}
 use borrow.Author.Tests.{lt-ltb}
+use Rattle.std.specs.Prelude.{Option, Some, None, Ok, Err}
 use Rattle.meaning.specs.Sets.{every}
 use Rattle.meaning.specs.Choice.{ifb}
 use Rattle.meaning.proofs.Tests.{both as both_true}
 use Rattle.meaning.proofs.Choice.{b-either, lt-either, eq-either}
-use Rattle.decimal.specs.declared.Digits.{Digits}
-use Rattle.decimal.specs.declared.Digits.TheVariants.{Value, Nothing}
 use Rattle.imported.specs.Making.{rule_atoms, rules_atoms, mentioned}
 use Rattle.imported.specs.declared.TextAtom.{TextAtom}
 use Rattle.imported.specs.Text.{choice}
@@ -20,10 +19,9 @@ use Rattle.lparse.specs.declared.due.Role.TheVariants.{Kind, Head, HeadCount, He
 use Rattle.lparse.specs.declared.due.Due.{Due}
 use Rattle.lparse.specs.declared.due.Due.TheVariants.{Number, Name, PlusWord, MinusWord, End}
 use Rattle.lparse.specs.declared.due.Said.{Said}
-use Rattle.lparse.specs.declared.due.Move.{Move}
-use Rattle.lparse.specs.declared.due.Move.TheVariants.{Goes, Format, Kind as OtherKind}
+use Rattle.lparse.specs.declared.due.Misplaced.TheVariants.{Format, Kind as OtherKind}
 use Rattle.lparse.specs.Words.{Word, words}
-use Rattle.lparse.specs.Reading.{text_atom, on_kind, on_atom, on_listed, on_head_count, on_negatives, on_number, number_in, on_value, signed, on_sign, move_of, whole, Part, nothing_more, with, with_atom, with_choice, Heard, says, wrong, adding, on_move, heard, heard_at}
+use Rattle.lparse.specs.Reading.{Move, text_atom, on_kind, on_atom, on_listed, on_head_count, on_negatives, on_number, number_in, on_value, signed, on_sign, move_of, whole, Part, nothing_more, with, with_atom, with_choice, Heard, says, wrong, adding, on_move, heard, heard_at}
 use Rattle.lparse.specs.Collect.{text_in}
 use Rattle.lparse.specs.Says.{Written, tokens_of, from_one, headed, SaysWords, Says}
 use Rattle.lparse.proofs.Phases.{Fits, FitsRole, heard-fits}
@@ -57,9 +55,9 @@ headed-some [] pos neg f = absurd (f refl)
 headed-some (a ∷ hs) pos neg f = refl
 
 unfoldable Keeps : Word → Due → Move → Type 0
-Keeps w due (Goes next said) = Proper due → Proper next × ((q : Part) → Fits next q → Sound q → Sound (with w said q))
-Keeps w due Format = Unit {0}
-Keeps w due OtherKind = Unit {0}
+Keeps w due (Ok (next, said)) = Proper due → Proper next × ((q : Part) → Fits next q → Sound q → Sound (with w said q))
+Keeps w due (Err Format) = Unit {0}
+Keeps w due (Err OtherKind) = Unit {0}
 
 module _ (w : Word) where
   keeps-number : (role : Role) (n : ℕ) → Keeps w (Number role) (on_number role n)
@@ -180,10 +178,10 @@ module _ (w : Word) where
       ))
   keeps-number Models n = λ h. (tt, λ q f s. s)
 
-  keeps-value : (role : Role) (d : Digits) → Keeps w (Number role) (on_value role d)
+  keeps-value : (role : Role) (d : Option ℕ) → Keeps w (Number role) (on_value role d)
   unfolding Keeps on_value
-  keeps-value role (Value n) = keeps-number role n
-  keeps-value role Nothing = tt
+  keeps-value role (Some n) = keeps-number role n
+  keeps-value role None = tt
 
   keeps : (due : Due) (l : List ℕ) → Keeps w due (move_of due l)
   unfolding Keeps Proper move_of on_sign with with_atom
@@ -205,7 +203,7 @@ module _ (w : Word) where
   keeps MinusWord l = b-either (Keeps w MinusWord) (signed l 45) _ _ (λ e h. (tt, λ q f s. s)) (λ e. tt)
   keeps End l = tt
 
-  sound-said : (due next : Due) (said : Said) (h : Heard) → Keeps w due (Goes next said) → Proper due
+  sound-said : (due next : Due) (said : Said) (h : Heard) → Keeps w due (Ok (next, said)) → Proper due
       → (Proper next → (q : Part) → h ≡ says q → Fits next q × Sound q) → (p : Part) → adding w said h ≡ says p → Sound p
   unfolding Keeps adding
   sound-said due next said (says q) k proper rest p e =
@@ -218,9 +216,9 @@ module _ (w : Word) where
   sound-move : (due : Due) (m : Move) (h : Due → Heard) → Keeps w due m → Proper due
       → ((next : Due) → Proper next → (q : Part) → h next ≡ says q → Fits next q × Sound q) → (p : Part) → on_move m w h ≡ says p → Sound p
   unfolding on_move
-  sound-move due (Goes next said) h k proper rest p e = sound-said due next said (h next) k proper (rest next) p e
-  sound-move due Format h k proper rest p e = let z : ◌≡◌ {A = ℕ} 0 1 = cc in absurd (omega arith)
-  sound-move due OtherKind h k proper rest p e = let z : ◌≡◌ {A = ℕ} 0 1 = cc in absurd (omega arith)
+  sound-move due (Ok (next, said)) h k proper rest p e = sound-said due next said (h next) k proper (rest next) p e
+  sound-move due (Err Format) h k proper rest p e = let z : ◌≡◌ {A = ℕ} 0 1 = cc in absurd (omega arith)
+  sound-move due (Err OtherKind) h k proper rest p e = let z : ◌≡◌ {A = ℕ} 0 1 = cc in absurd (omega arith)
 
 sound-end : (len : ℕ) (t : Bool) (p : Part) → ifb t (says nothing_more) (wrong 30 len) ≡ says p → Sound p
 unfolding ifb every rules_atoms

@@ -6,10 +6,9 @@ use Prim.Native.Nat.{ℕ, ◌+◌, ◌-◌}
 use native.Mathlib.Omega.{arith}
 use lib.ListN.{length, get_or}
 use borrow.Author.Tests.{eqb-true}
+use Rattle.std.specs.Prelude.{Option, Some, None, Ok, Err}
 use Rattle.meaning.specs.Choice.{ifb}
 use Rattle.meaning.proofs.Choice.{b-either, lt-either, eq-either}
-use Rattle.decimal.specs.declared.Digits.{Digits}
-use Rattle.decimal.specs.declared.Digits.TheVariants.{Value, Nothing}
 use Rattle.imported.specs.declared.TextAtom.{TextAtom}
 use Rattle.imported.specs.Text.{TextRule, basic, choice}
 use Rattle.lparse.specs.declared.due.Role.{Role}
@@ -17,10 +16,9 @@ use Rattle.lparse.specs.declared.due.Role.TheVariants.{Kind, Head, HeadCount, He
 use Rattle.lparse.specs.declared.due.Due.{Due}
 use Rattle.lparse.specs.declared.due.Due.TheVariants.{Number, Name, PlusWord, MinusWord, End}
 use Rattle.lparse.specs.declared.due.Said.{Said}
-use Rattle.lparse.specs.declared.due.Move.{Move}
-use Rattle.lparse.specs.declared.due.Move.TheVariants.{Goes, Format, Kind as OtherKind}
+use Rattle.lparse.specs.declared.due.Misplaced.TheVariants.{Format, Kind as OtherKind}
 use Rattle.lparse.specs.Words.{Word}
-use Rattle.lparse.specs.Reading.{text_atom, body_of, heads_of, on_kind, on_atom, on_listed, on_head_count, on_negatives, on_number, number_in, on_value, signed, on_sign, move_of, whole, Part, nothing_more, with, with_atom, with_choice, Heard, says, wrong, adding, on_move, heard}
+use Rattle.lparse.specs.Reading.{Move, text_atom, body_of, heads_of, on_kind, on_atom, on_listed, on_head_count, on_negatives, on_number, number_in, on_value, signed, on_sign, move_of, whole, Part, nothing_more, with, with_atom, with_choice, Heard, says, wrong, adding, on_move, heard}
 use Rattle.lparse.specs.Says.{Token, number, name, exactly, atom_tokens, literal_tokens, rule_tokens, rules_tokens, table_tokens, minus_tokens, plus_tokens, behind_rules, Spelled, as_number, as-name, as_bytes, Spelling, none, more}
 use Rattle.lparse.proofs.Phases.{Open, Fits, FitsRole, body_open, heads-left, heard-fits}
 
@@ -102,11 +100,11 @@ record Taken (w : Word) (due : Due) (p : Part) (ts : List Token) : Type 0 where
   rest : Rest due p models (token ∷ ts)
 
 unfoldable Row : Word → Due → Move → Type 0
-Row w due (Goes next said) = (p : Part) (m : ℕ) (ts : List Token) → Fits next p → Rest next p m ts → Taken w due (with w said p) ts
-Row w due Format = Unit {0}
-Row w due OtherKind = Unit {0}
+Row w due (Ok (next, said)) = (p : Part) (m : ℕ) (ts : List Token) → Fits next p → Rest next p m ts → Taken w due (with w said p) ts
+Row w due (Err Format) = Unit {0}
+Row w due (Err OtherKind) = Unit {0}
 
-module _ (w : Word) (n : ℕ) (v : number_in w.bytes ≡ Value n) where
+module _ (w : Word) (n : ℕ) (v : number_in w.bytes ≡ Some n) where
   row_number : (role : Role) → Row w (Number role) (on_number role n)
   unfolding Row Fits FitsRole Rest RestRole on_number on_kind on_atom on_listed on_head_count on_negatives with with_atom with_choice rules_tokens rule_tokens table_tokens atom_tokens behind_rules plus_tokens minus_tokens
   row_number Kind =
@@ -172,10 +170,10 @@ module _ (w : Word) (n : ℕ) (v : number_in w.bytes ≡ Value n) where
   row_number Models =
       λ p m ts f t. record { token = number n; models = n; is = as_number v; rest = ap (λ k. number n ∷ k) t }
 
-row-value : (w : Word) (role : Role) (d : Digits) → number_in w.bytes ≡ d → Row w (Number role) (on_value role d)
+row-value : (w : Word) (role : Role) (d : Option ℕ) → number_in w.bytes ≡ d → Row w (Number role) (on_value role d)
 unfolding Row on_value
-row-value w role (Value n) v = row_number w n v role
-row-value w role Nothing v = tt
+row-value w role (Some n) v = row_number w n v role
+row-value w role None v = tt
 
 -- the words B+ and B-
 two_bytes : (l : List ℕ) (x y : ℕ) → length l ≡ 2 → get_or l 0 0 ≡ x → get_or l 1 0 ≡ y → l ≡ x ∷ (y ∷ [])
@@ -231,7 +229,7 @@ record Spelt (due : Due) (ws : List Word) (p : Part) : Type 0 where
   spelling : Spelling ws tokens
 
 module _ (w : Word) (ws : List Word) where
-  spelt-said : (due next : Due) (said : Said) (h : Heard) → Row w due (Goes next said)
+  spelt-said : (due next : Due) (said : Said) (h : Heard) → Row w due (Ok (next, said))
       → ((q : Part) → h ≡ says q → Fits next q × Spelt next ws q) → (p : Part) → adding w said h ≡ says p → Spelt due (w ∷ ws) p
   unfolding Row adding
   spelt-said due next said (says q) r k p e =
@@ -245,9 +243,9 @@ module _ (w : Word) (ws : List Word) where
       → ((next : Due) (q : Part) → h next ≡ says q → Fits next q × Spelt next ws q)
       → (p : Part) → on_move m w h ≡ says p → Spelt due (w ∷ ws) p
   unfolding on_move
-  spelt-move due (Goes next said) h r k p e = spelt-said due next said (h next) r (k next) p e
-  spelt-move due Format h r k p e = let z : ◌≡◌ {A = ℕ} 0 1 = cc in absurd (omega arith)
-  spelt-move due OtherKind h r k p e = let z : ◌≡◌ {A = ℕ} 0 1 = cc in absurd (omega arith)
+  spelt-move due (Ok (next, said)) h r k p e = spelt-said due next said (h next) r (k next) p e
+  spelt-move due (Err Format) h r k p e = let z : ◌≡◌ {A = ℕ} 0 1 = cc in absurd (omega arith)
+  spelt-move due (Err OtherKind) h r k p e = let z : ◌≡◌ {A = ℕ} 0 1 = cc in absurd (omega arith)
 
 spelt-end : (len : ℕ) (due : Due) (p : Part) → ifb (whole due) (says nothing_more) (wrong 30 len) ≡ says p → Spelt due [] p
 unfolding whole ifb Rest

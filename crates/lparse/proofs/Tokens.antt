@@ -6,9 +6,9 @@ use Prim.Native.Nat.{ℕ}
 use native.Mathlib.Omega.{arith}
 use lib.Dec.{ltb}
 use borrow.Author.Tests.{ltb-true, eq-eqb}
+use Rattle.std.specs.Prelude.{Some, Ok}
 use Rattle.meaning.specs.Sets.{every}
 use Rattle.meaning.proofs.Choice.{eq_yes, eq_no}
-use Rattle.decimal.specs.declared.Digits.TheVariants.{Value}
 use Rattle.imported.specs.declared.TextAtom.{TextAtom}
 use Rattle.lparse.specs.declared.due.Role.{Role}
 use Rattle.lparse.specs.declared.due.Due.{Due}
@@ -16,7 +16,6 @@ use Rattle.lparse.specs.declared.due.Due.TheVariants.{Number}
 use Rattle.lparse.specs.declared.due.Standing.{Standing}
 use Rattle.lparse.specs.declared.due.Said.{Said}
 use Rattle.lparse.specs.declared.due.Said.TheVariants.{Atom}
-use Rattle.lparse.specs.declared.due.Move.TheVariants.{Goes}
 use Rattle.lparse.specs.Words.{Word}
 use Rattle.lparse.specs.Reading.{text_atom, on_atom, on_listed, on_number, number_in, on_value, signed, move_of}
 use Rattle.lparse.specs.Says.{Token, number, name, exactly, Spelled, as_number, as-name, as_bytes, from_one}
@@ -52,8 +51,8 @@ pub tokens-one : {x y : Token} {s t : List Token} → x ∷ s ≡ y ∷ t → s 
 tokens-one e = cc
 
 -- a word that spells a number has it as value, one that spells a name is it, one that spells bytes has them
-pub spelled-value : {w : Word} {n : ℕ} {t : Token} → Spelled w t → t ≡ number n → number_in w.bytes ≡ Value n
-spelled-value {n = n} (as_number {n = k} v) e = let g : k ≡ n = cc in v ∙ ap Value g
+pub spelled-value : {w : Word} {n : ℕ} {t : Token} → Spelled w t → t ≡ number n → number_in w.bytes ≡ Some n
+spelled-value {n = n} (as_number {n = k} v) e = let g : k ≡ n = cc in v ∙ ap Some g
 spelled-value as-name e = let z : ◌≡◌ {A = ℕ} 0 1 = cc in absurd (omega arith)
 spelled-value (as_bytes v) e = let z : ◌≡◌ {A = ℕ} 0 1 = cc in absurd (omega arith)
 
@@ -70,17 +69,17 @@ spelled-bytes {l = l} (as_bytes {l = k} v) e = let g : k ≡ l = cc in v ∙ g
 -- ---- what a word does that spells a token
 
 module _ (w : Word) where
-  pub number-move : (role : Role) (n : ℕ) → number_in w.bytes ≡ Value n → move_of (Number role) w.bytes ≡ on_number role n
+  pub number-move : (role : Role) (n : ℕ) → number_in w.bytes ≡ Some n → move_of (Number role) w.bytes ≡ on_number role n
   unfolding move_of on_value
   number-move role n v = rw v
 
   pub atom-move : (role next : Role) (standing : Standing) (n : ℕ) → on_number role n ≡ on_atom n next standing → (n ≡ 0 → ⊥)
-      → number_in w.bytes ≡ Value n → move_of (Number role) w.bytes ≡ Goes (Number next) (Atom (text_atom n) standing)
+      → number_in w.bytes ≡ Some n → move_of (Number role) w.bytes ≡ Ok ((Number next), (Atom (text_atom n) standing))
   unfolding on_atom
   atom-move role next standing n e h v = number-move role n v ∙ e ∙ eq_no _ _ _ _ h
 
   pub listed-move : (role : Role) (end next : Due) (said : Said) (n : ℕ) → on_number role n ≡ on_listed n end next said → (n ≡ 0 → ⊥)
-      → number_in w.bytes ≡ Value n → move_of (Number role) w.bytes ≡ Goes next said
+      → number_in w.bytes ≡ Some n → move_of (Number role) w.bytes ≡ Ok (next, said)
   unfolding on_listed
   listed-move role end next said n e h v = number-move role n v ∙ e ∙ eq_no _ _ _ _ h
 

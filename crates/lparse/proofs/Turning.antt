@@ -8,6 +8,7 @@ use Prim.Native.Nat.{ℕ, ◌+◌, ◌<◌, ◌≤◌}
 use native.Mathlib.Nat.{add-zero}
 use native.Mathlib.Omega.{arith}
 use lib.ListN.{length, length-map}
+use Rattle.std.specs.Prelude.{None, Ok, Err, Some}
 use Rattle.meaning.specs.Choice.{ifb}
 use Rattle.meaning.specs.Books.{Rule}
 use Rattle.meaning.proofs.Choice.{b-yes, b-no, b-either}
@@ -24,19 +25,18 @@ use Rattle.lparse.specs.declared.due.Due.TheVariants.{Number, End}
 use Rattle.lparse.specs.declared.due.Standing.TheVariants.{Head as InHead, Free as InFree, Negative as InNegative, Positive as InPositive, Table as InTable, Plus as InPlus, Minus as InMinus}
 use Rattle.lparse.specs.declared.due.Said.{Said}
 use Rattle.lparse.specs.declared.due.Said.TheVariants.{Nothing as Silent, Choice as Chooses, Atom}
-use Rattle.lparse.specs.declared.due.Move.TheVariants.{Goes}
 use Rattle.lparse.specs.declared.rule.Opened.{Opened}
 use Rattle.lparse.specs.declared.form.Forming.{Forming}
 use Rattle.lparse.specs.Words.{Word, word_at}
-use Rattle.lparse.specs.declared.step.Step.{Step}
-use Rattle.lparse.specs.declared.step.Step.TheVariants.{Goes as Takes, Format as WrongFormat, Kind as WrongKind, Done}
-use Rattle.lparse.specs.Reading.{move_of, step_at, Part, nothing_more, with, with_atom, with_choice, says, heard_at}
+use Rattle.lparse.specs.declared.step.Taken.{Taken}
+use Rattle.lparse.specs.declared.step.Unread.{Unread}
+use Rattle.lparse.specs.Reading.{Step, move_of, step_at, Part, nothing_more, with, with_atom, with_choice, says, heard_at}
 use Rattle.lparse.specs.Collect.{text_in, text_of, numbers_of, atoms_said}
 use Rattle.lparse.specs.Opened.{capped, opening}
 use Rattle.lparse.specs.Forming.{entry_by, closes, helper_behind, formed_said, said_rules, shut, closed_by, rule_closed, Forms, Placed}
 use Rattle.lparse.specs.Make.{counted, Readable, Complete}
 use Rattle.lparse.proofs.Phases.{Fits}
-use Rattle.lparse.proofs.Reading.{took-move, took-part, never-format, never-kind, done-part, done_end}
+use Rattle.lparse.proofs.Reading.{took-move, took-part, never-unread, done-part, done_end}
 use Rattle.lparse.proofs.Collecting.{atoms_of, First, first, heard-at-fits, rest-atoms}
 use Rattle.lparse.proofs.Capped.{capped-of, capped-sum}
 use Rattle.lparse.proofs.Formed.{said-helper}
@@ -140,7 +140,7 @@ unfolding helper_after
 helper-grows next c b = b-either (λ x. c ≤ x) (closes next) _ _ (λ e. omega arith) (λ e. omega arith)
 
 module _ (t : Text) (atoms : List ℕ) (same : atoms ≡ numbers_of (distinct (mentioned t))) (few : length atoms ≤ 255)
-    (w : Word) (due next : Due) (said : Said) (move : move_of due w.bytes ≡ Goes next said) (q : Part) (fits : Fits next q) where
+    (w : Word) (due next : Due) (said : Said) (move : move_of due w.bytes ≡ Ok (next, said)) (q : Part) (fits : Fits next q) where
   said-first : atoms_of (with w said q) ≡ atoms_said said ++ atoms_of q
   unfolding First
   said-first = (rw move at (first w due w.bytes)) q fits
@@ -235,42 +235,39 @@ passing-start s atoms {draft = draft} r made e =
     }
 
 module _ (s atoms : List ℕ) (at : ℕ) (due : Due) {f : Forming} {draft : List ℕ} (p : Passing s atoms at due f draft) {r : Step} (e : r ≡ step_at s at due) where
-  module _ (next : Due) (said : Said) (from end : ℕ) (g : r ≡ Takes next said from end) where
+  module _ (t : Taken) (g : r ≡ Ok (Some t)) where
     abbrev whole : Text
     whole = text_of p.readable.part
 
-    taken : (q : Part) × (heard_at s end next ≡ says q) × State whole due (with (word_at s from) said q) f draft
+    taken : (q : Part) × (heard_at s t.end t.next ≡ says q) × State whole due (with (word_at s t.from) t.said q) f draft
     taken =
-        let (q, h, k) = took-part s at due p.left p.rest e next said from end g in
+        let (q, h, k) = took-part s at due p.left p.rest e t g in
         (q, h, rw k p.state)
 
-    pub passing-placed : Placed atoms said
+    pub passing-placed : Placed atoms t.said
     passing-placed =
         let (q, h, k) = taken in
-        said-placed whole atoms p.readable.same p.readable.few (word_at s from) due next said
-        (took-move s at due e next said from end g) q (heard-at-fits s end next q h) k
+        said-placed whole atoms p.readable.same p.readable.few (word_at s t.from) due t.next t.said
+        (took-move s at due e t g) q (heard-at-fits s t.end t.next q h) k
 
     pub passing-turn : {n : Forming} {after : List ℕ}
-        → Forms atoms (λ k l. said_rules k atoms said ++ rule_closed next k l (formed_said f atoms said).rule) f.helper
-        (closed_by next (formed_said f atoms said)) f.making draft n after
-        → Passing s atoms end next n after
+        → Forms atoms (λ k l. said_rules k atoms t.said ++ rule_closed t.next k l (formed_said f atoms t.said).rule) f.helper
+        (closed_by t.next (formed_said f atoms t.said)) f.making draft n after
+        → Passing s atoms t.end t.next n after
     passing-turn forms =
         let (q, h, k) = taken in
         record {
           readable = p.readable;
           left = q;
           rest = h;
-          state = state-turn whole atoms p.readable.same p.readable.few (word_at s from) due next said
-              (took-move s at due e next said from end g) q (heard-at-fits s end next q h) k forms;
+          state = state-turn whole atoms p.readable.same p.readable.few (word_at s t.from) due t.next t.said
+              (took-move s at due e t g) q (heard-at-fits s t.end t.next q h) k forms;
         }
 
-  pub passing-format : (place : ℕ) → r ≡ WrongFormat place → ⊥
-  passing-format place g = never-format s at due p.left p.rest e place g
+  pub passing-unread : (u : Unread) → r ≡ Err u → ⊥
+  passing-unread u g = never-unread s at due p.left p.rest e u g
 
-  pub passing-kind : (place : ℕ) → r ≡ WrongKind place → ⊥
-  passing-kind place g = never-kind s at due p.left p.rest e place g
-
-  pub passing-end : r ≡ Done → (q : Part) → text_in s ≡ says q → Complete (text_of q) f draft
+  pub passing-end : r ≡ Ok None → (q : Part) → text_in s ≡ says q → Complete (text_of q) f draft
   passing-end g q h =
       let i : p.readable.part ≡ q = let j = sym p.readable.heard ∙ h in cc in
       let k = done-part s at due p.left p.rest e g in

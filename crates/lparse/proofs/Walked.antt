@@ -5,10 +5,10 @@ use mathlib.Core.Bool.{Bool, true, false}
 use mathlib.Core.List.{List, [], ◌∷◌, ◌++◌}
 use Prim.Native.Nat.{ℕ, zero, suc, ◌-◌}
 use native.Mathlib.Omega.{arith}
+use Rattle.std.specs.Prelude.{Some, Ok, Err}
 use Rattle.meaning.specs.Choice.{ifb, if_lt}
 use Rattle.meaning.proofs.Tests.{apart}
 use Rattle.meaning.proofs.Choice.{b-yes, eq_yes, eq_no, lt_no}
-use Rattle.decimal.specs.declared.Digits.TheVariants.{Value}
 use Rattle.decimal.specs.Digits.{value_from}
 use Rattle.lparse.specs.declared.due.Role.{Role}
 use Rattle.lparse.specs.declared.due.Role.TheVariants.{Kind, Head, HeadCount, Heads, Literals, Negatives, Negative, Positive, Table, Plus, Minus, Models}
@@ -17,31 +17,32 @@ use Rattle.lparse.specs.declared.due.Due.TheVariants.{Number, Name, PlusWord, Mi
 use Rattle.lparse.specs.declared.due.Standing.TheVariants.{Head as InHead, Free as InFree, Negative as InNegative, Positive as InPositive}
 use Rattle.lparse.specs.declared.due.Said.{Said}
 use Rattle.lparse.specs.declared.due.Said.TheVariants.{Nothing as Silent}
-use Rattle.lparse.specs.declared.due.Move.{Move}
-use Rattle.lparse.specs.declared.due.Move.TheVariants.{Goes, Format, Kind as OtherKind}
+use Rattle.lparse.specs.declared.due.Misplaced.TheVariants.{Format, Kind as OtherKind}
 use Rattle.lparse.specs.Words.{Word}
-use Rattle.lparse.specs.Reading.{body_of, heads_of, on_kind, on_listed, on_head_count, on_negatives, on_number, number_in, on_sign, move_of, whole, Part, nothing_more, with, Heard, says, wrong, adding, on_move, heard}
+use Rattle.lparse.specs.Reading.{Move, body_of, heads_of, on_kind, on_listed, on_head_count, on_negatives, on_number, number_in, on_sign, move_of, whole, Part, nothing_more, with, Heard, says, wrong, adding, on_move, heard}
 use Rattle.lparse.proofs.Tokens.{number-move, atom-move, sign-move}
 use Rattle.lparse.proofs.Later.{heard-one}
 
 pub data Walked : Due → List Word → Due → Type 0 where
   here : {due : Due} → Walked due [] due
-  on : {due next end : Due} {said : Said} {w : Word} {ws : List Word} → move_of due w.bytes ≡ Goes next said → Walked next ws end
+  on : {due next end : Due} {said : Said} {w : Word} {ws : List Word} → move_of due w.bytes ≡ Ok (next, said) → Walked next ws end
       → Walked due (w ∷ ws) end
 
 -- ---- what is due behind them
 
 pub walked_one : {due a b : Due} {ws : List Word} → Walked due ws a → Walked due ws b → a ≡ b
 walked_one here here = refl
-walked_one (on {next = n} m k) (on {next = o} q r) = let e : n ≡ o = let g = sym m ∙ q in cc in walked_one (rw e at k) r
+walked_one (on {next = n} {said = x} m k) (on {next = o} {said = y} q r) =
+    let g = sym m ∙ q in
+    let e : ◌≡◌ {A = Due × Said} (n, x) (o, y) = cc in walked_one (rw (ap (λ p. p.0) e) at k) r
 
-module _ (w : Word) {mid end : Due} {said : Said} (m : move_of mid w.bytes ≡ Goes end said) where
+module _ (w : Word) {mid end : Due} {said : Said} (m : move_of mid w.bytes ≡ Ok (end, said)) where
   pub walked-last : {due : Due} {ws : List Word} → Walked due ws mid → Walked due (ws ++ (w ∷ [])) end
   walked-last here = on m here
   walked-last (on q k) = on q (walked-last k)
 
 pub walked-parted : (ws : List Word) (w : Word) {due end : Due} → Walked due (ws ++ (w ∷ [])) end
-    → (mid : Due) × (said : Said) × Walked due ws mid × (move_of mid w.bytes ≡ Goes end said)
+    → (mid : Due) × (said : Said) × Walked due ws mid × (move_of mid w.bytes ≡ Ok (end, said))
 walked-parted [] w {due} (on {said = said} m here) = (due, said, here, m)
 walked-parted (v ∷ ws) w (on m k) = let (mid, said, r, q) = walked-parted ws w k in (mid, said, on m r, q)
 
@@ -70,12 +71,12 @@ module _ (len : ℕ) where
       → (m : Move) → move_of due w.bytes ≡ m → (q : Part) → on_move m w (λ next. heard len next (ws ++ more)) ≡ says q
       → (end : Due) × Walked due (w ∷ ws) end
   unfolding on_move
-  walked-move due w ws more rest (Goes next said) e q f =
+  walked-move due w ws more rest (Ok (next, said)) e q f =
       let (p, g) = added-says w said (heard len next (ws ++ more)) q f in
       let (end, k) = rest next p g in
       (end, on e k)
-  walked-move due w ws more rest Format e q f = apart cc
-  walked-move due w ws more rest OtherKind e q f = apart cc
+  walked-move due w ws more rest (Err Format) e q f = apart cc
+  walked-move due w ws more rest (Err OtherKind) e q f = apart cc
 
   pub says-walked : (due : Due) (ws more : List Word) (q : Part) → heard len due (ws ++ more) ≡ says q → (end : Due) × Walked due ws end
   unfolding heard
@@ -87,13 +88,13 @@ module _ (len : ℕ) where
 
 pub data Stopped (len : ℕ) (due : Due) (ws : List Word) (i at : ℕ) : Type 0 where
   at-word : (before : List Word) (w : Word) (after : List Word) (end : Due) → ws ≡ before ++ (w ∷ after) → Walked due before end
-      → move_of end w.bytes ≡ Format → i ≡ 30 → at ≡ w.place → Stopped len due ws i at
+      → move_of end w.bytes ≡ Err Format → i ≡ 30 → at ≡ w.place → Stopped len due ws i at
   at-type : (before : List Word) (w : Word) (after : List Word) (end : Due) → ws ≡ before ++ (w ∷ after) → Walked due before end
-      → move_of end w.bytes ≡ OtherKind → i ≡ 31 → at ≡ w.place → Stopped len due ws i at
+      → move_of end w.bytes ≡ Err OtherKind → i ≡ 31 → at ≡ w.place → Stopped len due ws i at
   at-end : (end : Due) → Walked due ws end → whole end ≡ false → i ≡ 30 → at ≡ len → Stopped len due ws i at
 
 module _ (len i at : ℕ) where
-  stopped-on : {due next : Due} {said : Said} (w : Word) {ws : List Word} → move_of due w.bytes ≡ Goes next said → Stopped len next ws i at
+  stopped-on : {due next : Due} {said : Said} (w : Word) {ws : List Word} → move_of due w.bytes ≡ Ok (next, said) → Stopped len next ws i at
       → Stopped len due (w ∷ ws) i at
   stopped-on w m (at-word before v after end e k f n p) = at-word (w ∷ before) v after end (ap (λ l. w ∷ l) e) (on m k) f n p
   stopped-on w m (at-type before v after end e k f n p) = at-type (w ∷ before) v after end (ap (λ l. w ∷ l) e) (on m k) f n p
@@ -107,10 +108,10 @@ module _ (len i at : ℕ) where
   stopped-move : (due : Due) (w : Word) (ws : List Word) → ((next : Due) → heard len next ws ≡ wrong i at → Stopped len next ws i at)
       → (m : Move) → move_of due w.bytes ≡ m → on_move m w (λ next. heard len next ws) ≡ wrong i at → Stopped len due (w ∷ ws) i at
   unfolding on_move
-  stopped-move due w ws rest (Goes next said) e f = stopped-on w e (rest next (added-wrong w said (heard len next ws) f))
-  stopped-move due w ws rest Format e f =
+  stopped-move due w ws rest (Ok (next, said)) e f = stopped-on w e (rest next (added-wrong w said (heard len next ws) f))
+  stopped-move due w ws rest (Err Format) e f =
       let n : 30 ≡ i = cc in let p : w.place ≡ at = cc in at-word [] w ws due refl here e (sym n) (sym p)
-  stopped-move due w ws rest OtherKind e f =
+  stopped-move due w ws rest (Err OtherKind) e f =
       let n : 31 ≡ i = cc in let p : w.place ≡ at = cc in at-type [] w ws due refl here e (sym n) (sym p)
 
   stopped-end : (due : Due) (b : Bool) → whole due ≡ b → ifb b (says nothing_more) (wrong 30 len) ≡ wrong i at → Stopped len due [] i at
@@ -146,15 +147,15 @@ plus_sign = word (66 ∷ (43 ∷ []))
 abbrev minus_sign : Word
 minus_sign = word (66 ∷ (45 ∷ []))
 
-zero-read : number_in zero_word.bytes ≡ Value 0
+zero-read : number_in zero_word.bytes ≡ Some 0
 unfolding value_from if_lt ifb
 zero-read = refl
 
-one-read : number_in one_word.bytes ≡ Value 1
+one-read : number_in one_word.bytes ≡ Some 1
 unfolding value_from if_lt ifb
 one-read = refl
 
-completed-by : {due next : Due} {said : Said} (w : Word) → move_of due w.bytes ≡ Goes next said → Completed next → Completed due
+completed-by : {due next : Due} {said : Said} (w : Word) → move_of due w.bytes ≡ Ok (next, said) → Completed next → Completed due
 completed-by {due} {next} {said} w m c = record {
   words = w ∷ c.words;
   part = with w said c.part;
@@ -162,11 +163,11 @@ completed-by {due} {next} {said} w m c = record {
 }
 
 -- a list's end, a rule's atom
-ends-list : (role : Role) (end next : Due) (said : Said) → on_number role 0 ≡ on_listed 0 end next said → move_of (Number role) zero_word.bytes ≡ Goes end Silent
+ends-list : (role : Role) (end next : Due) (said : Said) → on_number role 0 ≡ on_listed 0 end next said → move_of (Number role) zero_word.bytes ≡ Ok (end, Silent)
 unfolding on_listed
 ends-list role end next said e = number-move zero_word role 0 zero-read ∙ e ∙ eq_yes _ _ _ _ refl
 
-closes-rules : move_of (Number Kind) zero_word.bytes ≡ Goes (Number Table) Silent
+closes-rules : move_of (Number Kind) zero_word.bytes ≡ Ok ((Number Table), Silent)
 unfolding on_number on_kind
 closes-rules = number-move zero_word Kind 0 zero-read ∙ eq_yes _ _ _ _ refl
 
@@ -178,7 +179,7 @@ end-closed : Closes End []
 unfolding heard whole ifb
 end-closed = record { heard-so = λ len. refl }
 
-closed-by : {due next : Due} {w : Word} {ws : List Word} → move_of due w.bytes ≡ Goes next Silent → Closes next ws → Closes due (w ∷ ws)
+closed-by : {due next : Due} {w : Word} {ws : List Word} → move_of due w.bytes ≡ Ok (next, Silent) → Closes next ws → Closes due (w ∷ ws)
 unfolding with
 closed-by {due} {next} {w} {ws} m c =
     record { heard-so = λ len. heard-one len w ws due next Silent nothing_more nothing_more m (c.heard-so len) refl }

@@ -1,5 +1,5 @@
--- The words of a text, one by one: the turns of the two loops that find a word's ends, and that the words from a place on are the first
--- of them and the words from its end on.
+-- The words of a text, one by one: the search and the loop that find a word's ends, and that the words from a place on are the first of them
+-- and the words from its end on.
 use mathlib.Core.Path.{◌≡◌, refl, ap, sym, ◌∙◌}
 use mathlib.Core.Bool.{true, false}
 use mathlib.Core.List.{List, [], ◌∷◌}
@@ -7,26 +7,38 @@ use Prim.Native.Nat.{ℕ, zero, suc, ◌+◌, ◌-◌, ◌<◌, ◌≤◌}
 use native.Mathlib.Nat.{add-zero}
 use native.Mathlib.Numerals.{add-one}
 use native.Mathlib.Omega.{arith}
-use lib.ListN.{length, get_or, drop, length-drop, drop_of_length-le}
-use lib.Seq.{drop-cons, get_or-drop}
+use lib.ListN.{length, get_or, take, drop, length-drop, drop_of_length-le}
+use lib.Seq.{drop-cons, get_or-drop, take_all}
+use Rattle.std.specs.Prelude.{Option, MatchOption, unwrap_or}
+use Rattle.std.specs.List.{HoldsAt, AllWithin}
+use Rattle.std.proofs.lemmas.Iterator.{index_from_first}
 use Rattle.meaning.specs.Choice.{ifb}
-use Rattle.meaning.proofs.Choice.{b-either, lt_yes, lt_no, lt-either}
+use Rattle.meaning.proofs.Choice.{b-yes, b-no, b-either, lt_yes, lt_no, lt-either}
 use Rattle.lparse.specs.declared.word.Quote.{Quote}
 use Rattle.lparse.specs.declared.word.Quote.TheVariants.{Outside}
 use Rattle.lparse.specs.Words.{parting, outside, ends, turned, blanks, span, start_of, end_of, word_at, words_from, words_at}
 
-module _ (s : List ℕ) (i : ℕ) where
-  pub start-end : length s ≤ i → start_of s i ≡ i
-  unfolding start_of blanks
-  start-end h = rw (drop_of_length-le s h) (add-zero i)
+-- ---- where a word starts
 
-  pub start-here : i < length s → parting (get_or s i 0) ≡ false → start_of s i ≡ i
-  unfolding start_of blanks ifb
-  start-here h e = rw (drop-cons s i 0 h, e) (add-zero i)
+-- the bytes from a place on, as a part of the text
+abbrev pub rest : List ℕ → ℕ → List ℕ
+rest s at = take (length s - at) (drop at s)
 
-  pub start-turn : i < length s → parting (get_or s i 0) ≡ true → start_of s i ≡ start_of s (i + 1)
-  unfolding start_of blanks ifb
-  start-turn h e = rw (add-one i, drop-cons s i 0 h, e) (omega arith)
+rest-whole : (s : List ℕ) (at : ℕ) → rest s at ≡ drop at s
+rest-whole s at = take_all (length s - at) (drop at s) (omega (arith, length-drop at s))
+
+-- what the search for the first byte that parts nothing tells
+pub start-found : (s : List ℕ) (at : ℕ) (r : Option ℕ)
+    → MatchOption r (AllWithin (λ x. parting x ≡ true) (rest s at) 0 (length (rest s at)))
+    (λ i. (i < length (rest s at)) × HoldsAt (λ x. parting x ≡ false) (rest s at) i × AllWithin (λ x. parting x ≡ true) (rest s at) 0 i)
+    → at + unwrap_or r (length (rest s at)) ≡ start_of s at
+unfolding start_of blanks
+start-found s at r h =
+    ap (λ n. at + n) (sym (index_from_first blanks (λ x. parting x ≡ false) (λ x. parting x ≡ true) refl (λ x xs e. b-no _ _ _ e)
+    (λ x xs e. b-yes _ _ _ e ∙ sym (add-one _)) (rest s at) r h))
+    ∙ ap (λ k. at + blanks k) (rest-whole s at)
+
+-- ---- where it ends
 
 -- the end of a word that goes on with q at i
 unfoldable pub end_from : Quote → List ℕ → ℕ → ℕ

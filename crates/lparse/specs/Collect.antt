@@ -5,10 +5,11 @@
 --   text_of p             what a text says without the names
 --   numbers_of l          the atoms' numbers, as an array holds them
 --   told                 an answer's number and values, case by case
+--   unimported u          the answer where a word is not read
 --   collect_of s seen     the answer, and the array lent afterwards
 --   Stands l n found     the atoms l are the first n of the array's 255; or there are more of them, and n says so
 --   Notes k n d m e      whatever atoms stood in the array, those of k that are new stand behind them
-use Rattle.std.specs.Prelude.{◌≡◌, List, [], ◌∷◌, ◌++◌, map, ℕ, ◌≤◌, ◌<◌, length, take, drop}
+use Rattle.std.specs.Prelude.{◌≡◌, List, [], ◌∷◌, ◌++◌, map, ℕ, ◌≤◌, ◌<◌, length, take, drop, Result, Ok, Err}
 use Rattle.meaning.specs.Choice.{if_lt}
 use Rattle.meaning.specs.Told.{Told, success, refused_at, refused, Answered}
 use Rattle.imported.specs.declared.TextAtom.{TextAtom}
@@ -18,8 +19,10 @@ use Rattle.lparse.specs.declared.due.Role.TheVariants.{Kind}
 use Rattle.lparse.specs.declared.due.Due.TheVariants.{Number}
 use Rattle.lparse.specs.declared.due.Said.{Said}
 use Rattle.lparse.specs.declared.due.Said.TheVariants.{Nothing as Silent, Choice as Chooses, Atom}
-use Rattle.lparse.specs.declared.gather.Collected.{Collected}
-use Rattle.lparse.specs.declared.gather.Collected.TheVariants.{Atoms, TooMany, Format, Kind as OtherKind}
+use Rattle.lparse.specs.declared.answer.Unimported.{Unimported}
+use Rattle.lparse.specs.declared.answer.Unimported.TheVariants.{Format, Kind as OtherKind, NoFit}
+use Rattle.lparse.specs.declared.step.Unread.{Unread}
+use Rattle.lparse.specs.declared.step.Unread.TheVariants.{Format as WrongFormat, Kind as WrongKind}
 use Rattle.lparse.specs.Reading.{Part, Heard, says, wrong, heard_at}
 
 abbrev pub text_in : List ℕ → Heard
@@ -32,11 +35,16 @@ unfoldable pub numbers_of : List TextAtom → List ℕ
 numbers_of [] = []
 numbers_of (a ∷ l) = a.0 ∷ numbers_of l
 
-abbrev pub told : Collected → Told ℕ
-told (Atoms n) = success n
-told TooMany = refused 32
-told (Format place) = refused_at 30 place
-told (OtherKind place) = refused_at 31 place
+abbrev pub told : Result ℕ Unimported → Told ℕ
+told (Ok n) = success n
+told (Err NoFit) = refused 32
+told (Err (Format place)) = refused_at 30 place
+told (Err (OtherKind place)) = refused_at 31 place
+
+-- why a text is not imported of which a word is not read
+abbrev pub unimported : Unread → Unimported
+unimported (WrongFormat place) = Format place
+unimported (WrongKind place) = OtherKind place
 
 -- no book has over 255 atoms
 unfoldable pub collected : List TextAtom → List ℕ → Answered ℕ

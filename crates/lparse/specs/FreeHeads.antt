@@ -3,9 +3,8 @@
 --
 --   nth_head l j          the j-th of the list
 --   free_head_of s j       the j-th head of a choice of the text; nothing where the text is refused
---   is_free, head_said, head_by, left_behind     (src/free.rt) whether an atom is such a head, the head that a word says, the head found, and how
---                        many are passed over yet
-use Rattle.std.specs.Prelude.{Bool, true, false, List, [], ◌∷◌, ℕ, ◌-◌}
+--   is_free, head_said     (src/free.rt) whether an atom is such a head, and the head that a word says
+use Rattle.std.specs.Prelude.{Bool, true, false, List, [], ◌∷◌, ℕ, ◌-◌, Option, Some, None}
 use Rattle.meaning.specs.Choice.{ifb, if_eq}
 use Rattle.imported.specs.declared.TextAtom.{TextAtom}
 use Rattle.imported.specs.Making.{free_heads}
@@ -13,20 +12,18 @@ use Rattle.lparse.specs.declared.due.Standing.{Standing}
 use Rattle.lparse.specs.declared.due.Standing.TheVariants.{Head as InHead, Free as InFree, Negative as InNegative, Positive as InPositive, Table as InTable, Plus as InPlus, Minus as InMinus}
 use Rattle.lparse.specs.declared.due.Said.{Said}
 use Rattle.lparse.specs.declared.due.Said.TheVariants.{Nothing as Silent, Choice as Chooses, Atom}
-use Rattle.lparse.specs.declared.named.Whose.{Whose}
-use Rattle.lparse.specs.declared.named.Whose.TheVariants.{Atom as AtomOf, Nothing as Nobody}
 use Rattle.lparse.specs.Reading.{Heard, says, wrong}
 use Rattle.lparse.specs.Collect.{text_in}
 
-unfoldable pub nth_head : List TextAtom → ℕ → Whose
-nth_head [] j = Nobody
-nth_head (a ∷ l) j = if_eq j 0 (AtomOf a) (nth_head l (j - 1))
+unfoldable pub nth_head : List TextAtom → ℕ → Option TextAtom
+nth_head [] j = None
+nth_head (a ∷ l) j = if_eq j 0 (Some a) (nth_head l (j - 1))
 
-unfoldable pub head_heard : Heard → ℕ → Whose
+unfoldable pub head_heard : Heard → ℕ → Option TextAtom
 head_heard (says p) j = nth_head (free_heads p.rules) j
-head_heard (wrong i at) j = Nobody
+head_heard (wrong i at) j = None
 
-abbrev pub free_head_of : List ℕ → ℕ → Whose
+abbrev pub free_head_of : List ℕ → ℕ → Option TextAtom
 free_head_of s j = head_heard (text_in s) j
 
 -- ---- what the functions of src/ hand each other
@@ -40,16 +37,7 @@ is_free InTable = false
 is_free InPlus = false
 is_free InMinus = false
 
-unfoldable pub head_said : Said → Whose
-head_said Silent = Nobody
-head_said Chooses = Nobody
-head_said (Atom a standing) = ifb (is_free standing) (AtomOf a) Nobody
-
--- a head that was found stays
-unfoldable pub head_by : Whose → Whose → ℕ → Whose
-head_by (AtomOf a) here left = AtomOf a
-head_by Nobody here left = if_eq left 0 here Nobody
-
-unfoldable pub left_behind : ℕ → Whose → ℕ
-left_behind left (AtomOf a) = left - 1
-left_behind left Nobody = left
+unfoldable pub head_said : Said → Option TextAtom
+head_said Silent = None
+head_said Chooses = None
+head_said (Atom a standing) = ifb (is_free standing) (Some a) None

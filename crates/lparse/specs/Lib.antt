@@ -8,5 +8,6 @@ pub mod Forming
 pub mod Make
 pub mod Import
 pub mod Rows
+pub mod Nth
 pub mod Names
 pub mod FreeHeads

@@ -5,8 +5,8 @@
 --   whose_of atoms n      the first of the atoms whose number is n
 --   nth_in l a k          the k-th name, counted from 0, that the entries l give the atom: where it starts and ends in the text
 --   name_of s a k         the same of the symbol table of the text; nothing where the text is refused
---   is_named, found_by, left_by     (src/named.rt) whether a word is a name of the atom, the name found, and how many are passed over yet
-use Rattle.std.specs.Prelude.{Bool, true, false, List, [], ◌∷◌, ℕ, ◌+◌, ◌-◌, length}
+--   is_named, name_said     (src/named.rt) whether a word is a name of the atom, and that name
+use Rattle.std.specs.Prelude.{Bool, true, false, List, [], ◌∷◌, ℕ, ◌+◌, ◌-◌, length, Option, Some, None}
 use Rattle.meaning.specs.Choice.{ifb, if_eq}
 use Rattle.imported.specs.declared.TextAtom.{TextAtom}
 use Rattle.imported.specs.Text.{same_text}
@@ -14,31 +14,27 @@ use Rattle.lparse.specs.declared.due.Standing.{Standing}
 use Rattle.lparse.specs.declared.due.Standing.TheVariants.{Head as InHead, Free as InFree, Negative as InNegative, Positive as InPositive, Table as InTable, Plus as InPlus, Minus as InMinus}
 use Rattle.lparse.specs.declared.due.Said.{Said}
 use Rattle.lparse.specs.declared.due.Said.TheVariants.{Nothing as Silent, Choice as Chooses, Atom}
-use Rattle.lparse.specs.declared.named.Whose.{Whose}
-use Rattle.lparse.specs.declared.named.Whose.TheVariants.{Atom as AtomOf, Nothing as Nobody}
-use Rattle.lparse.specs.declared.named.Name.{Name}
-use Rattle.lparse.specs.declared.named.Name.TheVariants.{At, Nothing as Nameless}
 use Rattle.lparse.specs.Reading.{text_atom, Entry, Heard, says, wrong}
 use Rattle.lparse.specs.Collect.{text_in}
 use Rattle.lparse.specs.Forming.{place_of}
 
-unfoldable pub whose_in : List ℕ → List ℕ → ℕ → Whose
-whose_in all [] n = Nobody
-whose_in all (x ∷ l) n = if_eq (place_of all (text_atom x)) n (AtomOf (text_atom x)) (whose_in all l n)
+unfoldable pub whose_in : List ℕ → List ℕ → ℕ → Option TextAtom
+whose_in all [] n = None
+whose_in all (x ∷ l) n = if_eq (place_of all (text_atom x)) n (Some (text_atom x)) (whose_in all l n)
 
-abbrev pub whose_of : List ℕ → ℕ → Whose
+abbrev pub whose_of : List ℕ → ℕ → Option TextAtom
 whose_of atoms n = whose_in atoms atoms n
 
-unfoldable pub nth_in : List Entry → TextAtom → ℕ → Name
-nth_in [] a k = Nameless
+unfoldable pub nth_in : List Entry → TextAtom → ℕ → Option (ℕ × ℕ)
+nth_in [] a k = None
 nth_in (e ∷ l) a k =
-    ifb (same_text a e.atom) (if_eq k 0 (At e.name.place (e.name.place + length e.name.bytes)) (nth_in l a (k - 1))) (nth_in l a k)
+    ifb (same_text a e.atom) (if_eq k 0 (Some (e.name.place, (e.name.place + length e.name.bytes))) (nth_in l a (k - 1))) (nth_in l a k)
 
-unfoldable pub name_heard : Heard → TextAtom → ℕ → Name
+unfoldable pub name_heard : Heard → TextAtom → ℕ → Option (ℕ × ℕ)
 name_heard (says p) a k = nth_in p.table a k
-name_heard (wrong i at) a k = Nameless
+name_heard (wrong i at) a k = None
 
-abbrev pub name_of : List ℕ → TextAtom → ℕ → Name
+abbrev pub name_of : List ℕ → TextAtom → ℕ → Option (ℕ × ℕ)
 name_of s a k = name_heard (text_in s) a k
 
 -- ---- what the functions of src/ hand each other
@@ -57,10 +53,9 @@ is_named Silent a = false
 is_named Chooses a = false
 is_named (Atom c standing) a = ifb (in_table standing) (same_text a c) false
 
--- a name that was found stays
-unfoldable pub found_by : Name → Bool → ℕ → ℕ → ℕ → Name
-found_by (At i j) named left from end = At i j
-found_by Nameless named left from end = ifb named (if_eq left 0 (At from end) Nameless) Nameless
+abbrev pub name_at : Bool → ℕ → ℕ → Option (ℕ × ℕ)
+name_at named from end = ifb named (Some (from, end)) None
 
-unfoldable pub left_by : ℕ → Bool → ℕ
-left_by left named = ifb named (left - 1) left
+-- the name of the atom that a word from one place to another says
+abbrev pub name_said : Said → TextAtom → ℕ → ℕ → Option (ℕ × ℕ)
+name_said said a from end = name_at (is_named said a) from end

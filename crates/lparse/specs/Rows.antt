@@ -11,10 +11,9 @@
 --   Missing s at         30: all words are the beginning of a text, but no text
 --   TooLarge s out       32: the text is in the format, but its book doesn't fit the limits or the buffer
 --   Fitting s out n      the text is in the format, and its book, of n bytes, fits both
-use Rattle.std.specs.Prelude.{◌≡◌, ◌⊎◌, true, false, List, [], ◌∷◌, ◌++◌, ℕ, ◌<◌, ◌≤◌, length}
+use Rattle.std.specs.Prelude.{◌≡◌, ◌⊎◌, true, false, List, [], ◌∷◌, ◌++◌, ℕ, ◌<◌, ◌≤◌, length, Some}
 use Rattle.meaning.specs.Sets.{every}
 use Rattle.book.specs.Writing.{bytes_of_book}
-use Rattle.decimal.specs.declared.Digits.TheVariants.{Value}
 use Rattle.imported.specs.Text.{TextRule}
 use Rattle.imported.specs.Making.{rules_atoms, made_book, fits_in}
 use Rattle.lparse.specs.Words.{Word, words}
@@ -33,7 +32,7 @@ pub record RuleWords (ws : List Word) : Type 0 where
 pub record OtherType (ws : List Word) (w : Word) : Type 0 where
   pub behind : RuleWords ws
   pub number : ℕ
-  pub read : number_in w.bytes ≡ Value number
+  pub read : number_in w.bytes ≡ Some number
   pub not-closing : number ≡ 0 → ⊥
   pub not-basic : number ≡ 1 → ⊥
   pub not-choice : number ≡ 3 → ⊥

@@ -8,9 +8,8 @@
 --   tokens_of w m     the tokens of a text that says w, with m for the number of models
 --   Spelled, Spelling    a word is a token; the words are the tokens
 --   SaysWords ws w, Says s w     the words, the bytes are a text that says w
-use Rattle.std.specs.Prelude.{◌≡◌, Bool, true, false, List, [], ◌∷◌, ◌++◌, map, ℕ, ◌+◌, ltb, length}
+use Rattle.std.specs.Prelude.{◌≡◌, Bool, true, false, List, [], ◌∷◌, ◌++◌, map, ℕ, ◌+◌, ltb, length, Some}
 use Rattle.meaning.specs.Sets.{every}
-use Rattle.decimal.specs.declared.Digits.TheVariants.{Value}
 use Rattle.imported.specs.declared.TextAtom.{TextAtom}
 use Rattle.imported.specs.Text.{TextAtoms, TextRule, basic, choice, Text}
 use Rattle.imported.specs.Making.{mentioned}
@@ -62,7 +61,7 @@ unfoldable pub tokens_of : Written → ℕ → List Token
 tokens_of w m = rules_tokens w.rules ++ (number 0 ∷ behind_rules w.table w.plus w.minus m)
 
 pub data Spelled : Word → Token → Type 0 where
-  as_number : {w : Word} {n : ℕ} → number_in w.bytes ≡ Value n → Spelled w (number n)
+  as_number : {w : Word} {n : ℕ} → number_in w.bytes ≡ Some n → Spelled w (number n)
   as-name : {w : Word} → Spelled w (name w)
   as_bytes : {w : Word} {l : List ℕ} → w.bytes ≡ l → Spelled w (exactly l)
 

@@ -55,16 +55,11 @@ fn add_heads(draft: &mut [u8; BOOK_BYTES], m: Making, c: usize, count: usize, o:
         Adds (open_rules o.free k (take count o.heads) o.pos o.neg) m
         draft.old result draft.new }
 {
-    let heads = o.heads;
-    let pos = o.pos;
-    let neg = o.neg;
     let mut made = m;
     let mut helper = c;
-    let mut j = 0;
-    while j < count {
-        made = add_head(draft, made, o.free, helper, heads[j], pos, neg);
+    for head in &o.heads[..count] {
+        made = add_head(draft, made, o.free, helper, *head, o.pos, o.neg);
         helper = counted_on(helper, 1);
-        j += 1;
     }
     made
 }

@@ -72,96 +72,97 @@ pub enum Said {
     Atom(TextAtom, Standing),
 }
 
-// What a word does: what is due behind it and what it says; or it cannot stand there, as a word of
-// the format or as a rule's type.
+// Why a word cannot stand there: it is no word of the format, or no rule's type.
 #[derive(Clone, Copy)]
-pub enum Move {
-    Goes(Due, Said),
+pub enum Misplaced {
     Format,
     Kind,
 }
 
 // What is due where so many negatives and positives are left.
+#[tactic(auto, unfolding(crate::specs::Reading::body_of, meaning::specs::Choice::ifb, meaning::specs::Choice::if_eq))]
 fn body(negatives: u32, positives: u32) -> Role
     ensures { result ≡ body_of negatives positives }
 {
-    if negatives == 0 {
-        if positives == 0 {
-            return Role::Kind;
-        }
-        return Role::Positive(positives - 1);
+    match (negatives, positives) {
+        (0, 0) => Role::Kind,
+        (0, _) => Role::Positive(positives - 1),
+        _ => Role::Negative(negatives - 1, positives),
     }
-    Role::Negative(negatives - 1, positives)
 }
 
 // What is due where so many heads of a choice are left.
+#[tactic(auto, unfolding(crate::specs::Reading::heads_of, meaning::specs::Choice::ifb, meaning::specs::Choice::if_eq))]
 fn heads(left: u32) -> Role
     ensures { result ≡ heads_of left }
 {
     if left == 0 {
-        return Role::Literals;
+        Role::Literals
+    } else {
+        Role::Heads(left - 1)
     }
-    Role::Heads(left - 1)
 }
 
 // A rule's type: 0 closes the rules, 1 opens a basic rule, 3 a choice.
-fn on_kind(n: u32) -> Move
+#[tactic(auto, unfolding(crate::specs::Reading::on_kind, meaning::specs::Choice::ifb, meaning::specs::Choice::if_eq))]
+fn on_kind(n: u32) -> Result<(Due, Said), Misplaced>
     ensures { result ≡ on_kind n }
 {
-    if n == 0 {
-        return Move::Goes(Due::Number(Role::Table), Said::Nothing);
+    match n {
+        0 => Ok((Due::Number(Role::Table), Said::Nothing)),
+        1 => Ok((Due::Number(Role::Head), Said::Nothing)),
+        3 => Ok((Due::Number(Role::HeadCount), Said::Choice)),
+        _ => Err(Misplaced::Kind),
     }
-    if n == 1 {
-        return Move::Goes(Due::Number(Role::Head), Said::Nothing);
-    }
-    if n == 3 {
-        return Move::Goes(Due::Number(Role::HeadCount), Said::Choice);
-    }
-    Move::Kind
 }
 
 // An atom, and so not 0, of a rule.
-fn on_atom(n: u32, next: Role, standing: Standing) -> Move
+#[tactic(auto, unfolding(crate::specs::Reading::on_atom, meaning::specs::Choice::ifb, meaning::specs::Choice::if_eq))]
+fn on_atom(n: u32, next: Role, standing: Standing) -> Result<(Due, Said), Misplaced>
     ensures { result ≡ on_atom n next standing }
 {
     if n == 0 {
-        return Move::Format;
+        return Err(Misplaced::Format);
     }
-    Move::Goes(Due::Number(next), Said::Atom(TextAtom(n), standing))
+    Ok((Due::Number(next), Said::Atom(TextAtom(n), standing)))
 }
 
 // An atom, or the 0 that ends the list.
-fn on_listed(n: u32, end: Due, next: Due, said: Said) -> Move
+#[tactic(auto, unfolding(crate::specs::Reading::on_listed, meaning::specs::Choice::ifb, meaning::specs::Choice::if_eq))]
+fn on_listed(n: u32, end: Due, next: Due, said: Said) -> Result<(Due, Said), Misplaced>
     ensures { result ≡ on_listed n end next said }
 {
     if n == 0 {
-        return Move::Goes(end, Said::Nothing);
+        return Ok((end, Said::Nothing));
     }
-    Move::Goes(next, said)
+    Ok((next, said))
 }
 
 // The number of a choice's heads, and so not 0. No room is kept for them: they are read one by one.
-fn on_head_count(n: u32) -> Move
+#[tactic(auto, unfolding(crate::specs::Reading::on_head_count, meaning::specs::Choice::ifb, meaning::specs::Choice::if_eq))]
+fn on_head_count(n: u32) -> Result<(Due, Said), Misplaced>
     ensures { result ≡ on_head_count n }
 {
     if n == 0 {
-        return Move::Format;
+        return Err(Misplaced::Format);
     }
-    Move::Goes(Due::Number(heads(n)), Said::Nothing)
+    Ok((Due::Number(heads(n)), Said::Nothing))
 }
 
 // The number of negatives, of so many literals.
-fn on_negatives(n: u32, literals: u32) -> Move
+#[tactic(auto, unfolding(crate::specs::Reading::on_negatives, meaning::specs::Choice::ifb, meaning::specs::Choice::if_lt))]
+fn on_negatives(n: u32, literals: u32) -> Result<(Due, Said), Misplaced>
     ensures { result ≡ on_negatives n literals }
 {
     if literals < n {
-        return Move::Format;
+        return Err(Misplaced::Format);
     }
-    Move::Goes(Due::Number(body(n, literals - n)), Said::Nothing)
+    Ok((Due::Number(body(n, literals - n)), Said::Nothing))
 }
 
 // What a number does where it is due.
-pub fn on_number(role: Role, n: u32) -> Move
+#[tactic(auto, unfolding(crate::specs::Reading::on_number))]
+pub fn on_number(role: Role, n: u32) -> Result<(Due, Said), Misplaced>
     ensures { result ≡ on_number role n }
 {
     let a = TextAtom(n);
@@ -170,7 +171,7 @@ pub fn on_number(role: Role, n: u32) -> Move
         Role::Head => on_atom(n, Role::Literals, Standing::Head),
         Role::HeadCount => on_head_count(n),
         Role::Heads(left) => on_atom(n, heads(left), Standing::Free),
-        Role::Literals => Move::Goes(Due::Number(Role::Negatives(n)), Said::Nothing),
+        Role::Literals => Ok((Due::Number(Role::Negatives(n)), Said::Nothing)),
         Role::Negatives(literals) => on_negatives(n, literals),
         Role::Negative(negatives, positives) => {
             on_atom(n, body(negatives, positives), Standing::Negative)
@@ -185,6 +186,6 @@ pub fn on_number(role: Role, n: u32) -> Move
             let said = Said::Atom(a, Standing::Minus);
             on_listed(n, Due::Number(Role::Models), Due::Number(Role::Minus), said)
         }
-        Role::Models => Move::Goes(Due::End, Said::Nothing),
+        Role::Models => Ok((Due::End, Said::Nothing)),
     }
 }

@@ -6,7 +6,6 @@ ghost use Rattle.lparse.specs.Opened.{capped};
 ghost use Rattle.lparse.specs.Forming.{
   entry_by,
   entry_rules,
-  opens_rule,
   closes,
   helper_behind,
   formed_said,
@@ -37,18 +36,11 @@ pub struct Forming {
 }
 
 // Whether a list had an entry, with an atom that stands here.
+#[tactic(auto, unfolding(crate::specs::Forming::entry_by))]
 fn entry_by(entry: bool, standing: Standing) -> bool
     ensures { result ≡ entry_by entry standing }
 {
-    match standing {
-        Standing::Head => entry,
-        Standing::Free => entry,
-        Standing::Negative => entry,
-        Standing::Positive => entry,
-        Standing::Table => entry,
-        Standing::Plus => true,
-        Standing::Minus => true,
-    }
+    entry || matches!(standing, Standing::Plus | Standing::Minus)
 }
 
 // Adds the rule for the entry of B+ or B- whose number is n: h is the helper. With 255 atoms there is
@@ -64,17 +56,14 @@ fn add_entry(
         Adds (entry_rules standing k n) m draft.old result draft.new }
 {
     match standing {
-        Standing::Head => m,
-        Standing::Free => m,
-        Standing::Negative => m,
-        Standing::Positive => m,
-        Standing::Table => m,
         Standing::Plus => add_plus(draft, m, h, n),
         Standing::Minus => add_minus(draft, m, h, n),
+        _ => m,
     }
 }
 
-// "h if not a, not h"
+// "h if not a, not h". Apart from the next: tried as arms of one `match` with a guard for 255, and
+// the proof didn't close behind the guard.
 fn add_plus(draft: &mut [u8; BOOK_BYTES], m: Making, h: usize, n: usize) -> Making
     ensures { (k : ℕ) → h ≡ capped k → n < k →
         Adds (entry_rules Plus k n) m draft.old result draft.new }
@@ -101,37 +90,12 @@ fn add_minus(draft: &mut [u8; BOOK_BYTES], m: Making, h: usize, n: usize) -> Mak
     add_rule(draft, m, AtomNo(h as u8), &one, &helper)
 }
 
-// A rule's type is due.
-fn opens_rule(role: Role) -> bool
-    ensures { result ≡ opens_rule role }
-{
-    match role {
-        Role::Kind => true,
-        Role::Head => false,
-        Role::HeadCount => false,
-        Role::Heads(_) => false,
-        Role::Literals => false,
-        Role::Negatives(_) => false,
-        Role::Negative(_, _) => false,
-        Role::Positive(_) => false,
-        Role::Table => false,
-        Role::Plus => false,
-        Role::Minus => false,
-        Role::Models => false,
-    }
-}
-
-// The rule that was open is whole.
+// A rule's type is due: the rule that was open is whole.
+#[tactic(auto, unfolding(crate::specs::Forming::closes, crate::specs::Forming::opens_rule))]
 fn closes_rule(due: Due) -> bool
     ensures { result ≡ closes due }
 {
-    match due {
-        Due::Number(role) => opens_rule(role),
-        Due::Name(_) => false,
-        Due::PlusWord => false,
-        Due::MinusWord => false,
-        Due::End => false,
-    }
+    matches!(due, Due::Number(Role::Kind))
 }
 
 // What a word says, with the rule that an entry adds.
@@ -141,38 +105,34 @@ fn form_said(atoms: &[u32], draft: &mut [u8; BOOK_BYTES], f: Forming, said: Said
         f.helper (formed_said f atoms.now said) f.making
         draft.old result draft.new }
 {
-    let m = f.making;
-    let o = f.rule;
-    let helper = f.helper;
-    let entry = f.entry;
     match said {
         Said::Nothing => f,
         Said::Choice => Forming {
-            making: m,
             rule: open_rule(true),
-            helper,
-            entry,
+            ..f
         },
         Said::Atom(a, standing) => {
             let n = number_of(atoms, a);
             Forming {
-                making: add_entry(draft, m, helper, n, standing),
-                rule: opened_by(o, n, standing),
-                helper,
-                entry: entry_by(entry, standing),
+                making: add_entry(draft, f.making, f.helper, n, standing),
+                rule: opened_by(f.rule, n, standing),
+                entry: entry_by(f.entry, standing),
+                ..f
             }
         }
     }
 }
 
 // The number of the next helper behind the open rule: a choice has one for each head.
+#[tactic(auto, unfolding(crate::specs::Forming::helper_behind, meaning::specs::Choice::ifb))]
 fn helper_behind(helper: usize, free: bool, count: usize) -> usize
     ensures { result ≡ helper_behind helper free count }
 {
     if free {
-        return counted_on(helper, count);
+        counted_on(helper, count)
+    } else {
+        helper
     }
-    helper
 }
 
 // The open rule is whole: its rules are added.
@@ -180,14 +140,11 @@ fn close_rule(draft: &mut [u8; BOOK_BYTES], f: Forming) -> Forming
     ensures { Forms [] (λ k l. shut_rules k l f.rule) f.helper (shut f) f.making
         draft.old result draft.new }
 {
-    let m = f.making;
     let o = f.rule;
-    let helper = f.helper;
     Forming {
-        making: add_open(draft, m, helper, o),
-        rule: o,
-        helper: helper_behind(helper, o.free, o.count),
-        entry: f.entry,
+        making: add_open(draft, f.making, f.helper, o),
+        helper: helper_behind(f.helper, o.free, o.count),
+        ..f
     }
 }
 

@@ -1,5 +1,5 @@
 // The book made of a text.
-ghost use Rattle.std.specs.Prelude.{◌≡◌, [], ℕ, length};
+ghost use Rattle.std.specs.Prelude.{◌≡◌, [], ℕ, length, Some};
 ghost use Rattle.meaning.specs.Told.{Answered};
 ghost use Rattle.book.specs.Format.{book_bytes};
 ghost use Rattle.book.specs.Making.{Made, Finished};
@@ -9,15 +9,14 @@ ghost use Rattle.lparse.specs.Reading.{Part, says};
 ghost use Rattle.lparse.specs.Collect.{text_in, text_of};
 ghost use Rattle.lparse.specs.Opened.{capped};
 ghost use Rattle.lparse.specs.Make.{counted, Readable, Complete};
-ghost use Rattle.lparse.specs.declared.importer.Laid.TheVariants.{Book as LaidBook};
 ghost use Rattle.lparse.specs.Import.{told_book, laid_of, import_of};
 
-use crate::answer::Imported;
+use crate::answer::Unimported;
 use crate::due::{Due, Role};
 use crate::form::{Forming, form};
-use crate::gather::{Collected, collect};
+use crate::gather::collect;
 use crate::rule::{counted_on, open_rule};
-use crate::step::{Step, take_word};
+use crate::step::take_word;
 use book::{BOOK_BYTES, Making, copy_front, finish_book};
 
 // The rules of the book, in the draft: the second pass over a text that was found fine, whose
@@ -37,14 +36,14 @@ fn make(text: &[u8], atoms: &[u32], draft: &mut [u8; BOOK_BYTES]) -> Forming
     let mut at = 0;
     loop {
         match take_word(text, at, due) {
-            Step::Goes(next, said, _, end) => {
-                f = form(atoms, draft, f, said, next);
-                due = next;
-                at = end;
+            Ok(Some(word)) => {
+                f = form(atoms, draft, f, word.said, word.next);
+                due = word.next;
+                at = word.end;
             }
-            Step::Format(_) => return f,
-            Step::Kind(_) => return f,
-            Step::Done => return f,
+            Ok(None) => return f,
+            // Never: the text was found fine.
+            Err(_) => return f,
         }
     }
 }
@@ -60,62 +59,48 @@ fn count_atoms(entry: bool, n: usize) -> usize
     n
 }
 
-// The book of the rules made, in the draft: its length, or that it passes the limits or the room.
-#[derive(Clone, Copy)]
-pub enum Laid {
-    Book(usize),
-    NoFit,
-}
-
-// Writes the book to the front of the draft, if it is within the limits and the room.
-fn lay_out(draft: &mut [u8; BOOK_BYTES], m: Making, atoms: usize, room: usize) -> Laid
+// Writes the book to the front of the draft, if it is within the limits and the room: its length.
+fn lay_out(draft: &mut [u8; BOOK_BYTES], m: Making, atoms: usize, room: usize) -> Option<usize>
     requires { (t : Text) × Made (made_rules t) m draft.old }
     ensures { (t : Text) → Made (made_rules t) m draft.old →
         atoms ≡ capped (made_book t).atoms → (result ≡ laid_of (made_book t) room)
-        × ((n : ℕ) → result ≡ LaidBook n → Finished (made_book t) n draft.new) }
+        × ((n : ℕ) → result ≡ Some n → Finished (made_book t) n draft.new) }
 {
     if !m.fits {
-        return Laid::NoFit;
+        return None;
     }
     if 255 < atoms {
-        return Laid::NoFit;
+        return None;
     }
     let n = finish_book(draft, m, atoms as u8);
     if room < n {
-        return Laid::NoFit;
+        return None;
     }
-    Laid::Book(n)
+    Some(n)
 }
 
 // The book of a text that was found fine, whose different atoms these are.
-fn import_fine(text: &[u8], atoms: &[u32], out: &mut [u8]) -> Imported
+fn import_fine(text: &[u8], atoms: &[u32], out: &mut [u8]) -> Result<usize, Unimported>
     requires { Readable text.now atoms.now }
     ensures { ◌≡◌ {A = Answered ℕ} (record { told = told_book result; buffer = out.new })
         (import_of text.now out.old) }
 {
     let mut draft = [0u8; BOOK_BYTES];
     let f = make(text, atoms, &mut draft);
-    let m = f.making;
     let count = count_atoms(f.entry, f.helper);
-    match lay_out(&mut draft, m, count, out.len()) {
-        Laid::NoFit => Imported::NoFit,
-        Laid::Book(n) => {
-            copy_front(&draft[0..n], out);
-            Imported::Book(n)
-        }
-    }
+    let Some(n) = lay_out(&mut draft, f.making, count, out.len()) else {
+        return Err(Unimported::NoFit);
+    };
+    copy_front(&draft[0..n], out);
+    Ok(n)
 }
 
 // Writes the book of the text to the front of the buffer, or says why not.
-pub fn import(text: &[u8], out: &mut [u8]) -> Imported
+pub fn import(text: &[u8], out: &mut [u8]) -> Result<usize, Unimported>
     ensures { ◌≡◌ {A = Answered ℕ} (record { told = told_book result; buffer = out.new })
         (import_of text.now out.old) }
 {
     let mut seen = [0u32; 255];
-    match collect(text, &mut seen) {
-        Collected::Atoms(n) => import_fine(text, &seen[0..n], out),
-        Collected::TooMany => Imported::NoFit,
-        Collected::Format(place) => Imported::Format(place),
-        Collected::Kind(place) => Imported::Kind(place),
-    }
+    let n = collect(text, &mut seen)?;
+    import_fine(text, &seen[0..n], out)
 }

@@ -11,14 +11,15 @@ mod free;
 mod gather;
 mod importer;
 mod named;
+mod nth;
 mod numbering;
 mod rule;
 mod step;
 mod word;
 
-pub use answer::Imported;
+pub use answer::Unimported;
 pub use free::free_head;
-pub use gather::{Collected, collect};
+pub use gather::collect;
 pub use importer::import;
-pub use named::{Name, Whose, atom_at, nth_name};
+pub use named::{atom_at, nth_name};
 pub use numbering::number_of;

@@ -8,13 +8,5 @@ use imported::TextAtom;
 pub fn number_of(seen: &[u32], a: TextAtom) -> usize
     ensures { result ≡ place_of seen.now a }
 {
-    let mut n = 0;
-    let mut i = 0;
-    while i < seen.len() {
-        if seen[i] < a.0 {
-            n += 1;
-        }
-        i += 1;
-    }
-    n
+    seen.iter().filter(|x| **x < a.0).count()
 }

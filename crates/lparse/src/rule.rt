@@ -19,46 +19,33 @@ pub struct Opened {
 }
 
 // The sum, told up to 256: no book has so many atoms or rules.
+#[tactic(auto, unfolding(crate::specs::Opened::capped, meaning::specs::Choice::ifb, meaning::specs::Choice::if_lt))]
 pub fn counted_on(count: usize, more: usize) -> usize
     ensures { result ≡ capped (count + more) }
 {
-    if 256 <= count {
-        return 256;
+    count.saturating_add(more).min(256)
+}
+
+// The array with this at the place, if there is room for it.
+fn stored<T: Copy>(array: [T; Colouring::ATOMS], at: usize, x: T) -> [T; Colouring::ATOMS]
+    ensures { result ≡ set array at x }
+{
+    let mut more = array;
+    if at < Colouring::ATOMS {
+        more[at] = x;
     }
-    if 256 <= more {
-        return 256;
-    }
-    if 256 < count + more {
-        return 256;
-    }
-    count + more
+    more
 }
 
 // The table with one atom more, if it has room for it.
-pub fn placed(table: [bool; Colouring::ATOMS], n: usize) -> [bool; 255]
+pub fn placed(table: [bool; Colouring::ATOMS], n: usize) -> [bool; Colouring::ATOMS]
     ensures { result ≡ set table n true }
 {
-    if 255 <= n {
-        return table;
-    }
-    let mut more = table;
-    more[n] = true;
-    more
-}
-
-// The heads with one at this place, if there is room for it.
-fn stored(heads: [u8; Colouring::ATOMS], at: usize, n: u8) -> [u8; 255]
-    ensures { result ≡ set heads at n }
-{
-    if 255 <= at {
-        return heads;
-    }
-    let mut more = heads;
-    more[at] = n;
-    more
+    stored(table, n, true)
 }
 
 // A rule without heads and without body.
+#[tactic(auto, unfolding(crate::specs::Opened::opening))]
 pub fn open_rule(free: bool) -> Opened
     ensures { result ≡ opening free }
 {
@@ -72,49 +59,34 @@ pub fn open_rule(free: bool) -> Opened
 }
 
 // One head more.
+#[tactic(auto, unfolding(crate::specs::Opened::head_more))]
 fn head_more(o: Opened, n: u8) -> Opened
     ensures { result ≡ head_more o n }
 {
-    let heads = o.heads;
-    let count = o.count;
-    let pos = o.pos;
-    let neg = o.neg;
     Opened {
-        free: o.free,
-        heads: stored(heads, count, n),
-        count: counted_on(count, 1),
-        pos,
-        neg,
+        heads: stored(o.heads, o.count, n),
+        count: counted_on(o.count, 1),
+        ..o
     }
 }
 
 // The open rule with the atom of number n. The head of a basic rule opens it.
+#[tactic(auto, unfolding(crate::specs::Opened::opened_by))]
 pub fn opened_by(o: Opened, n: usize, standing: Standing) -> Opened
     requires { n < 255 }
     ensures { result ≡ opened_by o n standing }
 {
-    let heads = o.heads;
-    let pos = o.pos;
-    let neg = o.neg;
     match standing {
         Standing::Head => head_more(open_rule(false), n as u8),
         Standing::Free => head_more(o, n as u8),
         Standing::Negative => Opened {
-            free: o.free,
-            heads,
-            count: o.count,
-            pos,
-            neg: placed(neg, n),
+            neg: placed(o.neg, n),
+            ..o
         },
         Standing::Positive => Opened {
-            free: o.free,
-            heads,
-            count: o.count,
-            pos: placed(pos, n),
-            neg,
+            pos: placed(o.pos, n),
+            ..o
         },
-        Standing::Table => o,
-        Standing::Plus => o,
-        Standing::Minus => o,
+        Standing::Table | Standing::Plus | Standing::Minus => o,
     }
 }

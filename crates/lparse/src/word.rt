@@ -11,56 +11,32 @@ pub enum Quote {
 }
 
 // Spaces and line ends part words.
+#[tactic(auto, unfolding(crate::specs::Words::parting, meaning::specs::Choice::ifb, meaning::specs::Choice::if_eq))]
 fn parts(x: u8) -> bool
     ensures { result ≡ parting x }
 {
-    if x == b'\n' {
-        return true;
-    }
-    if x == b' ' {
-        return true;
-    }
-    false
+    x == b'\n' || x == b' '
 }
 
 // The byte does not belong to the word any more: a line end, or a space outside quotes.
+#[tactic(auto, unfolding(crate::specs::Words::ends, crate::specs::Words::outside, meaning::specs::Choice::ifb, meaning::specs::Choice::if_eq))]
 fn ends_word(q: Quote, x: u8) -> bool
     ensures { result ≡ ends q x }
 {
-    if x == b'\n' {
-        return true;
-    }
-    if x != b' ' {
-        return false;
-    }
-    match q {
-        Quote::Outside => true,
-        Quote::Inside => false,
-        Quote::Behind => false,
-    }
+    x == b'\n' || x == b' ' && matches!(q, Quote::Outside)
 }
 
 // What the byte, which belongs to the word, leaves behind.
+#[tactic(auto, unfolding(crate::specs::Words::turned, meaning::specs::Choice::ifb, meaning::specs::Choice::if_eq))]
 fn turn(q: Quote, x: u8) -> Quote
     ensures { result ≡ turned q x }
 {
-    match q {
-        Quote::Outside => {
-            if x == b'"' {
-                return Quote::Inside;
-            }
-            Quote::Outside
-        }
-        Quote::Inside => {
-            if x == b'"' {
-                return Quote::Outside;
-            }
-            if x == b'\\' {
-                return Quote::Behind;
-            }
-            Quote::Inside
-        }
-        Quote::Behind => Quote::Inside,
+    match (q, x) {
+        (Quote::Outside, b'"') => Quote::Inside,
+        (Quote::Inside, b'"') => Quote::Outside,
+        (Quote::Inside, b'\\') => Quote::Behind,
+        (Quote::Behind, _) => Quote::Inside,
+        _ => q,
     }
 }
 
@@ -69,14 +45,8 @@ pub fn word_start(text: &[u8], at: usize) -> usize
     requires { at ≤ length text.now }
     ensures { (result ≡ start_of text.now at) × (result ≤ length text.now) }
 {
-    let mut i = at;
-    while i < text.len() {
-        if !parts(text[i]) {
-            return i;
-        }
-        i += 1;
-    }
-    i
+    let rest = &text[at..];
+    at + rest.iter().position(|x| !parts(*x)).unwrap_or(rest.len())
 }
 
 // Where the word that starts there ends.
@@ -85,14 +55,12 @@ pub fn word_end(text: &[u8], start: usize) -> usize
     ensures { (result ≡ end_of text.now start) × (result ≤ length text.now) }
 {
     let mut q = Quote::Outside;
-    let mut i = start;
-    while i < text.len() {
+    for i in start..text.len() {
         let x = text[i];
         if ends_word(q, x) {
             return i;
         }
         q = turn(q, x);
-        i += 1;
     }
-    i
+    text.len()
 }

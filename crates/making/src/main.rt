@@ -8,44 +8,25 @@ mod atoms;
 mod likeness;
 mod remarks;
 
-ghost use Rattle.book.specs.Format.{ReadAs};
-
 use atoms::show_atoms;
-use book::{Read, Shape, read_book};
+use book::ReadBook;
 use calling::open_words;
 use remarks::show_remarks;
-use saving::{is_replacing, save_book};
+use saving::{is_replacing, is_right, save_book};
 use std::rt::{Env, Files};
-use system::arg_count;
 use talk::{BOOK_ROOM, NAMES_ROOM, complain_of_call};
 
 // The arguments that must be there, the program's own name among them.
 const MUST: usize = 3;
 
-// Whether there are as many arguments as there may be.
-fn is_right(rt: &impl Env) -> bool {
-    let count = arg_count(rt);
-    if is_replacing(rt, MUST) {
-        return count == MUST + 1;
-    }
-    count == MUST
-}
-
-// Writes what stands in the book. Where the text lists its atoms nothing is remarked.
-fn show_all(rt: &impl Print, book: &[u8], shape: Shape, names: &[u8], is_listed: bool)
-    requires { ReadAs book.now shape }
-{
-    show_atoms(rt, book, shape, names);
-    if !is_listed {
-        show_remarks(rt, book, shape, names);
-    }
-}
-
-// Writes what stands in the book that was made.
+// Writes what stands in the book that was made. Where the text lists its atoms nothing is remarked.
 fn show_made(rt: &impl Print, book: &[u8], names: &[u8], is_listed: bool) {
-    match read_book(book) {
-        Read::Refused(_) => {}
-        Read::Good(shape) => show_all(rt, book, shape, names, is_listed),
+    let Ok(book) = ReadBook::read(book) else {
+        return;
+    };
+    show_atoms(rt, &book, names);
+    if !is_listed {
+        show_remarks(rt, &book, names);
     }
 }
 
@@ -53,19 +34,16 @@ fn show_made(rt: &impl Print, book: &[u8], names: &[u8], is_listed: bool) {
 fn make_argument(rt: &(impl Env + Files + Print)) {
     let mut book = [0u8; BOOK_ROOM];
     let mut names = [0u8; NAMES_ROOM];
-    let opened = open_words(rt, 1, b"", &mut book, &mut names);
-    if !opened.good {
+    let Some(opened) = open_words(rt, 1, b"", &mut book, &mut names) else {
         return;
-    }
-    let n = opened.count;
-    let m = opened.names;
-    if save_book(rt, 2, &book[..n], is_replacing(rt, MUST)) {
-        show_made(rt, &book[..n], &names[..m], opened.is_listed);
+    };
+    if save_book(rt, 2, opened.book, is_replacing(rt, MUST)) {
+        show_made(rt, opened.book, opened.names, opened.is_listed);
     }
 }
 
 fn main(rt: HostRuntime) {
-    if !is_right(&rt) {
+    if !is_right(&rt, MUST) {
         complain_of_call(&rt, b"making WORDSFILE BOOKFILE [--replace]");
         return;
     }

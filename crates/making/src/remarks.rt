@@ -1,41 +1,35 @@
 // What may be a slip of the pen: an atom that no rule has as head, and two names that are much alike.
-ghost use Rattle.std.specs.Prelude.{◌≤◌};
-ghost use Rattle.book.specs.Format.{ReadAs};
-
-use crate::atoms::count_rules;
 use crate::likeness::{Likeness, compare_names};
-use book::Shape;
-use talk::{name_of, print, put_number, put_subject, put_text};
+use book::ReadBook;
+use meaning::AtomNo;
+use talk::{Line, count_rules, name_of, put_subject};
 
-// Writes that no rule has the atom as head, where it is so.
-fn show_bare(rt: &impl Print, book: &[u8], shape: Shape, a: u8, names: &[u8])
-    requires { ReadAs book.now shape }
-{
-    if 0 < count_rules(book, shape, a) {
-        return;
-    }
-    let mut line = [0u8; 512];
-    let held = put_text(b"remark: ", &mut line, 0);
-    let held = put_subject(names, a, &mut line, held);
-    let held = put_text(b" has no rule: it is in no reading\n", &mut line, held);
-    print(rt, &line[..held]);
+// Writes that no rule has the atom as head.
+fn show_bare(rt: &impl Print, a: u8, names: &[u8]) {
+    let mut room = [0u8; 512];
+    let mut line = Line::new(&mut room);
+    line.text(b"remark: ");
+    put_subject(names, a, &mut line);
+    line.text(b" has no rule: it is in no reading\n");
+    line.print(rt);
 }
 
 // Writes that two names differ only in what `by` says.
 fn show_pair(rt: &impl Print, a: u8, b: u8, names: &[u8], by: &[u8]) {
-    let mut line = [0u8; 1024];
-    let held = put_text(b"remark: atoms ", &mut line, 0);
-    let held = put_number(a as u64, &mut line, held);
-    let held = put_text(b" ", &mut line, held);
-    let held = put_text(name_of(names, a), &mut line, held);
-    let held = put_text(b" and ", &mut line, held);
-    let held = put_number(b as u64, &mut line, held);
-    let held = put_text(b" ", &mut line, held);
-    let held = put_text(name_of(names, b), &mut line, held);
-    let held = put_text(b" differ only in ", &mut line, held);
-    let held = put_text(by, &mut line, held);
-    let held = put_text(b"\n", &mut line, held);
-    print(rt, &line[..held]);
+    let mut room = [0u8; 1024];
+    let mut line = Line::new(&mut room);
+    line.text(b"remark: atoms ");
+    line.number(a as u64);
+    line.text(b" ");
+    line.text(name_of(names, a));
+    line.text(b" and ");
+    line.number(b as u64);
+    line.text(b" ");
+    line.text(name_of(names, b));
+    line.text(b" differ only in ");
+    line.text(by);
+    line.text(b"\n");
+    line.print(rt);
 }
 
 // Writes that the names of two atoms are much alike, where they are.
@@ -47,34 +41,16 @@ fn show_likeness(rt: &impl Print, a: u8, b: u8, names: &[u8]) {
     }
 }
 
-// Writes with which later names the name of an atom is much alike.
-fn show_alike(rt: &impl Print, a: u8, atoms: u8, names: &[u8]) {
-    let mut b = a;
-    while b < atoms {
-        if a < b {
+// Writes the remarks: first on each atom without a rule, then on each two names that are much alike.
+pub fn show_remarks(rt: &impl Print, book: &ReadBook, names: &[u8]) {
+    for a in 0..book.shape.atoms {
+        if count_rules(book, AtomNo(a)) == 0 {
+            show_bare(rt, a, names);
+        }
+    }
+    for a in 0..book.shape.atoms {
+        for b in a + 1..book.shape.atoms {
             show_likeness(rt, a, b, names);
         }
-        b += 1;
-    }
-}
-
-// Writes the remarks: first on each atom without a rule, then on each two names that are much alike.
-pub fn show_remarks(rt: &impl Print, book: &[u8], shape: Shape, names: &[u8])
-    requires { ReadAs book.now shape }
-{
-    let mut a: u8 = 0;
-    while a < shape.atoms {
-        show_bare(rt, book, shape, a, names);
-        a += 1;
-    }
-    show_all_alike(rt, shape.atoms, names);
-}
-
-// Writes which names are much alike.
-fn show_all_alike(rt: &impl Print, atoms: u8, names: &[u8]) {
-    let mut a: u8 = 0;
-    while a < atoms {
-        show_alike(rt, a, atoms, names);
-        a += 1;
     }
 }

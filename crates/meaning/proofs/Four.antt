@@ -181,7 +181,7 @@ over-four : (w : List ℕ) → length w ≡ 4 → (n : ℕ) → 4 ≤ n → get_
 over-four w e n l = let z = get_d-out w n (omega arith) in rw z (omega arith)
 
 -- not some is every not
-not-not : (t : Bool) → not (not t) ≡ t
+pub not-not : (t : Bool) → not (not t) ≡ t
 not-not true = refl
 not-not false = refl
 
@@ -194,7 +194,7 @@ over : (p q : Bool) → not (p || q) ≡ (not p && not q)
 over true q = refl
 over false q = refl
 
-not_some : (n : ℕ) (s t : Set ℕ) → not (some_below n (less s t)) ≡ every_below n (implied s t)
+pub not_some : (n : ℕ) (s t : Set ℕ) → not (some_below n (less s t)) ≡ every_below n (implied s t)
 unfolding some_below every_below
 not_some zero s t = refl
 not_some (suc n) s t = over (s n && not (t n)) (some_below n (less s t)) ∙ ap₂ ◌&&◌ (turn (s n) (t n)) (not_some n s t)

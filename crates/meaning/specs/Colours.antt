@@ -1,6 +1,7 @@
 -- Colourings and their closing. Document 01, "Colours and closing".
 --
 --   Pair             "A colouring is a pair of sets of rules, on and off"
+--   side_of x        the side that the code names
 --   side x c, put x l c   one of the two sets; the pair with the rules of a list added to it
 --   start            "the start has nothing in either"
 --   heads b s        the atoms that are the head of a rule in s
@@ -18,6 +19,8 @@
 -- All of it speaks of the rules of the book only.
 use Rattle.std.specs.Prelude.{◌≡◌, Bool, true, false, not, ◌&&◌, ◌||◌, List, ◌⊎◌}
 use Rattle.meaning.specs.declared.RuleNo.{RuleNo}
+use Rattle.meaning.specs.declared.colouring.Side.TheVariants.{On, Off}
+use Rattle.meaning.specs.declared.colouring.Side as code
 use Rattle.meaning.specs.Sets.{◌∈◌, ◌∉◌, every, some, Smallest}
 use Rattle.meaning.specs.Books.{Atoms, Rules, same_atom, among, Book, rule, InBook, every_rule, some_rule}
 use Rattle.meaning.specs.AnswerSet.{generating}
@@ -29,6 +32,10 @@ pub record Pair : Type 0 where
 pub data Side : Type 0 where
   on_side : Side
   off_side : Side
+
+abbrev pub side_of : code.Side → Side
+side_of On = on_side
+side_of Off = off_side
 
 unfoldable pub side : Side → Pair → Rules
 side on_side c = c.on

@@ -9,7 +9,7 @@
 --   stamp_from        the list of levels with that of the rules in s replaced
 --   nothing          the empty tables
 --   coloured on off  the tables of two sets of rules alone, with no marks and no levels
---   colour_on r c, colour_off r c   the colouring with rule r put in on, in off
+--   colour_on r c, colour_off r c, colour x r c   the colouring with rule r put in on, in off, on side x
 --   chosen x r c     the choice of a walk: rule r put on one side, one level deeper. Document 02, request 8: "a chosen rule has the level of
 --                    its choice"
 --   level_of c r      the level at which rule r got its colour, 0 before it has one
@@ -73,6 +73,10 @@ colour_on r c = record { on = set c.on r.0 true; off = c.off; marks = c.marks; l
 
 abbrev pub colour_off : RuleNo → Tables → Tables
 colour_off r c = record { on = c.on; off = set c.off r.0 true; marks = c.marks; level = c.level; levels = c.levels }
+
+abbrev pub colour : Side → RuleNo → Tables → Tables
+colour on_side r c = colour_on r c
+colour off_side r c = colour_off r c
 
 -- one choice more, of which r has the level
 abbrev deeper : RuleNo → Tables → Tables

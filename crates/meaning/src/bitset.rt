@@ -1,11 +1,12 @@
-// Sets of 256 bits in four words, by value.
+// Sets of 256 bits in four words.
 //
-// What each operation gives is said of the set that the words stand for, a test of all numbers.
-// Every word stands at a fixed place: a set by value that is asked at a variable place goes through
-// memory. What needs such a place is asked of lent words, in the file lent.
-ghost use Rattle.std.specs.Prelude.{◌≡◌, ◌<◌};
+// What each operation gives is said of the set that the words stand for, a test of all numbers. A set
+// that is asked at a place that varies is lent; all else takes it by value.
+ghost use Rattle.std.specs.Prelude.{◌≡◌, true, ◌*◌, ◌<◌, not, set};
 ghost use Rattle.meaning.specs.Sets.{every_below, some_below};
-ghost use Rattle.meaning.specs.Bits.{none, below, plus, less, both, implied, bit, members, Lowers, OnesBelow};
+ghost use Rattle.meaning.specs.Books.{rule_no};
+ghost use Rattle.meaning.specs.Bits.{none, below, plus, less, both, implied, bit, members, listed, Lowers, NextIn, OnesBelow};
+ghost use Rattle.meaning.specs.Written.{of};
 
 // Bit i % 64 of word i / 64 says whether i is in the set.
 #[derive(Clone, Copy)]
@@ -31,6 +32,7 @@ impl Bits {
         }
     }
 
+    // Tried for the three as one closure at each word, and the proof didn't close.
     pub fn union(self, other: Bits) -> Bits
         ensures { members result.w ≡ plus (members self.w) (members other.w) }
     {
@@ -66,18 +68,72 @@ impl Bits {
         ensures { result ≡
             every_below 256 (implied (members self.w) (members other.w)) }
     {
-        let a = self.w;
-        let b = other.w;
-        (a[0] & !b[0]) | (a[1] & !b[1]) | (a[2] & !b[2]) | (a[3] & !b[3]) == 0
+        self.difference(other).is_empty()
     }
 
     // Some member is a member of the other.
     pub fn meets(self, other: Bits) -> bool
         ensures { result ≡ some_below 256 (both (members self.w) (members other.w)) }
     {
+        !self.intersection(other).is_empty()
+    }
+
+    // No number is a member.
+    fn is_empty(self) -> bool
+        ensures { not result ≡ some_below 256 (members self.w) }
+    {
         let a = self.w;
-        let b = other.w;
-        (a[0] & b[0]) | (a[1] & b[1]) | (a[2] & b[2]) | (a[3] & b[3]) != 0
+        a[0] | a[1] | a[2] | a[3] == 0
+    }
+
+    pub fn has(&self, i: u8) -> bool
+        ensures { result ≡ of (listed self.now.w) (rule_no i) }
+    {
+        let at = i as usize;
+        (self.w[at / 64] >> (at % 64)) % 2 == 1
+    }
+
+    pub fn put(&mut self, i: u8)
+        ensures { listed self.new.w ≡ set (listed self.old.w) i true }
+    {
+        let at = i as usize;
+        self.w[at / 64] |= 1u64 << (at % 64);
+    }
+
+    // Puts every member of the other set in.
+    pub fn join(&mut self, other: Bits)
+        ensures { members self.new.w ≡ plus (members self.old.w) (members other.w) }
+    {
+        *self = self.union(other);
+    }
+
+    // The lowest member that is at least `from`, or 256. The loop over a set is
+    // `let mut r = set.next_in(0); while r < 256 { .. r = set.next_in(r + 1); }`.
+    pub fn next_in(&self, from: usize) -> usize
+        ensures { NextIn (members self.now.w) from result }
+    {
+        if 256 <= from {
+            return 256;
+        }
+        let k = from / 64;
+        let x = self.w[k] >> (from % 64);
+        if x != 0 {
+            return from + trailing(x) as usize;
+        }
+        self.next_word(k + 1)
+    }
+
+    // The lowest member of the words from word `first` on, or 256.
+    fn next_word(&self, first: usize) -> usize
+        ensures { NextIn (members self.now.w) (first * 64) result }
+    {
+        for k in first..4 {
+            let x = self.w[k];
+            if x != 0 {
+                return k * 64 + trailing(x) as usize;
+            }
+        }
+        256
     }
 }
 
@@ -96,7 +152,7 @@ fn ones(n: u8, from: u8) -> u64
 }
 
 // The lowest bit of a word that has one.
-pub fn trailing(x: u64) -> u8
+fn trailing(x: u64) -> u8
     requires { 0 < x }
     ensures { (result < 64) × Lowers (bit x) result }
 {

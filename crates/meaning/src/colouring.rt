@@ -5,12 +5,18 @@
 // in specs/Written.
 ghost use Rattle.std.specs.Prelude.{◌≡◌, true, ◌<◌, set};
 ghost use Rattle.meaning.specs.Bits.{listed};
-ghost use Rattle.meaning.specs.Colours.{on_side, off_side};
-ghost use Rattle.meaning.specs.Written.{written, nothing, colour_on, colour_off, chosen};
+ghost use Rattle.meaning.specs.Colours.{side_of};
+ghost use Rattle.meaning.specs.Written.{written, nothing, colour, chosen};
 
 use crate::RuleNo;
 use crate::bitset::Bits;
-use crate::lent::put;
+
+// One of a colouring's two sets.
+#[derive(Clone, Copy)]
+pub enum Side {
+    On,
+    Off,
+}
 
 #[derive(Clone, Copy)]
 pub struct Colouring {
@@ -42,56 +48,25 @@ impl Colouring {
         }
     }
 
-    // The colouring with the rule put in on.
-    pub fn with_on(mut self, r: RuleNo) -> Colouring
-        ensures { written result ≡ colour_on r (written self) }
+    // The colouring with the rule put in on that side.
+    pub fn with(mut self, side: Side, r: RuleNo) -> Colouring
+        ensures { written result ≡ colour (side_of side) r (written self) }
     {
-        let on = with_rule(self.on, r);
-        self.on = on;
+        match side {
+            Side::On => self.on.put(r.0),
+            Side::Off => self.off.put(r.0),
+        }
         self
     }
 
-    // The colouring with the rule put in off.
-    pub fn with_off(mut self, r: RuleNo) -> Colouring
-        ensures { written result ≡ colour_off r (written self) }
-    {
-        let off = with_rule(self.off, r);
-        self.off = off;
-        self
-    }
-
-    // The colouring with the rule put in on by choice, one level deeper.
-    pub fn choose_on(mut self, r: RuleNo) -> Colouring
+    // The colouring with the rule put in on that side by choice, one level deeper.
+    pub fn choose(self, side: Side, r: RuleNo) -> Colouring
         requires { (r.0 < 255) × (self.level < 255) }
-        ensures { written result ≡ chosen on_side r (written self) }
+        ensures { written result ≡ chosen (side_of side) r (written self) }
     {
-        let chosen = with_rule(self.on, r);
-        self.on = chosen;
-        let at = r.0 as usize;
-        self.level += 1;
-        self.levels[at] = self.level;
-        self
+        let mut deeper = self.with(side, r);
+        deeper.level = self.level + 1;
+        deeper.levels[r.0 as usize] = deeper.level;
+        deeper
     }
-
-    // The colouring with the rule put in off by choice, one level deeper.
-    pub fn choose_off(mut self, r: RuleNo) -> Colouring
-        requires { (r.0 < 255) × (self.level < 255) }
-        ensures { written result ≡ chosen off_side r (written self) }
-    {
-        let chosen = with_rule(self.off, r);
-        self.off = chosen;
-        let at = r.0 as usize;
-        self.level += 1;
-        self.levels[at] = self.level;
-        self
-    }
-}
-
-// The set with the rule put in.
-fn with_rule(from: Bits, r: RuleNo) -> Bits
-    ensures { listed result.w ≡ set (listed from.w) r.0 true }
-{
-    let mut w = from.w;
-    put(&mut w, r.0);
-    Bits { w }
 }

@@ -7,15 +7,13 @@
 mod bitset;
 mod colouring;
 mod kind;
-mod lent;
 
 pub use bitset::Bits;
-pub use colouring::Colouring;
+pub use colouring::{Colouring, Side};
 pub use kind::{CLEARING_MARK, Claim, Kind, Marked, NAMING_MARK, NO_READING_MARK};
-pub use lent::{has, join, next_in, put, whole};
 
 // The number of an atom, one byte in a book.
-#[derive(Clone, Copy)]
+#[derive(Clone, Copy, PartialEq, Eq)]
 pub struct AtomNo(pub u8);
 
 // The number of a rule, one byte in a paper. It is never given where an atom is due.

@@ -1,23 +1,22 @@
 -- The search of src/choose.rt for a rule to choose: it goes over the rules without a colour by the next one, and what is kept is that no
 -- rule before is supported. And what it puts off where there is none: the off rules with all rules that are not on put in are the off
 -- rules with the rest put in.
-use mathlib.Core.Path.{◌≡◌, refl, sym, ◌∙◌, ap, ap₂, subst}
+use mathlib.Core.Path.{◌≡◌, refl, sym, ◌∙◌, ap, ap₂}
 use mathlib.Core.Logic.{⊎_elim}
 use mathlib.Core.Bool.{Bool, true, false, not, ◌&&◌, ◌||◌, or-false}
 use mathlib.Core.List.{List}
-use Prim.Native.Nat.{ℕ, ◌+◌, ◌≤◌, ◌<◌}
-use native.Mathlib.Decide.{dec_lt, ℕ_discrete}
+use Prim.Native.Nat.{ℕ, ◌≤◌, ◌<◌}
 use native.Mathlib.Omega.{arith}
 use lib.Dec.{ltb}
 use borrow.Author.Tests.{lt-ltb, le-ltb, ltb-true}
 use Rattle.meaning.specs.declared.RuleNo.{RuleNo}
 use Rattle.meaning.specs.Sets.{Set, ◌∈◌, ◌∉◌, every}
 use Rattle.meaning.specs.Books.{Rules, rule_no, Book, count, rule}
-use Rattle.meaning.specs.Bits.{below, plus, less, members, listed, NextIn}
+use Rattle.meaning.specs.Bits.{below, plus, less, members, listed}
 use Rattle.meaning.specs.Colours.{Pair, heads, uncoloured}
 use Rattle.meaning.specs.Written.{of, added, lent}
 use Rattle.meaning.specs.Lowest.{none, one, lowest_from}
-use Rattle.meaning.proofs.Tests.{both, and_left, not_first, not-second, decided, true-and-false}
+use Rattle.meaning.proofs.Tests.{both, and_left, not_first, not-second, decided}
 use Rattle.meaning.proofs.Rules.{in-book-or-not}
 use Rattle.meaning.proofs.Lowest.{none_from, one_from}
 use Rattle.meaning.proofs.Written.{length-added, of-added, of-added-outside}
@@ -36,26 +35,6 @@ module _ (b : Book) (free on : List ℕ) where
     pub bound : r ≤ 256
     pub within : r < 256 → r ∈ members free
     pub none_before : (q : RuleNo) → q.0 < r → q.0 ∈ members free → q ∉ held
-
-  pub come-start : (r : ℕ) → NextIn (members free) 0 r → Come r
-  come-start r p = record {
-    bound = p.bound;
-    within = λ l. (p.within l).1;
-    none_before = λ q h m. true-and-false m (p.passed q.0 (omega arith) h);
-  }
-
-  pub come-next : (r : ℕ) → Come r → {t : Bool} → t ≡ held (rule_no r) → t ≡ false → (m : ℕ) → NextIn (members free) (r + 1) m → Come m
-  come-next r k z w m p = record {
-    bound = p.bound;
-    within = λ l. (p.within l).1;
-    none_before = λ q g l. elim (dec_lt q.0 r) [
-      | yes i ↦ k.none_before q i l
-      | no i ↦ elim (ℕ_discrete q.0 r) [
-        | yes j ↦ let u : q ≡ rule_no r = λ x. record { 0 = j x } in subst (λ (x : RuleNo). x ∉ held) (sym u) (sym z ∙ w)
-        | no j ↦ true-and-false l (p.passed q.0 (omega arith) g)
-      ]
-    ];
-  }
 
   -- ---- among those of the first n rules that have no colour
 

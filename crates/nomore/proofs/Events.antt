@@ -9,7 +9,7 @@ use Rattle.meaning.specs.declared.RuleNo.{RuleNo}
 use Rattle.meaning.specs.Sets.{◌∈◌}
 use Rattle.meaning.specs.Books.{Book, InBook, count}
 use Rattle.meaning.specs.Colours.{Side, on_side, off_side, uncoloured}
-use Rattle.meaning.specs.Written.{Tables, pair}
+use Rattle.meaning.specs.Written.{Tables, colour, pair}
 use Rattle.meaning.specs.Lowest.{Pick, none, one, lowest, clashed}
 use Rattle.meaning.specs.Propagation.{propagate}
 use Rattle.meaning.proofs.Tests.{and_left}
@@ -18,9 +18,10 @@ use Rattle.meaning.proofs.Lowest.{lowest-one}
 use Rattle.meaning.proofs.Propagate.{propagate-sized}
 use Rattle.closing.specs.Left.{left}
 use Rattle.closing.proofs.Left.{left-count}
+use Rattle.closing.proofs.Propagating.{sized-colour}
 use Rattle.walk.specs.Events.{Event, clash, fork, quiet, reading}
 use Rattle.nomore.specs.Own.{supported, rest_off, tested, test_of, own_after, own_after_propagating, own_in, own_from}
-use Rattle.nomore.proofs.Node.{colour, sized-colour, left-propagate, left-coloured}
+use Rattle.nomore.proofs.Node.{left-propagate, left-coloured}
 
 -- what comes after closing without support needs the walk below only where it goes on
 after_same : (b : Book) (d : Tables) (t p : Pick) (f g : Tables → List Event)

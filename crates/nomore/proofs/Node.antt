@@ -8,11 +8,11 @@ use Rattle.meaning.specs.declared.RuleNo.{RuleNo}
 use Rattle.meaning.specs.Sets.{◌∈◌}
 use Rattle.meaning.specs.Books.{Book, count, InBook}
 use Rattle.meaning.specs.Colours.{Side, on_side, off_side, Within, clashing, Consistent, uncoloured, Total}
-use Rattle.meaning.specs.Written.{Tables, of, colour_on, colour_off, chosen, pair}
+use Rattle.meaning.specs.Written.{Tables, of, colour, chosen, pair}
 use Rattle.meaning.specs.Propagation.{Propagation, propagate}
 use Rattle.meaning.proofs.Rules.{within_both, consistent-clashing}
 use Rattle.meaning.proofs.RulesIn.{rules-more}
-use Rattle.meaning.proofs.Written.{length-added, of-added, Sized, sized_on, sized-off}
+use Rattle.meaning.proofs.Written.{length-added, of-added, Sized}
 use Rattle.meaning.proofs.Propagation.{propagation-same}
 use Rattle.meaning.proofs.Propagate.{propagate-is, propagated-propagate}
 use Rattle.closing.specs.Left.{left}
@@ -21,14 +21,6 @@ use Rattle.nomore.specs.Own.{rest_off}
 use Rattle.nomore.proofs.Grounded.{rested, rests-propagated}
 
 -- ---- a rule coloured by choice, on one side or the other
-
-abbrev pub colour : Side → RuleNo → Tables → Tables
-colour on_side r d = colour_on r d
-colour off_side r d = colour_off r d
-
-pub sized-colour : (x : Side) (r : RuleNo) {d : Tables} → Sized d → Sized (colour x r d)
-sized-colour on_side r s = sized_on r s
-sized-colour off_side r s = sized-off r s
 
 -- but for the levels it is the choice of the fixed walk
 pub pair-colour : (x : Side) (r : RuleNo) (d : Tables) → pair (colour x r d) ≡ pair (chosen x r d)

@@ -17,7 +17,7 @@ use Rattle.meaning.specs.Sets.{◌∈◌, ◌∉◌}
 use Rattle.meaning.specs.Books.{Atoms, Book, InBook, count}
 use Rattle.meaning.specs.AnswerSet.{generating}
 use Rattle.meaning.specs.Colours.{Pair, Side, on_side, off_side, side, Within, colouring_of}
-use Rattle.meaning.specs.Written.{Tables, of, nothing, pair}
+use Rattle.meaning.specs.Written.{Tables, of, nothing, colour, pair}
 use Rattle.meaning.specs.Lowest.{none, one, clashed}
 use Rattle.meaning.specs.Propagation.{Propagation, propagate}
 use Rattle.meaning.proofs.Tests.{decided, true-and-false}
@@ -34,7 +34,7 @@ use Rattle.walk.proofs.Readings.{readings-append, readings-all}
 use Rattle.nomore.specs.Own.{supported, rest_off, own_from, own_events, Apart, no_more, differs, SameSets}
 use Rattle.nomore.proofs.Grounded.{Grounded, rested, grounded-none, grounded-propagation, grounded-choice, leaf-sound}
 use Rattle.nomore.proofs.Grounded.{propagation-keeps-answers, propagation-no-clash, leaf-heads, leaf-test}
-use Rattle.nomore.proofs.Node.{colour, pair-colour, test-is}
+use Rattle.nomore.proofs.Node.{pair-colour, test-is}
 use Rattle.nomore.proofs.Apart.{apart-append, at_most, ordered-apart}
 use Rattle.nomore.proofs.Events.{Propagates, Forks, Leaf, fork-in-book, fork-supported, fork-fewer}
 use Rattle.nomore.proofs.Events.{Owns, at_clash, at_failing, at-reading, at_fork, owns}

@@ -5,11 +5,12 @@ use mathlib.Core.Bool.{Bool}
 use mathlib.Core.List.{List, [], ◌∷◌}
 use Prim.Native.Nat.{ℕ, ◌≤◌, ◌<◌}
 use native.Mathlib.Omega.{arith}
+use Rattle.std.specs.Prelude.{Option}
 use Rattle.meaning.specs.declared.RuleNo.{RuleNo}
 use Rattle.meaning.specs.Books.{Book, count, InBook}
 use Rattle.meaning.specs.Bits.{none as none_in, below, plus, less, members, listed}
 use Rattle.meaning.specs.Colours.{Pair, Side, on_side, off_side}
-use Rattle.meaning.specs.Written.{Tables, nothing, coloured, pair, lent}
+use Rattle.meaning.specs.Written.{Tables, nothing, coloured, colour, pair, lent}
 use Rattle.meaning.specs.Lowest.{Pick, none, one, lowest_from, lowest, in_both, clashed}
 use Rattle.meaning.specs.Propagation.{Propagated, propagate}
 use Rattle.meaning.proofs.Written.{Sized, sized_on, sized-off}
@@ -18,24 +19,26 @@ use Rattle.meaning.proofs.Lowest.{lowest-one}
 use Rattle.meaning.proofs.Propagate.{propagate-is, propagate-rest}
 use Rattle.book.specs.declared.reader.Shape.{Shape}
 use Rattle.book.specs.Format.{book_in, ReadAs}
+use Rattle.book.specs.ReadBook.{the_book}
+use Rattle.book.specs.declared.read.ReadBook.{ReadBook}
 use Rattle.book.proofs.Places.{shape-count}
 use Rattle.closing.specs.Left.{left}
 use Rattle.closing.specs.Picked.{picked}
 use Rattle.closing.specs.Taken.{puts}
 use Rattle.closing.specs.declared.choice.Choice.{Choice}
 use Rattle.closing.specs.declared.choice.Choice.TheVariants.{Nothing, On, Off}
-use Rattle.closing.specs.declared.clash.Picked.{Picked}
+use Rattle.closing.proofs.Good.{good-book, good-few}
 use Rattle.closing.proofs.Searches.{lowest-in}
 use Rattle.closing.proofs.Propagating.{sized-coloured}
 use Rattle.walk.specs.Events.{Event, clash, fork, quiet, reading}
 use Rattle.walk.specs.Readings.{reading_of}
-use Rattle.walk.specs.Run.{Wanted, State, counted, clashed_at, halting, reading_met, run}
+use Rattle.walk.specs.declared.wanted.Wanted.{Wanted}
+use Rattle.walk.specs.Run.{State, counted, clashed_at, halting, reading_met, run}
 use Rattle.walk.specs.declared.tally.Halt.TheVariants.{Going, Limit}
 use Rattle.walk.specs.declared.tally.Tally.{Tally}
 use Rattle.walk.proofs.Run.{run-ended}
 use Rattle.walk.proofs.Steps.{way-stops, way-clash, way-reading, way-fork, way-quiet}
 use Rattle.nomore.specs.Own.{supported, rest_off, tested, test_of, own_after, own_in, own_from, own_events}
-use Rattle.nomore.proofs.Node.{colour}
 use Rattle.nomore.proofs.Choosing.{rest-listed}
 use Rattle.nomore.proofs.Events.{Propagates, Forks, Leaf, own-clash, own-leaf, own-fork, fork-falls}
 
@@ -70,11 +73,11 @@ module _ (b : Book) (fits : count b ≤ 255) (k : Choice) (on off : List ℕ) wh
 -- ---- what closing without support and the search for a rule say
 
 module _ (s : List ℕ) (h : Shape) (e : ReadAs s h) where
-  pub lowest-told : (on off : List Bool) {v w : Picked} → picked v ≡ lowest_from 0 h.rules (supported (book_in s) (lent on off)) → v ≡ w
+  pub lowest-told : (on off : List Bool) {v w : Option RuleNo} → picked v ≡ lowest_from 0 h.rules (supported (book_in s) (lent on off)) → v ≡ w
       → lowest (book_in s) (supported (book_in s) (lent on off)) ≡ picked w
   lowest-told on off f g = sym (lowest-in (book_in s) (shape-count s h e) _ f) ∙ ap picked g
 
-  pub grown-clash : (on off : List Bool) (v : Picked) → picked v ≡ lowest_from 0 h.rules (in_both (lent on off))
+  pub grown-clash : (on off : List Bool) (v : Option RuleNo) → picked v ≡ lowest_from 0 h.rules (in_both (lent on off))
       → picked v ≡ clashed (book_in s) (pair (coloured on off))
   unfolding clashed
   grown-clash on off v f = lowest-in (book_in s) (shape-count s h e) _ f
@@ -85,8 +88,20 @@ module _ (s : List ℕ) (h : Shape) (e : ReadAs s h) where
   unfolding rest_off
   rest-coloured n on off w f = ap (coloured (listed on)) (rest-listed (book_in s) (shape-count s h e) (omega (arith, shape-count s h e)) w on off f)
 
-pub clash-told : (b : Book) (c : Pair) {v w : Picked} → picked v ≡ clashed b c → v ≡ w → clashed b c ≡ picked w
+pub clash-told : (b : Book) (c : Pair) {v w : Option RuleNo} → picked v ≡ clashed b c → v ≡ w → clashed b c ≡ picked w
 clash-told b c f g = sym f ∙ ap picked g
+
+-- the ways after closing without support, as the code is told of them
+pub propagates-told : (b : ReadBook) (k : Choice) (on off : List ℕ) {d : Tables} → d ≡ propagate (the_book b) (puts k (coloured (listed on) (listed off)))
+    → Propagates (the_book b) (puts k (coloured (listed on) (listed off))) d
+propagates-told b k on off e = record { few = good-few (good-book b); sized = sized-puts k on off; propagated = e }
+
+pub leaf-told : {b : Book} {c d : Tables} → Propagates b c d → clashed b (pair d) ≡ none → lowest b (supported b (pair d)) ≡ none → Leaf b c d
+leaf-told p t q = record { propagates = p; calm = t; no-choice = q }
+
+pub forks-told : {b : Book} {c d : Tables} {r : RuleNo} → Propagates b c d → clashed b (pair d) ≡ none → lowest b (supported b (pair d)) ≡ one r
+    → Forks b c d r
+forks-told p t q = record { propagates = p; calm = t; choice = q }
 
 -- each side of a fork is less far from its end
 pub side-falls : {b : Book} {c d : Tables} {r : RuleNo} {n : ℕ} → Forks b c d r → left b c ≡ n → (x : Side) → left b (colour x r d) < n

@@ -6,50 +6,38 @@ ghost use Rattle.meaning.specs.Colours.{heads};
 ghost use Rattle.meaning.specs.Bits.{below, plus, less, members, listed};
 ghost use Rattle.meaning.specs.Written.{of, lent};
 ghost use Rattle.meaning.specs.Lowest.{lowest_from};
-ghost use Rattle.book.specs.Format.{book_in, ReadAs};
-ghost use Rattle.book.specs.RuleRows.{RuleRows};
+ghost use Rattle.book.specs.ReadBook.{the_book};
 ghost use Rattle.closing.specs.Picked.{picked};
 ghost use Rattle.nomore.specs.Own.{supported};
 
-use book::{Shape, every_headed, positives};
-use closing::Picked;
-use meaning::{Bits, RuleNo, next_in};
+use book::RowedBook;
+use meaning::{Bits, RuleNo};
 
 // Every positive atom of the rule is the head of a rule of the set.
-fn is_supported(book: &[u8], shape: Shape, rows: &[u64; 3072], r: RuleNo, on: &[u64; 4]) -> bool
-    requires { ReadAs book.now shape × RuleRows (book_in book.now) rows.now
-        × (r.0 < shape.rules) }
+fn is_supported(rowed: &RowedBook, r: RuleNo, on: &Bits) -> bool
+    requires { r.0 < rowed.now.book.shape.rules }
     ensures { result ≡
-        every (heads (book_in book.now) (of (listed on.now)))
-        (rule (book_in book.now) r).pos }
+        every (heads (the_book rowed.now.book) (of (listed on.now.w)))
+        (rule (the_book rowed.now.book) r).pos }
 {
-    every_headed(positives(book, shape, r), rows, on)
+    rowed.every_headed(rowed.book.positives(r), on)
 }
 
 // The lowest rule without a colour whose positive atoms are all heads of on rules.
-pub fn lowest_supported(
-    book: &[u8],
-    shape: Shape,
-    rows: &[u64; 3072],
-    on: Bits,
-    off: Bits,
-) -> Picked
-    requires { ReadAs book.now shape × RuleRows (book_in book.now) rows.now }
-    ensures { picked result ≡ lowest_from 0 shape.rules
-        (supported (book_in book.now) (lent (listed on.w) (listed off.w))) }
+pub fn lowest_supported(rowed: &RowedBook, on: Bits, off: Bits) -> Option<RuleNo>
+    ensures { picked result ≡ lowest_from 0 rowed.now.book.shape.rules
+        (supported (the_book rowed.now.book) (lent (listed on.w) (listed off.w))) }
 {
-    let left = Bits::below(shape.rules).difference(on.union(off));
-    let free = left.w;
-    let headed = on.w;
-    let mut r = next_in(&free, 0);
+    let free = Bits::below(rowed.book.shape.rules).difference(on.union(off));
+    let mut r = free.next_in(0);
     while r < 256 {
-        let q = r as u8;
-        if is_supported(book, shape, rows, RuleNo(q), &headed) {
-            return Picked::Rule(RuleNo(q));
+        let q = RuleNo(r as u8);
+        if is_supported(rowed, q, &on) {
+            return Some(q);
         }
-        r = next_in(&free, r + 1);
+        r = free.next_in(r + 1);
     }
-    Picked::Nothing
+    None
 }
 
 // The off rules, with all rules of the book that are not on put in.

@@ -5,8 +5,7 @@ ghost use Rattle.meaning.specs.Bits.{listed};
 ghost use Rattle.meaning.specs.Written.{coloured, lent, pair};
 ghost use Rattle.meaning.specs.Lowest.{clashed};
 ghost use Rattle.meaning.specs.Propagation.{propagate};
-ghost use Rattle.book.specs.Format.{book_in, ReadAs};
-ghost use Rattle.book.specs.RuleRows.{RuleRows};
+ghost use Rattle.book.specs.ReadBook.{the_book};
 ghost use Rattle.closing.specs.Picked.{picked};
 ghost use Rattle.closing.specs.Taken.{puts, Puts};
 ghost use Rattle.walk.specs.Run.{State, run};
@@ -15,10 +14,10 @@ ghost use Rattle.walk.specs.declared.tally.Halt.TheVariants.{Going};
 ghost use Rattle.nomore.specs.Own.{test_of, own_from};
 
 use crate::choose::{lowest_supported, rest_off};
-use book::Shape;
-use closing::{Choice, Picked, lowest_clash, propagate_chosen};
-use meaning::Bits;
-use walk::{Halt, Tally, meet};
+use book::RowedBook;
+use closing::{Choice, lowest_clash, propagate_chosen};
+use meaning::{Bits, RuleNo};
+use walk::{Halt, Tally, Wanted, meet};
 
 // What closing without support comes to: the two sets, and of a contradiction the lowest rule in
 // both.
@@ -26,128 +25,84 @@ use walk::{Halt, Tally, meet};
 struct Grown {
     on: Bits,
     off: Bits,
-    clash: Picked,
+    clash: Option<RuleNo>,
 }
 
 // Closes the two sets, with the choice taken, without support.
-fn grow(book: &[u8], shape: Shape, rows: &[u64; 3072], on: Bits, off: Bits, choice: Choice) -> Grown
-    requires { ReadAs book.now shape × RuleRows (book_in book.now) rows.now
-        × Puts (book_in book.now) (lent (listed on.w) (listed off.w)) choice }
+fn grow(rowed: &RowedBook, on: Bits, off: Bits, choice: Choice) -> Grown
+    requires { Puts (the_book rowed.now.book) (lent (listed on.w) (listed off.w)) choice }
     ensures { (coloured (listed result.on.w) (listed result.off.w) ≡
-        propagate (book_in book.now)
+        propagate (the_book rowed.now.book)
         (puts choice (coloured (listed on.w) (listed off.w))))
-        × (picked result.clash ≡ clashed (book_in book.now)
+        × (picked result.clash ≡ clashed (the_book rowed.now.book)
         (pair (coloured (listed result.on.w) (listed result.off.w)))) }
 {
-    let mut more_on = on.w;
-    let mut more_off = off.w;
-    propagate_chosen(book, shape, rows, choice, &mut more_on, &mut more_off);
-    let d_on = Bits { w: more_on };
-    let d_off = Bits { w: more_off };
+    let mut more_on = on;
+    let mut more_off = off;
+    propagate_chosen(rowed, choice, &mut more_on, &mut more_off);
     Grown {
-        on: d_on,
-        off: d_off,
-        clash: lowest_clash(shape.rules, d_on, d_off),
+        on: more_on,
+        off: more_off,
+        clash: lowest_clash(rowed.book.shape.rules, more_on, more_off),
     }
 }
 
 // The test of two sets that have every rule between them: a reading unless closing without support
 // brings a rule to both.
-fn test(
-    book: &[u8],
-    shape: Shape,
-    rows: &[u64; 3072],
-    on: Bits,
-    off: Bits,
-    pass: u32,
-    limit: u32,
-    t: Tally,
-    out: &mut [u8],
-) -> Tally
-    requires { ReadAs book.now shape × (t.halt ≡ Going)
-        × Room (book_in book.now) pass 1 (record { tally = t; out = out.old })
-        × RuleRows (book_in book.now) rows.now }
+fn test(rowed: &RowedBook, on: Bits, off: Bits, wanted: &Wanted, t: Tally, out: &mut [u8]) -> Tally
+    requires { (t.halt ≡ Going)
+        × Room (the_book rowed.now.book) wanted.now.pass wanted.now.room
+        (record { tally = t; out = out.old }) }
     ensures { ◌≡◌ {A = State} (record { tally = result; out = out.new })
-        (run (book_in book.now) (record { pass = pass; room = 1; limit = limit })
+        (run (the_book rowed.now.book) wanted.now
         (record { tally = t; out = out.old })
-        (test_of (book_in book.now) (coloured (listed on.w) (listed off.w)))) }
+        (test_of (the_book rowed.now.book) (coloured (listed on.w) (listed off.w)))) }
 {
-    if limit <= t.tries {
+    if wanted.limit <= t.tries {
         return t.stopped();
     }
-    let tested = grow(book, shape, rows, on, off, Choice::Nothing);
-    let clash = tested.clash;
-    if let Picked::Rule(r) = clash {
+    let tested = grow(rowed, on, off, Choice::Nothing);
+    if let Some(r) = tested.clash {
         return t.clashed(r);
     }
-    meet(book, shape, on, pass, 1, limit, t, out)
+    meet(&rowed.book, on, wanted, t, out)
 }
 
 // Walks on from two sets with the choice taken: one try, and after it first with a rule on, then
 // with it off, each from the sets before that choice. It ends because each choice leaves fewer rules without a colour.
 pub fn own(
-    book: &[u8],
-    shape: Shape,
-    rows: &[u64; 3072],
+    rowed: &RowedBook,
     on: Bits,
     off: Bits,
     choice: Choice,
-    pass: u32,
-    limit: u32,
+    wanted: &Wanted,
     t: Tally,
     out: &mut [u8],
 ) -> Tally
-    requires { ReadAs book.now shape
-        × Room (book_in book.now) pass 1 (record { tally = t; out = out.old })
-        × RuleRows (book_in book.now) rows.now
-        × Puts (book_in book.now) (lent (listed on.w) (listed off.w)) choice }
-    ensures { ◌≡◌ {A = State} (record { tally = result; out = out.new })
-        (run (book_in book.now) (record { pass = pass; room = 1; limit = limit })
+    requires { Room (the_book rowed.now.book) wanted.now.pass wanted.now.room
         (record { tally = t; out = out.old })
-        (own_from (book_in book.now)
+        × Puts (the_book rowed.now.book) (lent (listed on.w) (listed off.w)) choice }
+    ensures { ◌≡◌ {A = State} (record { tally = result; out = out.new })
+        (run (the_book rowed.now.book) wanted.now
+        (record { tally = t; out = out.old })
+        (own_from (the_book rowed.now.book)
         (puts choice (coloured (listed on.w) (listed off.w))))) }
 {
-    let halt = t.halt;
-    let Halt::Going = halt else {
+    let Halt::Going = t.halt else {
         return t;
     };
-    if limit <= t.tries {
+    if wanted.limit <= t.tries {
         return t.stopped();
     }
-    let d = grow(book, shape, rows, on, off, choice);
-    let clash = d.clash;
-    if let Picked::Rule(r) = clash {
+    let d = grow(rowed, on, off, choice);
+    if let Some(r) = d.clash {
         return t.clashed(r);
     }
     let next = t.tried(t.sets, Halt::Going);
-    let d_on = d.on;
-    let d_off = d.off;
-    let Picked::Rule(r) = lowest_supported(book, shape, rows, d_on, d_off) else {
-        let rest = rest_off(shape.rules, d_on, d_off);
-        return test(book, shape, rows, d_on, rest, pass, limit, next, out);
+    let Some(r) = lowest_supported(rowed, d.on, d.off) else {
+        let rest = rest_off(rowed.book.shape.rules, d.on, d.off);
+        return test(rowed, d.on, rest, wanted, next, out);
     };
-    let first = own(
-        book,
-        shape,
-        rows,
-        d_on,
-        d_off,
-        Choice::On(r),
-        pass,
-        limit,
-        next,
-        out,
-    );
-    own(
-        book,
-        shape,
-        rows,
-        d_on,
-        d_off,
-        Choice::Off(r),
-        pass,
-        limit,
-        first,
-        out,
-    )
+    let first = own(rowed, d.on, d.off, Choice::On(r), wanted, next, out);
+    own(rowed, d.on, d.off, Choice::Off(r), wanted, first, out)
 }

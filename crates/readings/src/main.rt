@@ -14,20 +14,15 @@ use system::arg_count;
 fn list_named(rt: &(impl Env + Files + Print)) {
     let mut book = [0u8; talk::BOOK_ROOM];
     let mut names = [0u8; talk::NAMES_ROOM];
-    let opened = open_at(rt, 1, b"", &mut book, &mut names);
-    if opened.good {
-        let n = opened.count;
-        let m = opened.names;
-        listing::list(rt, &book[..n], b'\n', &names[..m]);
+    if let Some(opened) = open_at(rt, 1, b"", &mut book, &mut names) {
+        listing::list(rt, opened.book, b'\n', opened.names);
     }
 }
 
 // Lists the readings of the book on standard input.
 fn list_input(rt: &(impl Input + Print)) {
     let mut book = [0u8; talk::BOOK_ROOM];
-    let taken = talk::read_input(rt, &mut book);
-    if taken.good {
-        let n = taken.count;
+    if let Some(n) = talk::read_input(rt, &mut book) {
         listing::list(rt, &book[..n], b'\n', b"");
     }
 }

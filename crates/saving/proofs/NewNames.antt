@@ -1,5 +1,5 @@
 -- Where the path was copied to the front of a buffer and `.new` behind it, the new name stands at its front, and the buffer holds it whole.
-use Rattle.std.proofs.Common.{◌≡◌, List, ◌++◌, ℕ, ◌+◌, ◌∙◌, length, take, arith, length-append}
+use Rattle.std.proofs.Common.{◌≡◌, List, ◌++◌, ℕ, ◌+◌, length, take, arith, length-append}
 use Rattle.std.proofs.Math.Seq.{take-length, take-append_seam, take-append-add}
 use Rattle.system.specs.Counts.{IsPrefixLen}
 use Rattle.system.proofs.Counting.{prefix_len_of_le}

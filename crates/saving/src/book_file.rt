@@ -4,20 +4,20 @@
 use crate::argument::take_path;
 use crate::place::look_at;
 use crate::save::save_file;
-use book::{Read, read_book};
+use book::read_book;
 use std::rt::{Env, Files};
 use system::PATH_ROOM;
 use talk::{BOOK_ROOM, complain};
 
 // Whether the bytes that stand at the path give way to the book. Where they do not a line says so.
 fn gives_way(rt: &impl Print, path: &[u8], old: &[u8], book: &[u8], is_replacing: bool) -> bool {
-    if old.len() == 0 {
+    if old.is_empty() {
         return true;
     }
-    let Read::Good(_) = read_book(old) else {
+    if read_book(old).is_err() {
         complain(rt, path, b"it is there and is no book");
         return false;
-    };
+    }
     if is_replacing || old == book {
         return true;
     }
@@ -28,15 +28,11 @@ fn gives_way(rt: &impl Print, path: &[u8], old: &[u8], book: &[u8], is_replacing
 // Saves the book at the path where what stands there gives way.
 fn save_at(rt: &(impl Files + Print), path: &[u8], book: &[u8], is_replacing: bool) -> bool {
     let mut old = [0u8; BOOK_ROOM];
-    let there = look_at(rt, path, &mut old);
-    if !there.good {
+    let Ok(there) = look_at(rt, path, &mut old) else {
         return false;
-    }
-    let n = there.count;
-    if !gives_way(rt, path, &old[..n], book, is_replacing) {
-        return false;
-    }
-    save_file(rt, path, there.is_file, book)
+    };
+    let n = there.unwrap_or(0);
+    gives_way(rt, path, &old[..n], book, is_replacing) && save_file(rt, path, there.is_some(), book)
 }
 
 // Saves the book in the file that an argument names, and gives whether it is saved; where it is not
@@ -48,10 +44,8 @@ pub fn save_book(
     is_replacing: bool,
 ) -> bool {
     let mut path = [0u8; PATH_ROOM];
-    let taken = take_path(rt, i, &mut path);
-    if !taken.good {
+    let Some(n) = take_path(rt, i, &mut path) else {
         return false;
-    }
-    let n = taken.count;
+    };
     save_at(rt, &path[..n], book, is_replacing)
 }

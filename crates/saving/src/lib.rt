@@ -10,7 +10,7 @@ mod book_file;
 mod place;
 mod save;
 
-pub use argument::{is_replacing, take_path};
+pub use argument::{is_replacing, is_right, take_path};
 pub use book_file::save_book;
-pub use place::{There, look_at};
+pub use place::{Forbidden, look_at};
 pub use save::save_file;

@@ -40,42 +40,25 @@ fn complain_of_making(rt: &impl Print, path: &[u8], new: &[u8], error: Error) {
     complain_of_writing(rt, path, error);
 }
 
-// Whether the new file was written whole.
-#[derive(Clone, Copy)]
-enum Written {
-    Whole,
-    // Some of it may be missing.
-    Broken,
-    // There is no new file.
-    NotMade,
-}
-
-// Makes the new file, writes all bytes to it and closes it. Where it cannot be made a line says so.
-fn write_new(rt: &(impl Files + Print), path: &[u8], new: &[u8], bytes: &[u8]) -> Written {
+// Makes the new file, writes all bytes to it and closes it, and gives whether it was written whole;
+// none where it cannot be made: a line says so.
+fn write_new(rt: &(impl Files + Print), path: &[u8], new: &[u8], bytes: &[u8]) -> Option<bool> {
     match create(rt, new) {
-        Ok(mut file) => {
-            if write_whole(&mut file, bytes) {
-                return Written::Whole;
-            }
-            Written::Broken
-        }
+        Ok(mut file) => Some(write_whole(&mut file, bytes)),
         Err(error) => {
             complain_of_making(rt, path, new, error);
-            Written::NotMade
+            None
         }
     }
 }
 
 // Writes the bytes to the new file, which then takes the path's name.
 fn replace(rt: &(impl Files + Print), path: &[u8], new: &[u8], bytes: &[u8]) -> bool {
-    match write_new(rt, path, new, bytes) {
-        Written::NotMade => return false,
-        Written::Whole => {
-            if rename(rt, new, path).is_ok() {
-                return true;
-            }
-        }
-        Written::Broken => {}
+    let Some(is_whole) = write_new(rt, path, new, bytes) else {
+        return false;
+    };
+    if is_whole && rename(rt, new, path).is_ok() {
+        return true;
     }
     let _ = remove(rt, new);
     complain(rt, path, b"it cannot be written");
@@ -89,11 +72,9 @@ pub fn save_file(rt: &(impl Files + Print), path: &[u8], is_there: bool, bytes: 
         complain(rt, path, b"its name is too long");
         return false;
     }
-    if is_there {
-        if !is_regular(rt, path) {
-            complain(rt, path, b"it is no regular file");
-            return false;
-        }
+    if is_there && !is_regular(rt, path) {
+        complain(rt, path, b"it is no regular file");
+        return false;
     }
     let mut name = [0u8; 4100];
     let m = put_new_name(path, &mut name);

@@ -1,14 +1,15 @@
 // The atoms that are true, false and open in the well-founded model.
 use listing::put_named;
-use talk::{print, put_text};
+use talk::Line;
 
 // Writes the word and the atoms that have the byte. The longest line has 255 atoms.
 fn show_those(rt: &impl Print, word: &[u8], bytes: &[u8], byte: u8, names: &[u8]) {
-    let mut line = [0u8; 67584];
-    let held = put_text(word, &mut line, 0);
-    let held = put_named(names, bytes, byte, &mut line, held);
-    let held = put_text(b"\n", &mut line, held);
-    print(rt, &line[..held]);
+    let mut room = [0u8; 67584];
+    let mut line = Line::new(&mut room);
+    line.text(word);
+    put_named(names, bytes, byte, &mut line);
+    line.text(b"\n");
+    line.print(rt);
 }
 
 // Writes a line for each of the three.

@@ -10,44 +10,32 @@
 mod atoms;
 mod rules;
 
-ghost use Rattle.book.specs.Format.{ReadAs};
-
 use atoms::show_atoms;
-use book::{Read, Shape, read_book};
+use book::ReadBook;
 use calling::{open_book, shift};
-use closing::{Settled, settle};
+use closing::settle;
 use rules::{show_rules, show_settled};
 use system::arg_count;
-use talk::{BOOK_ROOM, NAMES_ROOM, explain_book, first_bytes};
+use talk::{BOOK_ROOM, NAMES_ROOM, explain_book};
 
-// Writes the rules, the atoms and what that is worth, from the bytes that settling wrote.
-fn show_all(rt: &impl Print, book: &[u8], shape: Shape, bytes: &[u8; 510], names: &[u8])
-    requires { ReadAs book.now shape }
-{
-    let n = shape.rules as usize;
-    let m = n + shape.atoms as usize;
-    let all = &bytes[..];
-    show_rules(rt, book, shape, bytes, names);
-    show_atoms(rt, &all[n..m], names);
-    show_settled(rt, first_bytes(all, n));
-}
-
-// Writes what a good book settles.
-fn show_good(rt: &impl Print, book: &[u8], shape: Shape, names: &[u8])
-    requires { ReadAs book.now shape }
-{
+// Writes the rules, the atoms and what that is worth, from the bytes that settling writes.
+fn show_good(rt: &impl Print, book: &ReadBook, names: &[u8]) {
     let mut bytes = [2u8; 510];
-    let Settled::Rows = settle(book, &mut bytes) else {
+    if settle(book.bytes, &mut bytes).is_err() {
         return;
-    };
-    show_all(rt, book, shape, &bytes, names);
+    }
+    let n = book.shape.rules as usize;
+    let m = n + book.shape.atoms as usize;
+    show_rules(rt, book, &bytes, names);
+    show_atoms(rt, &bytes[n..m], names);
+    show_settled(rt, &bytes[..n]);
 }
 
 // Writes what a good book settles, or why the bytes are none.
-fn show_book(rt: &impl Print, book: &[u8], names: &[u8]) {
-    match read_book(book) {
-        Read::Refused(why) => explain_book(rt, why, book),
-        Read::Good(shape) => show_good(rt, book, shape, names),
+fn show_book(rt: &impl Print, bytes: &[u8], names: &[u8]) {
+    match ReadBook::read(bytes) {
+        Ok(book) => show_good(rt, &book, names),
+        Err(why) => explain_book(rt, why, bytes),
     }
 }
 
@@ -55,10 +43,8 @@ fn main(rt: HostRuntime) {
     let mut book = [0u8; BOOK_ROOM];
     let mut names = [0u8; NAMES_ROOM];
     let is_right = arg_count(&rt) == 2 + shift(&rt);
-    let opened = open_book(&rt, is_right, b"settling BOOKFILE", &mut book, &mut names);
-    if opened.good {
-        let n = opened.count;
-        let m = opened.names;
-        show_book(&rt, &book[..n], &names[..m]);
+    let usage = b"settling BOOKFILE";
+    if let Some(opened) = open_book(&rt, is_right, usage, &mut book, &mut names) {
+        show_book(&rt, opened.book, opened.names);
     }
 }

@@ -10,51 +10,31 @@
 
 mod atoms;
 
-ghost use Rattle.std.specs.Prelude.{◌<◌};
-ghost use Rattle.book.specs.Format.{ReadAs};
-
 use atoms::show_atoms;
-use book::{Read, Shape, read_book};
+use book::ReadBook;
 use calling::{open_book, shift};
 use meaning::RuleNo;
 use system::arg_count;
 use talk::{BOOK_ROOM, NAMES_ROOM, explain_book, print, show_rule};
 
-// Writes the rule, without a word for it.
-fn show_plain(rt: &impl Print, book: &[u8], shape: Shape, r: RuleNo, names: &[u8])
-    requires { ReadAs book.now shape × (r.0 < shape.rules) }
-{
-    show_rule(rt, book, shape, r, b"", names);
-}
-
 // Writes a line for each rule, or that there is none.
-fn show_rules(rt: &impl Print, book: &[u8], shape: Shape, names: &[u8])
-    requires { ReadAs book.now shape }
-{
-    if shape.rules == 0 {
+fn show_rules(rt: &impl Print, book: &ReadBook, names: &[u8]) {
+    if book.shape.rules == 0 {
         print(rt, b"no rules\n");
-        return;
     }
-    let mut r: u8 = 0;
-    while r < shape.rules {
-        show_plain(rt, book, shape, RuleNo(r), names);
-        r += 1;
+    for r in 0..book.shape.rules {
+        show_rule(rt, book, RuleNo(r), b"", names);
     }
-}
-
-// Writes the rules and the atoms.
-fn show_all(rt: &impl Print, book: &[u8], shape: Shape, names: &[u8])
-    requires { ReadAs book.now shape }
-{
-    show_rules(rt, book, shape, names);
-    show_atoms(rt, book, shape, names);
 }
 
 // Writes what stands in a good book, or why the bytes are none.
-fn show_book(rt: &impl Print, book: &[u8], names: &[u8]) {
-    match read_book(book) {
-        Read::Refused(why) => explain_book(rt, why, book),
-        Read::Good(shape) => show_all(rt, book, shape, names),
+fn show_book(rt: &impl Print, bytes: &[u8], names: &[u8]) {
+    match ReadBook::read(bytes) {
+        Ok(book) => {
+            show_rules(rt, &book, names);
+            show_atoms(rt, &book, names);
+        }
+        Err(why) => explain_book(rt, why, bytes),
     }
 }
 
@@ -62,10 +42,8 @@ fn main(rt: HostRuntime) {
     let mut book = [0u8; BOOK_ROOM];
     let mut names = [0u8; NAMES_ROOM];
     let is_right = arg_count(&rt) == 2 + shift(&rt);
-    let opened = open_book(&rt, is_right, b"showing BOOKFILE", &mut book, &mut names);
-    if opened.good {
-        let n = opened.count;
-        let m = opened.names;
-        show_book(&rt, &book[..n], &names[..m]);
+    let usage = b"showing BOOKFILE";
+    if let Some(opened) = open_book(&rt, is_right, usage, &mut book, &mut names) {
+        show_book(&rt, opened.book, opened.names);
     }
 }

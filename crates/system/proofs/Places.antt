@@ -1,27 +1,34 @@
--- The place of a byte in a part of bytes, where it is sought from the left.
-use Rattle.std.proofs.Common.{◌≡◌, refl, ap, sym, ◌∙◌, List, ◌∷◌, ℕ, suc, ◌+◌, ◌<◌, ◌≤◌, arith, length, get_or, take, drop, eq-eqb, ne_eqb}
-use Rattle.std.proofs.Math.Seq.{length-take-le, drop-length}
-use Rattle.std.proofs.lemmas.List.{drop_more, get_or-take}
-use Rattle.system.specs.Places.{slice, index_of}
+-- The place of a byte as the code's search gives it is the definition's.
+use Rattle.std.proofs.Common.{◌≡◌, refl, ap, sym, ◌∙◌, List, ℕ, suc, ◌+◌, ◌-◌, ◌≤◌, arith, cond, not, length, take, drop, length-take}
+use Rattle.std.specs.Prelude.{Some, None, ◌==◌}
+use Rattle.std.specs.List.{position, position_or_len}
+use Rattle.std.proofs.lemmas.List.{drop-take}
+use Rattle.std.proofs.lemmas.List.Folds.{length-prefix_len}
+use Rattle.std.proofs.lemmas.List.Recursion.{is_position_or_len}
+use Rattle.std.proofs.lemmas.Grind.{common_steps}
+use Rattle.std.proofs.lemmas.Bool.Decides.{nat_tests}
+use Rattle.system.specs.Places.{index_of, slice}
 
-module _ (l : List ℕ) (at to : ℕ) (h : at < to) (k : to ≤ length l) where
-  step : slice at to l ≡ get_or l at 0 ∷ slice (at + 1) to l
-  unfolding slice
-  step =
-      drop_more (take to l) at 0 (omega (arith, length-take-le to l k))
-      ∙ ap (λ (x : ℕ). x ∷ drop (at + 1) (take to l)) (get_or-take to l at 0 h)
+-- the bytes from one place up to another, as the code takes them
+pub part : (from to : ℕ) (l : List ℕ) → from ≤ to → take (to - from) (drop from l) ≡ slice from to l
+unfolding slice
+part from to l h =
+    let e : from + (to - from) ≡ to = omega arith in
+    sym (drop-take from (to - from) l) ∙ ap (λ (n : ℕ). drop from (take n l)) e
 
-  -- the byte stands at the place
-  pub found : (x : ℕ) → get_or l at 0 ≡ x → index_of x (slice at to l) ≡ 0
+module _ (x : ℕ) (l : List ℕ) where
+  index-place : index_of x l ≡ position_or_len (λ y. y == x) l
   unfolding index_of
-  found x e = ap (index_of x) step ∙ rw (eq-eqb (get_or l at 0) x e) refl
+  index-place =
+      is_position_or_len (index_of x) (λ y. y == x) refl
+      (λ y ys. let e : suc (index_of x ys) ≡ 1 + index_of x ys = omega arith in ap (cond (y == x) 0) e) l
 
-  -- another byte stands there
-  pub passed : (x : ℕ) → (get_or l at 0 ≡ x → ⊥) → index_of x (slice at to l) ≡ suc (index_of x (slice (at + 1) to l))
-  unfolding index_of
-  passed x n = ap (index_of x) step ∙ rw (ne_eqb (get_or l at 0) x n) refl
+  pub found : (i : ℕ) → position (λ y. y == x) l ≡ Some i → index_of x l ≡ i
+  found i e = let p = index-place in grind (arith, common_steps, nat_tests)
 
--- nothing is left to look at
-pub none : (l : List ℕ) (to x : ℕ) → to ≤ length l → index_of x (slice to to l) ≡ 0
-unfolding slice index_of
-none l to x k = ap (index_of x) (ap (λ (n : ℕ). drop n (take to l)) (sym (length-take-le to l k)) ∙ drop-length (take to l))
+  pub nowhere : position (λ y. y == x) l ≡ None → index_of x l ≡ length l
+  nowhere e =
+      let p = index-place in
+      let n = position_or_len (λ y. y == x) l in
+      let q : n ≤ length l = omega (arith, length-prefix_len (λ y. not (y == x)) l, length-take n l) in
+      grind (arith, common_steps, nat_tests)

@@ -7,11 +7,7 @@ use std::rt::Env;
 // Whether there is an argument with this number, however long it is.
 fn is_there(rt: &impl Env, i: usize) -> bool {
     let mut nothing = [0u8; 1];
-    match rt.arg(i, &mut nothing) {
-        Ok(_) => true,
-        Err(FillError::TooLong) => true,
-        Err(FillError::NotPresent) => false,
-    }
+    !matches!(rt.arg(i, &mut nothing), Err(FillError::NotPresent))
 }
 
 // How many arguments there are, the program's own name among them.
@@ -29,8 +25,5 @@ pub fn arg_count(rt: &impl Env) -> usize {
 pub fn arg(rt: &impl Env, i: usize, out: &mut [u8]) -> usize
     ensures { IsPrefixLen result out.new }
 {
-    match rt.arg(i, out) {
-        Ok(n) => n,
-        Err(_) => 0,
-    }
+    rt.arg(i, out).unwrap_or(0)
 }

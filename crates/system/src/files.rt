@@ -10,10 +10,7 @@ pub const PATH_ROOM: usize = 4096;
 
 // The name as text.
 fn text_of(path: &[u8]) -> io::Result<&str> {
-    match std::str::from_utf8(path) {
-        Ok(text) => Ok(text),
-        Err(_) => Err(io::Error::from(ErrorKind::InvalidFilename)),
-    }
+    std::str::from_utf8(path).map_err(|_| io::Error::from(ErrorKind::InvalidFilename))
 }
 
 // Opens the file for reading.
@@ -42,10 +39,7 @@ pub fn is_link(rt: &impl Files, path: &[u8]) -> bool {
     let Ok(text) = text_of(path) else {
         return false;
     };
-    match fs::symlink_metadata(rt, text) {
-        Ok(found) => found.is_symlink(),
-        Err(_) => false,
-    }
+    fs::symlink_metadata(rt, text).is_ok_and(|found| found.is_symlink())
 }
 
 // Gives the file another name, in the place of what has that name.

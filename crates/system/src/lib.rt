@@ -17,5 +17,5 @@ pub use arguments::{arg, arg_count};
 pub use files::{PATH_ROOM, create, is_link, open_read, open_update, remove, rename};
 pub use number::decimal;
 pub use output::print;
-pub use reading::{Taken, read_full};
+pub use reading::read_full;
 pub use seek::find;

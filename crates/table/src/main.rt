@@ -17,10 +17,8 @@ fn main(rt: HostRuntime) {
         return;
     }
     let mut input = [0u8; names::ROOM];
-    let taken = talk::read_input(&rt, &mut input);
-    if !taken.good {
+    let Some(n) = talk::read_input(&rt, &mut input) else {
         return;
-    }
-    let n = taken.count;
+    };
     names::print_table(&rt, &rt.stderr(), &input[..n]);
 }

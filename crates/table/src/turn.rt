@@ -1,5 +1,5 @@
 // The turn of a name: its file is a book, or with `--words` or `--text` what a book is made of.
-use calling::{Made, Source, TEXT_ROOM, make_quietly, source_at};
+use calling::{Source, TEXT_ROOM, make_quietly, source_at};
 use std::rt::{Env, Files};
 use tabling::{Layout, Table};
 use talk::{BOOK_ROOM, first_bytes, read_quietly};
@@ -14,17 +14,18 @@ pub const LAYOUT: Layout = Layout {
 // Takes the turn of the book behind the name.
 fn with_book(rt: &(impl Files + Print), table: Table, name: &[u8]) -> Table {
     let mut book = [0u8; BOOK_ROOM];
-    let taken = read_quietly(rt, name, &mut book);
-    let n = taken.count;
-    table.with_book(rt, taken.good, &book[..n], name, LAYOUT)
+    match read_quietly(rt, name, &mut book) {
+        Some(n) => table.with_book(rt, Some(&book[..n]), name, LAYOUT),
+        None => table.with_book(rt, None, name, LAYOUT),
+    }
 }
 
 // Takes the turn of the book of the text.
 fn with_made(rt: &impl Print, table: Table, are_words: bool, text: &[u8], name: &[u8]) -> Table {
     let mut book = [0u8; BOOK_ROOM];
     match make_quietly(are_words, text, &mut book) {
-        Made::Book(n) => table.with_book(rt, true, first_bytes(&book, n), name, LAYOUT),
-        Made::Refused(number) => table.with_refused(rt, number, name, LAYOUT),
+        Ok(n) => table.with_book(rt, Some(first_bytes(&book, n)), name, LAYOUT),
+        Err(why) => table.with_refused(rt, why.number(), name, LAYOUT),
     }
 }
 
@@ -32,12 +33,10 @@ fn with_made(rt: &impl Print, table: Table, are_words: bool, text: &[u8], name: 
 // cannot be read.
 fn with_text(rt: &(impl Files + Print), table: Table, are_words: bool, name: &[u8]) -> Table {
     let mut text = [0u8; TEXT_ROOM];
-    let taken = read_quietly(rt, name, &mut text);
-    let n = taken.count;
-    if !taken.good || n == TEXT_ROOM {
-        return table.with_book(rt, false, b"", name, LAYOUT);
+    match read_quietly(rt, name, &mut text) {
+        Some(n) if n < TEXT_ROOM => with_made(rt, table, are_words, &text[..n], name),
+        _ => table.with_book(rt, None, name, LAYOUT),
     }
-    with_made(rt, table, are_words, &text[..n], name)
 }
 
 // Takes the turn of what is behind the name.

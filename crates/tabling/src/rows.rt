@@ -15,14 +15,6 @@ pub struct Table {
     totals: Totals,
 }
 
-fn is_without(line: Line) -> bool {
-    match line {
-        Line::Sets(_, _) => false,
-        Line::Without => true,
-        Line::Refused(_) => false,
-    }
-}
-
 impl Table {
     // No book yet.
     pub const START: Table = Table {
@@ -40,51 +32,49 @@ impl Table {
         name: &[u8],
         layout: Layout,
     ) -> Table {
-        if 63 < self.books {
+        let book = self.books as usize;
+        if MOST_BOOKS <= book {
             return self;
         }
         let line = turn.line;
         print_book(rt, self.books as u64 + 1, name, line, counts, layout);
         let mut without = self.without;
-        without[self.books as usize] = is_without(line);
-        let totals = turn.totals;
+        without[book] = matches!(line, Line::Without);
         Table {
             books: self.books + 1,
             without,
-            totals,
+            totals: turn.totals,
         }
     }
 
-    // Takes the turn of the next book and writes its line; `is_open` says whether its name could be
-    // opened and read.
+    // Takes the turn of the next book and writes its line; none where its name could not be opened
+    // and read.
     pub fn with_book(
         self,
         rt: &impl Print,
-        is_open: bool,
-        book: &[u8],
+        book: Option<&[u8]>,
         name: &[u8],
         layout: Layout,
     ) -> Table {
         let mut counts = [0u32; Colouring::ATOMS];
-        let turn = take_turn(is_open, book, LIMIT, self.totals, &mut counts);
+        let bytes = book.unwrap_or(b"");
+        let turn = take_turn(book.is_some(), bytes, LIMIT, self.totals, &mut counts);
         self.with_turn(rt, turn, &counts, name, layout)
     }
 
     // Writes the line of a text of which no book was made, for which this number stands.
     pub fn with_refused(self, rt: &impl Print, number: u8, name: &[u8], layout: Layout) -> Table {
         let counts = [0u32; Colouring::ATOMS];
-        let totals = self.totals;
         let turn = Turn {
             line: Line::Refused(number),
-            totals,
+            totals: self.totals,
         };
         self.with_turn(rt, turn, &counts, name, layout)
     }
 
     // Writes the last two lines.
     pub fn end(self, rt: &impl Print, layout: Layout) {
-        let without = self.without;
-        print_without(rt, &without, layout);
+        print_without(rt, &self.without, layout);
         print_totals(rt, self.totals, layout);
     }
 }

@@ -4,3 +4,4 @@ pub mod Turns
 pub mod Spelling
 pub mod Names
 pub mod ToldRefusals
+pub mod Gathered

@@ -1,43 +1,44 @@
 -- The numbers and places that people and software are told are those that the answers of checking and of a call for a paper tell.
 use mathlib.Core.Path.{◌≡◌, refl}
 use Rattle.meaning.specs.Told.{Told, success, refused_with, refused_at, refused}
-use Rattle.checker.specs.declared.answer.Checked.{Checked}
-use Rattle.checker.specs.declared.answer.Checked.TheVariants.{Accepted, Book, Length, Mark, Trailer, Atom, Form, Fails, Gap, Witness}
-use Rattle.writer.specs.declared.answer.Named.{Named}
-use Rattle.writer.specs.declared.answer.Named.TheVariants.{Paper, Fewer, Stopped, NotCertain, NotClear, HasReading, NoAtom, TooLong}
-use Rattle.writer.specs.declared.answer.Named.TheVariants.{Book as BadBook}
+use Rattle.std.specs.Prelude.{ℕ, Result, Ok, Err}
+use Rattle.meaning.specs.declared.kind.Claim.{Claim}
+use Rattle.checker.specs.declared.answer.Rejected.{Rejected}
+use Rattle.checker.specs.declared.answer.Rejected.TheVariants.{Book, Length, Mark, Trailer, Atom, Form, Fails, Gap, Witness}
+use Rattle.writer.specs.declared.answer.Unwritten.{Unwritten}
+use Rattle.writer.specs.declared.answer.Unwritten.TheVariants.{Fewer, Stopped, NotCertain, NotClear, HasReading, NoAtom, TooLong}
+use Rattle.writer.specs.declared.answer.Unwritten.TheVariants.{Book as BadBook}
 use Rattle.checker.specs.Numbers as Checking
 use Rattle.writer.specs.Write as Naming
 use Rattle.talk.specs.declared.refusals.Refused.{Refused}
-use Rattle.talk.specs.declared.refusals.Refused.TheVariants.{At, Plain}
-use Rattle.talk.specs.Refusals.{of_paper, of_name}
+use Rattle.talk.specs.Refusals.{at, plain, of_paper, of_name}
 
 -- what is told, without the values of a success and of a refusal
 abbrev tells : {S : Type 0} → Told S → Refused
-tells (success values) = Plain 0
-tells (refused_with n values) = Plain n
-tells (refused_at n at) = At n at
-tells (refused n) = Plain n
+tells (success values) = plain 0
+tells (refused_with n values) = plain n
+tells (refused_at n place) = at n place
+tells (refused n) = plain n
 
-pub paper-refusal-told : (c : Checked) → of_paper c ≡ tells (Checking.told c)
-paper-refusal-told (Accepted k) = refl
-paper-refusal-told (Book f) = refl
-paper-refusal-told Length = refl
-paper-refusal-told (Mark at) = refl
-paper-refusal-told (Trailer at) = refl
-paper-refusal-told (Atom at) = refl
-paper-refusal-told (Form at) = refl
-paper-refusal-told (Fails at) = refl
-paper-refusal-told (Gap at) = refl
-paper-refusal-told (Witness at) = refl
+pub paper-refusal-told : (c : Result Claim Rejected) → of_paper c ≡ tells (Checking.told c)
+paper-refusal-told (Ok k) = refl
+paper-refusal-told (Err (Book f)) = refl
+paper-refusal-told (Err Length) = refl
+paper-refusal-told (Err (Mark place)) = refl
+paper-refusal-told (Err (Trailer place)) = refl
+paper-refusal-told (Err (Atom place)) = refl
+paper-refusal-told (Err (Form place)) = refl
+paper-refusal-told (Err (Fails place)) = refl
+paper-refusal-told (Err (Gap place)) = refl
+paper-refusal-told (Err (Witness place)) = refl
 
-pub name-refusal-told : (n : Named) → of_name n ≡ tells (Naming.told n)
-name-refusal-told (Paper tries size) = refl
-name-refusal-told (Fewer tries rule) = refl
-name-refusal-told (Stopped limit) = refl
-name-refusal-told (BadBook f) = refl
-name-refusal-told NotCertain = refl
-name-refusal-told NotClear = refl
-name-refusal-told HasReading = refl
-name-refusal-told NoAtom = refl
-name-refusal-told TooLong = refl
+pub name-refusal-told : (n : Result (ℕ × ℕ) Unwritten) → of_name n ≡ tells (Naming.told n)
+name-refusal-told (Ok paper) = refl
+name-refusal-told (Err (Fewer tries rule)) = refl
+name-refusal-told (Err (Stopped limit)) = refl
+name-refusal-told (Err (BadBook f)) = refl
+name-refusal-told (Err NotCertain) = refl
+name-refusal-told (Err NotClear) = refl
+name-refusal-told (Err HasReading) = refl
+name-refusal-told (Err NoAtom) = refl
+name-refusal-told (Err TooLong) = refl

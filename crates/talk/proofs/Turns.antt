@@ -1,22 +1,19 @@
--- The definitions as the code goes through them: one turn of each loop and its end. Each is its definition unfolded once.
-use mathlib.Core.Path.{◌≡◌}
-use mathlib.Core.Bool.{true, false}
-use mathlib.Core.List.{List}
-use Prim.Native.Nat.{ℕ, ◌+◌, ◌*◌, ◌/◌, ◌%◌, ◌<◌, ◌≤◌}
-use native.Mathlib.Numerals.{add-one}
-use lib.ListN.{length, get_or, set, drop, drop_of_length-le}
-use lib.Seq.{drop-cons}
-use Rattle.meaning.specs.Choice.{if_lt}
+-- The definitions as the code goes through them: one turn of each loop, which is its definition unfolded once, and each byte of a word.
+use Rattle.std.proofs.Common.{◌≡◌, refl, ap, ◌∙◌, Bool, true, false, List, [], ◌∷◌, ℕ, ◌+◌, ◌*◌, ◌/◌, ◌%◌, nat_lt, get_or, set, add-one}
+use Rattle.std.specs.Prelude.{◌&&◌}
+use Rattle.std.specs.List.{list_all}
+use Rattle.meaning.specs.Choice.{ifb, if_lt}
 use Rattle.talk.specs.Hexadecimal.{digit_of, all_digits, byte_at, filled, digit_for, spelled}
 
-module _ (w : List ℕ) (i : ℕ) where
-  pub digits-end : length w ≤ i → all_digits (drop i w) ≡ true
-  unfolding all_digits
-  digits-end h = rw (drop_of_length-le w h)
+and-choice : (b c : Bool) → (b && c) ≡ ifb b c false
+unfolding ifb
+and-choice true c = refl
+and-choice false c = refl
 
-  pub digits-turn : i < length w → all_digits (drop i w) ≡ if_lt (digit_of (get_or w i 0)) 16 (all_digits (drop (i + 1) w)) false
-  unfolding all_digits
-  digits-turn h = rw (add-one i, drop-cons w i 0 h)
+pub digits-all : (w : List ℕ) → list_all (λ x. nat_lt (digit_of x) 16) w ≡ all_digits w
+unfolding all_digits if_lt
+digits-all [] = refl
+digits-all (x ∷ w) = ap (λ (c : Bool). nat_lt (digit_of x) 16 && c) (digits-all w) ∙ and-choice _ _
 
 -- x and y are the values of the next two digits
 module _ (w out : List ℕ) (i x y : ℕ) (ex : x ≡ digit_of (get_or w (2 * i) 0)) (ey : y ≡ digit_of (get_or w (2 * i + 1) 0)) where

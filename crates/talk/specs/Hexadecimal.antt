@@ -6,9 +6,8 @@
 --   decoded_of w room   whether the word says bytes that there is room for, and how many
 --   digit_for v         the digit of a value below 16, in lower case
 --   spelled n l out    the buffer, its first 2n bytes overwritten by the digits of the first n bytes of l
-use Rattle.std.specs.Prelude.{Bool, true, false, List, [], ◌∷◌, ℕ, zero, suc, ◌+◌, ◌*◌, ◌-◌, ◌/◌, ◌%◌, length, get_or, set}
+use Rattle.std.specs.Prelude.{Bool, true, false, List, [], ◌∷◌, ℕ, zero, suc, ◌+◌, ◌*◌, ◌-◌, ◌/◌, ◌%◌, length, get_or, set, Option, Some, None}
 use Rattle.meaning.specs.Choice.{ifb, if_lt, if_eq}
-use Rattle.talk.specs.declared.hexadecimal.Decoded.{Decoded}
 
 -- 0 to 9 are 48 to 57, A to F are 65 to 70, a to f are 97 to 102
 unfoldable pub digit_of : ℕ → ℕ
@@ -32,19 +31,13 @@ unfoldable pub filled : ℕ → List ℕ → List ℕ → List ℕ
 filled zero w out = out
 filled (suc n) w out = set (filled n w out) n (byte_at w n)
 
-abbrev pub bytes : ℕ → Decoded
-bytes n = record { good = true; count = n }
-
-abbrev pub nothing : Decoded
-nothing = record { good = false; count = 0 }
-
-unfoldable pub decoded_of : List ℕ → ℕ → Decoded
+unfoldable pub decoded_of : List ℕ → ℕ → Option ℕ
 decoded_of w room =
-    if_eq (length w) 1 (if_eq (get_or w 0 0) 45 (bytes 0) nothing)
-    (if_eq (length w) 0 nothing
-    (if_eq (length w % 2) 1 nothing
-    (if_lt room (length w / 2) nothing
-    (ifb (all_digits w) (bytes (length w / 2)) nothing))))
+    if_eq (length w) 1 (if_eq (get_or w 0 0) 45 (Some 0) None)
+    (if_eq (length w) 0 None
+    (if_eq (length w % 2) 1 None
+    (if_lt room (length w / 2) None
+    (ifb (all_digits w) (Some (length w / 2)) None))))
 
 unfoldable pub digit_for : ℕ → ℕ
 digit_for v = if_lt v 10 (48 + v) (97 + (v - 10) % 6)

@@ -4,3 +4,4 @@ pub mod Decimal
 pub mod Hexadecimal
 pub mod Names
 pub mod Refusals
+pub mod Gathered

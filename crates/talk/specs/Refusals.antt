@@ -1,33 +1,44 @@
 -- The number and the place of what checking and a call for a paper refuse, case by case; what refuses nothing has number 0. That they are those which
 -- the answers tell is a law (proofs/ToldRefusals.antt).
+use Rattle.std.specs.Prelude.{ℕ, Result, Ok, Err, Some, None}
+use Rattle.meaning.specs.declared.kind.Claim.{Claim}
 use Rattle.book.specs.Numbers.{number_of, place_of}
-use Rattle.checker.specs.declared.answer.Checked.{Checked}
-use Rattle.checker.specs.declared.answer.Checked.TheVariants.{Accepted, Book, Length, Mark, Trailer, Atom, Form, Fails, Gap, Witness}
-use Rattle.writer.specs.declared.answer.Named.{Named}
-use Rattle.writer.specs.declared.answer.Named.TheVariants.{Paper, Fewer, Stopped, NotCertain, NotClear, HasReading, NoAtom, TooLong}
-use Rattle.writer.specs.declared.answer.Named.TheVariants.{Book as BadBook}
+use Rattle.book.specs.declared.refusal.Refusal.{Refusal}
+use Rattle.checker.specs.declared.answer.Rejected.{Rejected}
+use Rattle.checker.specs.declared.answer.Rejected.TheVariants.{Book, Length, Mark, Trailer, Atom, Form, Fails, Gap, Witness}
+use Rattle.writer.specs.declared.answer.Unwritten.{Unwritten}
+use Rattle.writer.specs.declared.answer.Unwritten.TheVariants.{Fewer, Stopped, NotCertain, NotClear, HasReading, NoAtom, TooLong}
+use Rattle.writer.specs.declared.answer.Unwritten.TheVariants.{Book as BadBook}
 use Rattle.talk.specs.declared.refusals.Refused.{Refused}
-use Rattle.talk.specs.declared.refusals.Refused.TheVariants.{At, Plain}
 
-abbrev pub of_paper : Checked → Refused
-of_paper (Accepted k) = Plain 0
-of_paper (Book f) = At (number_of f) (place_of f)
-of_paper Length = At 20 0
-of_paper (Mark at) = At 21 at
-of_paper (Trailer at) = At 22 at
-of_paper (Atom at) = At 23 at
-of_paper (Form at) = At 24 at
-of_paper (Fails at) = At 25 at
-of_paper (Gap at) = At 26 at
-of_paper (Witness at) = At 27 at
+abbrev pub at : ℕ → ℕ → Refused
+at n place = record { number = n; place = Some place }
 
-abbrev pub of_name : Named → Refused
-of_name (Paper tries size) = Plain 0
-of_name (Fewer tries rule) = Plain 11
-of_name (Stopped limit) = Plain 9
-of_name (BadBook f) = At (number_of f) (place_of f)
-of_name NotCertain = Plain 12
-of_name NotClear = Plain 18
-of_name HasReading = Plain 38
-of_name NoAtom = Plain 13
-of_name TooLong = Plain 14
+abbrev pub plain : ℕ → Refused
+plain n = record { number = n; place = None }
+
+abbrev pub of_book : Refusal → Refused
+of_book f = at (number_of f) (place_of f)
+
+abbrev pub of_paper : Result Claim Rejected → Refused
+of_paper (Ok k) = plain 0
+of_paper (Err (Book f)) = of_book f
+of_paper (Err Length) = at 20 0
+of_paper (Err (Mark place)) = at 21 place
+of_paper (Err (Trailer place)) = at 22 place
+of_paper (Err (Atom place)) = at 23 place
+of_paper (Err (Form place)) = at 24 place
+of_paper (Err (Fails place)) = at 25 place
+of_paper (Err (Gap place)) = at 26 place
+of_paper (Err (Witness place)) = at 27 place
+
+abbrev pub of_name : Result (ℕ × ℕ) Unwritten → Refused
+of_name (Ok paper) = plain 0
+of_name (Err (Fewer tries rule)) = plain 11
+of_name (Err (Stopped limit)) = plain 9
+of_name (Err (BadBook f)) = of_book f
+of_name (Err NotCertain) = plain 12
+of_name (Err NotClear) = plain 18
+of_name (Err HasReading) = plain 38
+of_name (Err NoAtom) = plain 13
+of_name (Err TooLong) = plain 14

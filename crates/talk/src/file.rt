@@ -1,13 +1,14 @@
 // Reading a whole file, or standard input.
+ghost use Rattle.std.specs.Prelude.{IfSome};
 ghost use Rattle.system.specs.Counts.{IsPrefixLen};
 
-use crate::line::{put_name, put_text};
+use crate::line::Line;
 use book::BOOK_BYTES;
 use meaning::PAPER_BYTES;
 use std::env::FillError;
 use std::io::Error;
 use std::rt::{Env, Files};
-use system::{PATH_ROOM, Taken, open_read, print, read_full};
+use system::{PATH_ROOM, open_read, print, read_full};
 
 // Room for a book: one byte more than the longest has, so that a longer file is refused and not
 // cut.
@@ -16,21 +17,16 @@ pub const BOOK_ROOM: usize = BOOK_BYTES + 1;
 // Room for a paper, likewise.
 pub const PAPER_ROOM: usize = PAPER_BYTES + 1;
 
-// Nothing was read.
-const NOTHING: Taken = Taken {
-    good: false,
-    count: 0,
-};
-
 // Writes `bad file: NAME: WHY` and the line end.
 pub fn complain(rt: &impl Print, path: &[u8], why: &[u8]) {
-    let mut line = [0u8; 4608];
-    let held = put_text(b"bad file: ", &mut line, 0);
-    let held = put_name(path, &mut line, held);
-    let held = put_text(b": ", &mut line, held);
-    let held = put_text(why, &mut line, held);
-    let held = put_text(b"\n", &mut line, held);
-    print(rt, &line[..held]);
+    let mut room = [0u8; 4608];
+    let mut line = Line::new(&mut room);
+    line.text(b"bad file: ");
+    line.name(path);
+    line.text(b": ");
+    line.text(why);
+    line.text(b"\n");
+    line.print(rt);
 }
 
 // What the system answers where there is no such file, and where it may not be read (ENOENT, EACCES).
@@ -47,50 +43,49 @@ fn complain_of_opening(rt: &impl Print, path: &[u8], error: Error) {
     }
 }
 
-// Reads a file from its start. Where it cannot be read a line says so.
-fn read_file(rt: &(impl Files + Print), path: &[u8], out: &mut [u8]) -> Taken
-    ensures { IsPrefixLen result.count out.new }
+// Reads a file from its start, and gives how many bytes then stand at the start of the buffer. None
+// where it cannot be read: a line says so.
+fn read_file(rt: &(impl Files + Print), path: &[u8], out: &mut [u8]) -> Option<usize>
+    ensures { IfSome result (λ n. IsPrefixLen n out.new) }
 {
     match open_read(rt, path) {
         Ok(mut file) => {
-            let taken = read_full(&mut file, out);
-            if !taken.good {
+            let Ok(n) = read_full(&mut file, out) else {
                 complain(rt, path, b"it cannot be read");
-            }
-            taken
+                return None;
+            };
+            Some(n)
         }
         Err(error) => {
             complain_of_opening(rt, path, error);
-            NOTHING
+            None
         }
     }
 }
 
-// Reads a file from its start. Where it cannot be read nothing is said.
-pub fn read_quietly(rt: &impl Files, path: &[u8], out: &mut [u8]) -> Taken
-    ensures { IsPrefixLen result.count out.new }
+// The same, but nothing is said.
+pub fn read_quietly(rt: &impl Files, path: &[u8], out: &mut [u8]) -> Option<usize>
+    ensures { IfSome result (λ n. IsPrefixLen n out.new) }
 {
-    match open_read(rt, path) {
-        Ok(mut file) => read_full(&mut file, out),
-        Err(_) => NOTHING,
-    }
+    let mut file = open_read(rt, path).ok()?;
+    read_full(&mut file, out).ok()
 }
 
 // Reads standard input. Where it cannot be read a line says so.
-pub fn read_input(rt: &(impl Input + Print), out: &mut [u8]) -> Taken
-    ensures { IsPrefixLen result.count out.new }
+pub fn read_input(rt: &(impl Input + Print), out: &mut [u8]) -> Option<usize>
+    ensures { IfSome result (λ n. IsPrefixLen n out.new) }
 {
     let mut input = rt.reader();
-    let taken = read_full(&mut input, out);
-    if !taken.good {
+    let Ok(n) = read_full(&mut input, out) else {
         complain(rt, b"standard input", b"it cannot be read");
-    }
-    taken
+        return None;
+    };
+    Some(n)
 }
 
 // Reads the file that an argument of the program names. The first argument has number 1.
-pub fn read_argument(rt: &(impl Env + Files + Print), i: usize, out: &mut [u8]) -> Taken
-    ensures { IsPrefixLen result.count out.new }
+pub fn read_argument(rt: &(impl Env + Files + Print), i: usize, out: &mut [u8]) -> Option<usize>
+    ensures { IfSome result (λ n. IsPrefixLen n out.new) }
 {
     let mut path = [0u8; PATH_ROOM];
     match rt.arg(i, &mut path) {
@@ -98,18 +93,19 @@ pub fn read_argument(rt: &(impl Env + Files + Print), i: usize, out: &mut [u8]) 
         Err(FillError::NotPresent) => read_file(rt, b"", out),
         Err(FillError::TooLong) => {
             print(rt, b"bad file: its name is too long\n");
-            NOTHING
+            None
         }
     }
 }
 
 // Writes `bad call: ` and how the program is called.
 pub fn complain_of_call(rt: &impl Print, usage: &[u8]) {
-    let mut line = [0u8; 128];
-    let held = put_text(b"bad call: ", &mut line, 0);
-    let held = put_text(usage, &mut line, held);
-    let held = put_text(b"\n", &mut line, held);
-    print(rt, &line[..held]);
+    let mut room = [0u8; 128];
+    let mut line = Line::new(&mut room);
+    line.text(b"bad call: ");
+    line.text(usage);
+    line.text(b"\n");
+    line.print(rt);
 }
 
 // How the programs for people open: where the call is right, the book that its first argument names
@@ -119,12 +115,12 @@ pub fn open_call(
     is_right: bool,
     usage: &[u8],
     book: &mut [u8],
-) -> Taken
-    ensures { IsPrefixLen result.count book.new }
+) -> Option<usize>
+    ensures { IfSome result (λ n. IsPrefixLen n book.new) }
 {
     if !is_right {
         complain_of_call(rt, usage);
-        return NOTHING;
+        return None;
     }
     read_argument(rt, 1, book)
 }

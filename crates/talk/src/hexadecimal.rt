@@ -1,58 +1,24 @@
 // Bytes written as hexadecimal digits, two to a byte, in either case; `-` for none.
-ghost use Rattle.std.specs.Prelude.{◌≡◌, ◌*◌, ◌≤◌, length};
+ghost use Rattle.std.specs.Prelude.{◌≡◌, ◌*◌, ◌≤◌, length, IfSome, MatchOption};
 ghost use Rattle.system.specs.Counts.{IsPrefixLen};
 ghost use Rattle.talk.specs.Hexadecimal.{digit_of, all_digits, filled, decoded_of};
-
-// Whether a word says bytes, and how many.
-#[derive(Clone, Copy)]
-pub struct Decoded {
-    pub good: bool,
-    pub count: usize,
-}
-
-impl Decoded {
-    const NOTHING: Decoded = Decoded {
-        good: false,
-        count: 0,
-    };
-}
 
 // The value of a digit; 16 for a byte that is none.
 fn digit(x: u8) -> u8
     ensures { result ≡ digit_of x }
 {
-    if x < b'0' {
-        return 16;
+    match x {
+        b'0'..=b'9' => x - b'0',
+        b'A'..=b'F' => x - b'A' + 10,
+        b'a'..=b'f' => x - b'a' + 10,
+        _ => 16,
     }
-    if x <= b'9' {
-        return x - b'0';
-    }
-    if x < b'A' {
-        return 16;
-    }
-    if x <= b'F' {
-        return x - b'A' + 10;
-    }
-    if x < b'a' {
-        return 16;
-    }
-    if x <= b'f' {
-        return x - b'a' + 10;
-    }
-    16
 }
 
 fn all_digits(word: &[u8]) -> bool
     ensures { result ≡ all_digits word.now }
 {
-    let mut i = 0;
-    while i < word.len() {
-        if 15 < digit(word[i]) {
-            return false;
-        }
-        i += 1;
-    }
-    true
+    word.iter().all(|x| digit(*x) < 16)
 }
 
 // Writes the n bytes that the word's first digits say from byte 0 on.
@@ -60,56 +26,38 @@ fn fill(word: &[u8], n: usize, out: &mut [u8])
     requires { (2 * n ≤ length word.now) × (n ≤ length out.old) }
     ensures { out.new ≡ filled n word.now out.old }
 {
-    let mut i = 0;
-    while i < n {
+    for i in 0..n {
         out[i] = 16 * (digit(word[2 * i]) % 16) + digit(word[2 * i + 1]) % 16;
-        i += 1;
     }
 }
 
 // How many bytes the word says, where it says bytes and there is room for them.
-fn count_bytes(word: &[u8], room: usize) -> Decoded
+fn count_bytes(word: &[u8], room: usize) -> Option<usize>
     ensures value { result ≡ decoded_of word.now room }
-    ensures count_in_bounds { (2 * result.count ≤ length word.now) × (result.count ≤ room) }
+    ensures count_in_bounds { IfSome result (λ n. (2 * n ≤ length word.now) × (n ≤ room)) }
 {
     if word.len() == 1 {
-        if word[0] == b'-' {
-            return Decoded {
-                good: true,
-                count: 0,
-            };
-        }
-        return Decoded::NOTHING;
+        return if word[0] == b'-' { Some(0) } else { None };
     }
-    if word.len() == 0 {
-        return Decoded::NOTHING;
-    }
-    if word.len() % 2 == 1 {
-        return Decoded::NOTHING;
+    if word.len() == 0 || word.len() % 2 == 1 {
+        return None;
     }
     let n = word.len() / 2;
-    if room < n {
-        return Decoded::NOTHING;
+    if room < n || !all_digits(word) {
+        return None;
     }
-    if !all_digits(word) {
-        return Decoded::NOTHING;
-    }
-    Decoded {
-        good: true,
-        count: n,
-    }
+    Some(n)
 }
 
 // Writes the bytes that the word says from byte 0 on. Where it says none, or more than there is
 // room for, nothing is written.
-pub fn read_bytes(word: &[u8], out: &mut [u8]) -> Decoded
+pub fn read_bytes(word: &[u8], out: &mut [u8]) -> Option<usize>
     ensures value { result ≡ decoded_of word.now (length out.old) }
-    ensures out_after { out.new ≡
-        filled result.count word.now out.old }
-    ensures prefix_len { IsPrefixLen result.count out.new }
+    ensures out_after { MatchOption result (out.new ≡ out.old)
+        (λ n. out.new ≡ filled n word.now out.old) }
+    ensures prefix_len { IfSome result (λ n. IsPrefixLen n out.new) }
 {
-    let decoded = count_bytes(word, out.len());
-    let n = decoded.count;
+    let n = count_bytes(word, out.len())?;
     fill(word, n, out);
-    decoded
+    Some(n)
 }

@@ -26,16 +26,16 @@ pub use file::{
     BOOK_ROOM, PAPER_ROOM, complain, complain_of_call, open_call, read_argument, read_input,
     read_quietly,
 };
-pub use hexadecimal::{Decoded, read_bytes};
-pub use line::{put_bytes, put_name, put_number, put_text};
+pub use hexadecimal::read_bytes;
+pub use line::Line;
 pub use name::{NAME_ROOM, NAMES_ROOM, name_of, put_called, put_subject};
-pub use numbers::{Number, read_number};
-pub use part::first_bytes;
-pub use refusals::{Refused, refused_book, refused_name, refused_paper};
-pub use rule::{put_rule, show_rule};
+pub use numbers::read_number;
+pub use part::{common, first_bytes};
+pub use refusals::Refused;
+pub use rule::{count_rules, put_rule, show_rule};
 pub use sentences::{
     explain, explain_book, explain_book_of, explain_paper, explain_text_of, put_refused,
 };
-pub use size::put_size;
-pub use system::{Taken, print};
+pub use size::{put_size, show_size};
+pub use system::print;
 pub use words::{first_word, other_words};

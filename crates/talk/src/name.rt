@@ -2,10 +2,9 @@
 // name too. Names come as rows of 256 bytes, a row for each atom, each name with a zero behind it; no
 // bytes where there are none.
 ghost use Rattle.std.specs.Prelude.{◌≡◌};
-ghost use Rattle.system.specs.Counts.{IsPrefixLen};
 ghost use Rattle.talk.specs.Names.{name_in};
 
-use crate::line::{put_number, put_text};
+use crate::line::Line;
 use system::find;
 
 // Room for a name and the zero behind it.
@@ -26,33 +25,26 @@ pub fn name_of<'a>(names: &'a [u8], a: u8) -> &'a [u8]
     &names[from..end]
 }
 
-// The name with the number in brackets, as `anna (2)`, or the number alone.
-pub fn put_called(names: &[u8], a: u8, line: &mut [u8], held: usize) -> usize
-    requires { IsPrefixLen held line.old }
-    ensures { IsPrefixLen result line.new }
-{
+// The name with the word and the number in brackets, or these alone where there is no name.
+fn put_atom(names: &[u8], a: u8, word: &[u8], line: &mut Line) {
     let name = name_of(names, a);
-    if name.len() == 0 {
-        return put_number(a as u64, line, held);
+    if name.is_empty() {
+        line.text(word);
+        return line.number(a as u64);
     }
-    let held = put_text(name, line, held);
-    let held = put_text(b" (", line, held);
-    let held = put_number(a as u64, line, held);
-    put_text(b")", line, held)
+    line.text(name);
+    line.text(b" (");
+    line.text(word);
+    line.number(a as u64);
+    line.text(b")");
+}
+
+// The atom as `anna (2)`, or by its number alone.
+pub fn put_called(names: &[u8], a: u8, line: &mut Line) {
+    put_atom(names, a, b"", line);
 }
 
 // The same in a sentence: `anna (atom 2)`, or `atom 2`.
-pub fn put_subject(names: &[u8], a: u8, line: &mut [u8], held: usize) -> usize
-    requires { IsPrefixLen held line.old }
-    ensures { IsPrefixLen result line.new }
-{
-    let name = name_of(names, a);
-    if name.len() == 0 {
-        let held = put_text(b"atom ", line, held);
-        return put_number(a as u64, line, held);
-    }
-    let held = put_text(name, line, held);
-    let held = put_text(b" (atom ", line, held);
-    let held = put_number(a as u64, line, held);
-    put_text(b")", line, held)
+pub fn put_subject(names: &[u8], a: u8, line: &mut Line) {
+    put_atom(names, a, b"atom ", line);
 }

@@ -1,12 +1,16 @@
 // Parts of bytes.
-ghost use Rattle.std.specs.Prelude.{◌≡◌, take};
+ghost use Rattle.std.specs.Prelude.{◌≡◌, ◌≤◌, length, take};
 
 // The first n bytes; all of them where there are fewer.
 pub fn first_bytes<'a>(bytes: &'a [u8], n: usize) -> &'a [u8]
     ensures { result.now ≡ take n bytes.now }
 {
-    if bytes.len() <= n {
-        return bytes;
-    }
-    &bytes[..n]
+    &bytes[..bytes.len().min(n)]
+}
+
+// How many bytes the two have in common before they differ.
+pub fn common<'a>(one: &'a [u8], other: &'a [u8]) -> usize
+    ensures { (result ≤ length one.now) × (result ≤ length other.now) }
+{
+    one.iter().zip(other).take_while(|(x, y)| x == y).count()
 }

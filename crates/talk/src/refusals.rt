@@ -1,59 +1,81 @@
 // What the answers of the layers refuse, in one form for the lines of all programs: the number, and
 // the place where there is one. The numbers are those of the answers themselves.
-ghost use Rattle.std.specs.Prelude.{◌≡◌};
-ghost use Rattle.book.specs.Numbers.{number_of, place_of};
-ghost use Rattle.talk.specs.Refusals.{of_paper, of_name};
+ghost use Rattle.std.specs.Prelude.{◌≡◌, Err};
+ghost use Rattle.talk.specs.Refusals.{at, plain, of_book, of_paper, of_name};
 
 use book::Refusal;
-use checker::Checked;
-use writer::Named;
+use checker::Rejected;
+use writer::Unwritten;
 
 #[derive(Clone, Copy)]
-pub enum Refused {
-    // The number and the place.
-    At(u8, usize),
-    // The number; 0 for an answer that refuses nothing.
-    Plain(u8),
+pub struct Refused {
+    pub number: u8,
+    pub place: Option<usize>,
+}
+
+impl Refused {
+    pub const fn at(number: u8, place: usize) -> Refused
+        ensures { result ≡ at number place }
+    {
+        Refused {
+            number,
+            place: Some(place),
+        }
+    }
+
+    // Where there is no place.
+    pub const fn plain(number: u8) -> Refused
+        ensures { result ≡ plain number }
+    {
+        Refused {
+            number,
+            place: None,
+        }
+    }
 }
 
 // Why bytes are no book.
-pub fn refused_book(why: Refusal) -> Refused
-    ensures { result ≡ Refused.At (number_of why) (place_of why) }
-{
-    Refused::At(why.number(), why.place())
+impl From<Refusal> for Refused {
+    ghost from_gives = { λ why it. it ≡ of_book why };
+
+    fn from(why: Refusal) -> Refused {
+        Refused::at(why.number(), why.place())
+    }
 }
 
 // Why a paper is refused.
-pub fn refused_paper(answer: Checked) -> Refused
-    ensures { result ≡ of_paper answer }
-{
-    match answer {
-        Checked::Accepted(_) => Refused::Plain(0),
-        Checked::Book(why) => refused_book(why),
-        Checked::Length => Refused::At(20, 0),
-        Checked::Mark(at) => Refused::At(21, at),
-        Checked::Trailer(at) => Refused::At(22, at),
-        Checked::Atom(at) => Refused::At(23, at),
-        Checked::Form(at) => Refused::At(24, at),
-        Checked::Fails(at) => Refused::At(25, at),
-        Checked::Gap(at) => Refused::At(26, at),
-        Checked::Witness(at) => Refused::At(27, at),
+impl From<Rejected> for Refused {
+    ghost from_gives = { λ why it. it ≡ of_paper (Err why) };
+
+    fn from(why: Rejected) -> Refused {
+        match why {
+            Rejected::Book(why) => Refused::from(why),
+            Rejected::Length => Refused::at(20, 0),
+            Rejected::Mark(at) => Refused::at(21, at),
+            Rejected::Trailer(at) => Refused::at(22, at),
+            Rejected::Atom(at) => Refused::at(23, at),
+            Rejected::Form(at) => Refused::at(24, at),
+            Rejected::Fails(at) => Refused::at(25, at),
+            Rejected::Gap(at) => Refused::at(26, at),
+            Rejected::Witness(at) => Refused::at(27, at),
+        }
     }
 }
 
 // Why no paper was written.
-pub fn refused_name(answer: Named) -> Refused
-    ensures { result ≡ of_name answer }
-{
-    match answer {
-        Named::Paper(_, _) => Refused::Plain(0),
-        Named::Fewer(_, _) => Refused::Plain(11),
-        Named::Stopped(_) => Refused::Plain(9),
-        Named::Book(why) => refused_book(why),
-        Named::NotCertain => Refused::Plain(12),
-        Named::NotClear => Refused::Plain(18),
-        Named::NoAtom => Refused::Plain(13),
-        Named::HasReading => Refused::Plain(38),
-        Named::TooLong => Refused::Plain(14),
+impl From<Unwritten> for Refused {
+    ghost from_gives = { λ why it. it ≡ of_name (Err why) };
+
+    fn from(why: Unwritten) -> Refused {
+        match why {
+            Unwritten::Fewer(_, _) => Refused::plain(11),
+            Unwritten::Stopped(_) => Refused::plain(9),
+            Unwritten::Book(why) => Refused::from(why),
+            Unwritten::NotCertain => Refused::plain(12),
+            Unwritten::NotClear => Refused::plain(18),
+            Unwritten::NoAtom => Refused::plain(13),
+            Unwritten::HasReading => Refused::plain(38),
+            Unwritten::TooLong => Refused::plain(14),
+        }
     }
 }

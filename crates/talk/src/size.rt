@@ -1,16 +1,21 @@
 // How large a book is, as the lines of the programs tell it.
-ghost use Rattle.system.specs.Counts.{IsPrefixLen};
-
-use crate::line::{put_number, put_text};
+use crate::line::Line;
 use book::Shape;
 
 // `rules R atoms A`.
-pub fn put_size(shape: Shape, line: &mut [u8], held: usize) -> usize
-    requires { IsPrefixLen held line.old }
-    ensures { IsPrefixLen result line.new }
-{
-    let held = put_text(b"rules ", line, held);
-    let held = put_number(shape.rules as u64, line, held);
-    let held = put_text(b" atoms ", line, held);
-    put_number(shape.atoms as u64, line, held)
+pub fn put_size(shape: Shape, line: &mut Line) {
+    line.text(b"rules ");
+    line.number(shape.rules as u64);
+    line.text(b" atoms ");
+    line.number(shape.atoms as u64);
+}
+
+// Writes the size of a book behind a word, in a line.
+pub fn show_size(rt: &impl Print, word: &[u8], shape: Shape) {
+    let mut room = [0u8; 64];
+    let mut line = Line::new(&mut room);
+    line.text(word);
+    put_size(shape, &mut line);
+    line.text(b"\n");
+    line.print(rt);
 }

@@ -12,10 +12,9 @@ use Rattle.meaning.specs.Choice.{if_eq}
 use Rattle.meaning.specs.Told.{Told, success, refused_at, refused, Answered}
 use Rattle.meaning.specs.Written.{nothing}
 use Rattle.meaning.proofs.Choice.{lt_yes, lt_no, eq_yes, eq_no}
+use Rattle.std.specs.Prelude.{Result, Ok, Err}
 use Rattle.book.specs.declared.refusal.Refusal.{Refusal}
 use Rattle.book.specs.declared.reader.Shape.{Shape}
-use Rattle.book.specs.declared.reader.Read.{Read}
-use Rattle.book.specs.declared.reader.Read.TheVariants.{Good, Refused}
 use Rattle.book.specs.Numbers.{number_of, place_of, told as book_told}
 use Rattle.book.specs.Format.{read_of, told_of, book_of, book_in, ReadAs}
 use Rattle.book.proofs.Shapes.{told-good}
@@ -38,17 +37,17 @@ use Rattle.walk.proofs.Walking.{few}
 
 -- ---- the book
 
-module _ (s : List ℕ) {x : Read} (e : book_told x ≡ told_of (read_of s)) where
-  pub find-refused : (walk : Book → List Event) (k limit : ℕ) (answer : List ℕ) {f : Refusal} → x ≡ Refused f
+module _ (s : List ℕ) {x : Result Shape Refusal} (e : book_told x ≡ told_of (read_of s)) where
+  pub find-refused : (walk : Book → List Event) (k limit : ℕ) (answer : List ℕ) {f : Refusal} → x ≡ Err f
       → record { told = refused_at (number_of f) (place_of f); buffer = answer } ≡ find_by walk s k limit answer
   find-refused walk k limit answer f = sym (find-bad-book walk s k limit answer _ _ (read-bad s e f))
 
-  pub page-refused : (limit tries : ℕ) (row out : List ℕ) {f : Refusal} → x ≡ Refused f
+  pub page-refused : (limit tries : ℕ) (row out : List ℕ) {f : Refusal} → x ≡ Err f
       → record { told = refused_at (number_of f) (place_of f); buffer = out } ≡ page_of s limit tries row out
   unfolding page_of page_read
   page-refused limit tries row out f = sym (rw (read-bad s e f))
 
-  pub page-read : (limit tries : ℕ) (row out : List ℕ) {h : Shape} {p : Answered PageEnd} → x ≡ Good h
+  pub page-read : (limit tries : ℕ) (row out : List ℕ) {h : Shape} {p : Answered PageEnd} → x ≡ Ok h
       → p ≡ page_in (book_in s) limit tries row out → p ≡ page_of s limit tries row out
   unfolding page_of page_read book_in book_of
   page-read limit tries row out f g = g ∙ rw (told-good (read_of s) _ _ _ (read_as s e f))
@@ -131,9 +130,8 @@ module _ (s : List ℕ) (h : Shape) (e : ReadAs s h) (tries : ℕ) (out : List �
     room-is = f ∙ ap (λ (a : ℕ). if_eq a 0 1 (length out / a)) (sym (shape-atoms s h e))
 
     -- what the walk and resuming ask
-    pub page-room : h.rules < 256 → {c : Tables} → c ≡ nothing → ReadAs s h × Room (book_in s) 0 room start × Shallow (book_in s) c
+    pub page-room : h.rules < 256 → {c : Tables} → c ≡ nothing → Room (book_in s) 0 room start × Shallow (book_in s) c
     page-room n f = (
-      e,
       room-start (book_in s) 0 room tries out (rw room-is (room-some (book_in s) (length out) (rw (shape-atoms s h e) l)))
           (rw room-is (rooms-fit (book_in s) (length out))),
       shallow-start s h e n f,

@@ -147,6 +147,9 @@ pub descends-start : (b : Book) (x : Atoms) {c : Tables} → Shallow b c → c �
 descends-start b x h e = record { sized = rw e sized-nothing; shallow = h; leads = ap (λ (c : Tables). down b c x) (sym e) }
 
 module _ {b : Book} {x : Atoms} {c d : Tables} (k : Descends b x c) where
+  pub descends-closes : count b ≤ 255 → d ≡ close b c → Closes b c d
+  descends-closes few e = record { few = few; sized = k.sized; closed = e }
+
   pub descends-clash : Closes b c d → {r : RuleNo} → clashed b (pair d) ≡ one r → d ≡ down b nothing x
   descends-clash j t = sym (k.leads ∙ down-clash x j t)
 

@@ -4,11 +4,10 @@ use mathlib.Core.Path.{◌≡◌, refl, sym, ◌∙◌, ap, subst, fun_ext}
 use mathlib.Core.Logic.{⊎_elim}
 use mathlib.Core.List.{List, [], ◌∷◌, ◌++◌, Memᴰ}
 use Prim.Native.Nat.{ℕ, ◌+◌, ◌-◌, ◌≤◌, ◌<◌}
-use native.Mathlib.Nat.{zero-add, le_antisymm}
 use native.Mathlib.Omega.{arith}
 use lib.Dec.{eqb}
-use lib.ListN.{length, get_or, take, drop, set, replicate, get_or-append, get_or-eq_default, length-replicate, get_or-replicate}
-use lib.Seq.{paste, length-take-le, get_or-take, get_or-drop, get_or-append-add}
+use lib.ListN.{length, get_or, take, drop, replicate, get_or-append, get_or-eq_default, length-replicate, get_or-replicate}
+use lib.Seq.{length-take-le, get_or-drop, get_or-append-add}
 use Rattle.meaning.specs.Written.{Tables}
 use Rattle.meaning.specs.Books.{Atoms, Book, count}
 use Rattle.meaning.specs.Told.{Told, refused_at, refused, Answered}
@@ -16,12 +15,11 @@ use Rattle.meaning.specs.Buffers.{write_at}
 use Rattle.meaning.specs.Written.{nothing}
 use Rattle.meaning.proofs.Choice.{lt_yes, lt_no, lt-either, eq_yes, eq_no, eq-either}
 use Rattle.meaning.proofs.Tests.{lt-or-le, apart}
-use Rattle.meaning.proofs.Buffers.{write-turn, write_done, write-front}
+use Rattle.meaning.proofs.Buffers.{write-front}
 use Rattle.meaning.proofs.LeastModel.{Proper, Inside, answer-inside}
+use Rattle.std.specs.Prelude.{Result, Ok, Err}
 use Rattle.book.specs.declared.refusal.Refusal.{Refusal}
 use Rattle.book.specs.declared.reader.Shape.{Shape}
-use Rattle.book.specs.declared.reader.Read.{Read}
-use Rattle.book.specs.declared.reader.Read.TheVariants.{Good, Refused}
 use Rattle.book.specs.Numbers.{number_of, place_of, told as book_told}
 use Rattle.book.specs.Format.{read_of, told_of, book_of, book_in, ReadAs}
 use Rattle.book.proofs.Shapes.{told-good}
@@ -44,18 +42,12 @@ use Rattle.walk.proofs.Nodes.{node-sized, reading-node}
 use Rattle.walk.proofs.Descending.{reading-in, down-found}
 use Rattle.walk.proofs.Answering.{any-buffer}
 
--- ---- the bytes, one by one
+-- ---- the bytes
 
-module _ (levels out : List ℕ) (n : ℕ) (long : n ≤ length levels) where
-  pub levels-turn : {i v : ℕ} {w : List ℕ} → n ≤ length out → i < n → v ≡ get_or levels i 0 → w ≡ paste out 0 (take n levels) i
-      → set w i v ≡ paste out 0 (take n levels) (i + 1)
-  levels-turn {i} {v} {w} h k e f =
-      let m = length-take-le n levels long in
-      ap (λ (j : ℕ). set w j v) (sym (zero-add i))
-      ∙ write-turn 0 (take n levels) out (omega arith) (omega arith) (e ∙ sym (get_or-take n levels i 0 k)) f
-
-  pub levels-written : {i : ℕ} {w : List ℕ} → i ≤ n → n ≤ i → w ≡ paste out 0 (take n levels) i → w ≡ write_at 0 (take n levels) out
-  levels-written h k e = write_done 0 (take n levels) out (le_antisymm h k ∙ sym (length-take-le n levels long)) e
+pub levels-written : (levels out : List ℕ) (n : ℕ) → n ≤ length levels → {w : List ℕ} → w ≡ take n levels
+    → w ++ drop n out ≡ write_at 0 (take n levels) out
+levels-written levels out n long e =
+    rw e (sym (write-front (take n levels) out ∙ ap (λ (i : ℕ). take n levels ++ drop i out) (length-take-le n levels long)))
 
 -- ---- the ways of a call
 
@@ -102,13 +94,13 @@ module _ (s : List ℕ) (h : Shape) (e : ReadAs s h) (k limit : ℕ) (out : List
 
 -- ---- the book
 
-module _ (s : List ℕ) {x : Read} (e : book_told x ≡ told_of (read_of s)) (k limit : ℕ) (out : List ℕ) where
-  pub levels-refused : {f : Refusal} → x ≡ Refused f
+module _ (s : List ℕ) {x : Result Shape Refusal} (e : book_told x ≡ told_of (read_of s)) (k limit : ℕ) (out : List ℕ) where
+  pub levels-refused : {f : Refusal} → x ≡ Err f
       → record { told = refused_at (number_of f) (place_of f); buffer = out } ≡ levels_of s k limit out
   unfolding levels_of levels_read
   levels-refused f = sym (rw (read-bad s e f))
 
-  pub levels-read : {h : Shape} {p : Answered ℕ} → x ≡ Good h → p ≡ levels_in (book_in s) k limit out → p ≡ levels_of s k limit out
+  pub levels-read : {h : Shape} {p : Answered ℕ} → x ≡ Ok h → p ≡ levels_in (book_in s) k limit out → p ≡ levels_of s k limit out
   unfolding levels_of levels_read book_in book_of
   levels-read f g = g ∙ rw (told-good (read_of s) _ _ _ (read_as s e f))
 

@@ -1,12 +1,13 @@
 -- The bytes of a row (src/bytes.rt): each byte by its atom, the row written byte by byte over the buffer, and what is read from one.
-use mathlib.Core.Path.{◌≡◌, sym, ◌∙◌}
-use mathlib.Core.Bool.{Bool, false}
+use mathlib.Core.Path.{◌≡◌, refl, sym, ◌∙◌}
+use mathlib.Core.Bool.{Bool, true, false}
 use mathlib.Core.List.{List}
 use Prim.Native.Nat.{ℕ, ◌+◌, ◌≤◌, ◌<◌}
 use native.Mathlib.Nat.{zero-add, le_antisymm}
 use native.Mathlib.Omega.{arith}
 use lib.ListN.{length, get_or, set, get_or-eq_default}
 use lib.Seq.{paste}
+use mir.Val.{bool_byte}
 use Rattle.meaning.specs.declared.AtomNo.{AtomNo}
 use Rattle.meaning.specs.Choice.{ifb}
 use Rattle.book.specs.Tables.{atoms_in}
@@ -31,6 +32,12 @@ module _ (l : List Bool) (n at : ℕ) (out : List ℕ) where
 
   pub row_written : {a : ℕ} {w : List ℕ} → a ≤ n → n ≤ a → w ≡ paste out at (table_row n l) a → w ≡ write_at at (table_row n l) out
   row_written {a} h k e = write_done at (table_row n l) out (le_antisymm h k ∙ sym (row-from-length 0 n (atoms_in l))) e
+
+-- the byte of one atom
+pub byte-of : (inside : Bool) → bool_byte inside ≡ ifb inside 1 0
+unfolding ifb
+byte-of true = refl
+byte-of false = refl
 
 -- a byte past the row's end says no
 pub row-past : (row : List ℕ) (a : AtomNo) → length row ≤ a.0 → false ≡ set_in row a

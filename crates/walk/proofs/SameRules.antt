@@ -1,5 +1,5 @@
 -- When two sets hold the same rules of a book (src/search.rt): the rules of the book that are in the one are in the other, and back.
-use mathlib.Core.Path.{◌≡◌, sym, ◌∙◌, ap, fun_ext}
+use mathlib.Core.Path.{◌≡◌, sym, ◌∙◌, ap}
 use mathlib.Core.Bool.{Bool, true, false}
 use mathlib.Core.List.{List}
 use Prim.Native.Nat.{ℕ, ◌<◌}
@@ -11,7 +11,6 @@ use Rattle.meaning.specs.Choice.{agree}
 use Rattle.meaning.proofs.Tests.{both as both_true, and_left, and_right, implied as implied-by, implies, true-and-false, refuted, same}
 use Rattle.meaning.proofs.Sets.{below_at, below_all}
 use Rattle.meaning.proofs.Choice.{agree-yes, agree_same}
-use Rattle.meaning.proofs.Four.{members-small}
 
 module _ (rules : ℕ) (small : rules < 256) (all : List ℕ) (e : members all ≡ below rules) where
   -- the rules of the book that are in v are in w, asked as the code asks
@@ -44,10 +43,3 @@ module _ (rules : ℕ) (small : rules < 256) (all : List ℕ) (e : members all �
         → x ≡ every_below 256 (implied (members u) (members other)) → x ≡ true → y ≡ every_below 256 (implied (members v) (members one)) → y ≡ every_below rules agreeing
     rules-same v ev a t c = c ∙ same _ _ (λ k. below_all rules _ (λ i h.
         agree-yes (same _ _ (within-at u one other eu (sym a ∙ t) i h) (within-at v other one ev k i h)))) (back v ev)
-
--- two sets, each within the other
-pub same-members : (one other : List ℕ) {x y : Bool} → x ≡ every_below 256 (implied (members one) (members other)) → x ≡ true
-    → y ≡ every_below 256 (implied (members other) (members one)) → y ≡ true → members one ≡ members other
-same-members one other a t c u = fun_ext (λ i. same _ _
-    (λ m. implies (members one i) (members other i) (below_at 256 _ (sym a ∙ t) i (members-small one i m)) m)
-    (λ m. implies (members other i) (members one i) (below_at 256 _ (sym c ∙ u) i (members-small other i m)) m))

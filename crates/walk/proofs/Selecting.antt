@@ -15,20 +15,19 @@ use Rattle.meaning.specs.Books.{Atoms, Rule, Book, atom_no, rule, count}
 use Rattle.meaning.specs.Bits.{members}
 use Rattle.meaning.specs.Choice.{ifb}
 use Rattle.meaning.specs.Told.{Told, refused_at, refused}
-use Rattle.meaning.specs.Written.{Tables, nothing}
+use Rattle.meaning.specs.Written.{nothing}
 use Rattle.meaning.proofs.Tests.{decided, same}
 use Rattle.meaning.proofs.Choice.{b-yes, b-no, eq_yes, eq_no, lt_yes, lt_no}
 use Rattle.meaning.proofs.LeastModel.{Proper}
+use Rattle.std.specs.Prelude.{Result, Err}
 use Rattle.book.specs.declared.reader.Shape.{Shape}
-use Rattle.book.specs.declared.reader.Read.{Read}
-use Rattle.book.specs.declared.reader.Read.TheVariants.{Refused}
 use Rattle.book.specs.declared.refusal.Refusal.{Refusal}
 use Rattle.book.specs.Numbers.{number_of, place_of, told as book_told}
 use Rattle.book.specs.Format.{good, bad, read_of, told_of, book_of, book_in, ReadAs}
 use Rattle.book.proofs.Shapes.{told-good}
 use Rattle.book.proofs.Verdict.{read-bad}
 use Rattle.book.proofs.Places.{shape-atoms, in-shape, head-below}
-use Rattle.walk.specs.Events.{Event, events}
+use Rattle.walk.specs.Events.{events}
 use Rattle.walk.specs.Run.{Wanted, State, run}
 use Rattle.walk.specs.Find.{told_by, start_of, answered_by, find_along}
 use Rattle.walk.specs.Shown.{alike, shown_events}
@@ -87,21 +86,16 @@ module _ (b : Book) (fits : count b ≤ 255) (proper : Proper b) (shown mask : L
       ∙ sym (shown-counted b fits chosen-atoms))
       (decided every)
 
--- what the walk gave, from a colouring that is empty
-pub selected-run : (b : Book) (w : Wanted) (t : State) (p : Set Atoms) {c : Tables} {u : State} {es : List Event} → c ≡ nothing
-    → u ≡ run b w t (counted_by b p (events b c)) → counted_by b p (events b nothing) ≡ es → u ≡ run b w t es
-selected-run b w t p e f g = f ∙ ap (λ (d : Tables). run b w t (counted_by b p (events b d))) e ∙ ap (run b w t) g
-
 -- every head of a book that was read is one of its atoms
 read-proper : (s : List ℕ) (h : Shape) (e : ReadAs s h) → Proper (book_in s)
 read-proper s h e r k = omega (arith, shape-atoms s h e, head-below s h e r (in-shape s h e r k) (rule (book_in s) r).head refl)
 
 -- as the code lends it
 pub selected-all : (s : List ℕ) (h : Shape) → ReadAs s h → h.rules < 256 → (shown mask : List ℕ) → members mask ≡ in_list shown
-    → good_list h.atoms shown ≡ true → (w : Wanted) (t : State) {c : Tables} {u : State} → c ≡ nothing
-    → u ≡ run (book_in s) w t (counted_by (book_in s) (counts (eqb (length shown) h.atoms) (book_in s) (shown_in mask)) (events (book_in s) c))
+    → good_list h.atoms shown ≡ true → (w : Wanted) (t : State) {u : State}
+    → u ≡ run (book_in s) w t (counted_by (book_in s) (counts (eqb (length shown) h.atoms) (book_in s) (shown_in mask)) (events (book_in s) nothing))
     → u ≡ run (book_in s) w t (shown_events (book_in s) (map atom_no shown))
-selected-all s h e small shown mask em g w t ec eu = selected-run (book_in s) w t _ ec eu
+selected-all s h e small shown mask em g w t eu = eu ∙ ap (run (book_in s) w t)
     (selected-events (book_in s) (few s h e small) (read-proper s h e) shown mask em (ap (λ (n : ℕ). good_list n shown) (shape-atoms s h e) ∙ g)
     (eqb (length shown) h.atoms) (ap (eqb (length shown)) (sym (shape-atoms s h e))))
 
@@ -118,8 +112,8 @@ module _ (s : List ℕ) (k limit : ℕ) (shown answer : List ℕ) where
   unfolding find_shown_of find_shown_read book_in book_of
   shown-good-book n r index l e = rw e
 
-pub selected-refused : (s : List ℕ) {x : Read} → book_told x ≡ told_of (read_of s) → (k limit : ℕ) (shown answer : List ℕ) {f : Refusal}
-    → x ≡ Refused f → record { told = refused_at (number_of f) (place_of f); buffer = answer } ≡ find_shown_of s k limit shown answer
+pub selected-refused : (s : List ℕ) {x : Result Shape Refusal} → book_told x ≡ told_of (read_of s) → (k limit : ℕ) (shown answer : List ℕ) {f : Refusal}
+    → x ≡ Err f → record { told = refused_at (number_of f) (place_of f); buffer = answer } ≡ find_shown_of s k limit shown answer
 selected-refused s e k limit shown answer f = sym (shown-bad-book s k limit shown answer _ _ (read-bad s e f))
 
 module _ (s : List ℕ) (h : Shape) (e : ReadAs s h) (k limit : ℕ) (shown answer : List ℕ) where

@@ -2,11 +2,12 @@
 -- contradiction goes over to the tally with the rule told, and a contradiction's origin leads to its rule.
 use mathlib.Core.Path.{◌≡◌, refl, sym, ◌∙◌, ap}
 use mathlib.Core.Logic.{⊎_elim, ◌↔◌}
-use mathlib.Core.Bool.{true}
+use mathlib.Core.Bool.{Bool, true, false}
 use mathlib.Core.List.{List}
 use Prim.Native.Nat.{ℕ, ◌+◌, ◌≤◌, ◌<◌}
 use native.Mathlib.Omega.{arith}
 use lib.ListN.{length}
+use Rattle.std.specs.Prelude.{Option, Some, None, is_some}
 use Rattle.meaning.specs.declared.RuleNo.{RuleNo}
 use Rattle.meaning.specs.Sets.{Set}
 use Rattle.meaning.specs.Books.{Atoms, Book, rule_no, count}
@@ -15,14 +16,12 @@ use Rattle.meaning.specs.Choice.{if_lt}
 use Rattle.meaning.specs.Written.{Tables, nothing, coloured, lent, pair}
 use Rattle.meaning.specs.Computed.{close}
 use Rattle.meaning.specs.Lowest.{Pick, none, one, on_pick, clashed}
-use Rattle.meaning.proofs.Tests.{lt-or-le}
+use Rattle.meaning.proofs.Tests.{lt-or-le, true-and-false}
 use Rattle.meaning.proofs.Choice.{lt_yes, lt_no, eq_yes, eq_no}
 use Rattle.meaning.proofs.Written.{Sized}
 use Rattle.book.specs.RuleRows.{row}
 use Rattle.closing.specs.Ended.{Ends}
 use Rattle.closing.specs.Picked.{picked}
-use Rattle.closing.specs.declared.clash.Picked.{Picked}
-use Rattle.closing.specs.declared.clash.Picked.TheVariants.{Nothing, Rule}
 use Rattle.closing.proofs.Leaving.{ends-calm, ends-clash, ends-origin}
 use Rattle.walk.specs.Events.{Event, events}
 use Rattle.walk.specs.Run.{Wanted, State, reading_met, run}
@@ -73,16 +72,16 @@ module _ (b : Book) (w : List ℕ) where
   pub told_none : (t : Tally) → t.clash.0 ≡ 255 → t ≡ told_clash b w t
   told_none t e = λ i. record { tries = t.tries; sets = t.sets; clash = sym (clash-none t.clash e) i; halt = t.halt }
 
-  module _ (t : Tally) (n : t.clash.0 ≡ 255 → ⊥) {c : Tables} (k : c ≡ origin_in w) (v : Picked) (e : picked v ≡ clashed b (pair (close b c))) where
+  module _ (t : Tally) (n : t.clash.0 ≡ 255 → ⊥) {c : Tables} (k : c ≡ origin_in w) (v : Option RuleNo) (e : picked v ≡ clashed b (pair (close b c))) where
     found : clashed b (pair (close b (origin_in w))) ≡ picked v
     found = sym (e ∙ ap (λ (x : Tables). clashed b (pair (close b x))) k)
 
-    pub told-still : v ≡ Nothing → t ≡ told_clash b w t
+    pub told-still : v ≡ None → t ≡ told_clash b w t
     unfolding on_pick
     told-still z =
         let e = sym (clash-some t.clash n (found ∙ ap picked z)) in λ i. record { tries = t.tries; sets = t.sets; clash = e i; halt = t.halt }
 
-    pub told-rule : {r : RuleNo} → v ≡ Rule r → record { tries = t.tries; sets = t.sets; clash = r; halt = t.halt } ≡ told_clash b w t
+    pub told-rule : {r : RuleNo} → v ≡ Some r → record { tries = t.tries; sets = t.sets; clash = r; halt = t.halt } ≡ told_clash b w t
     unfolding on_pick
     told-rule z =
         let e = sym (clash-some t.clash n (found ∙ ap picked z)) in λ i. record { tries = t.tries; sets = t.sets; clash = e i; halt = t.halt }
@@ -125,18 +124,27 @@ module _ (b : Book) (w : List ℕ) where
 
 -- ---- what a closing says that may be left
 
-module _ {b : Book} {c d : Tables} (few : count b ≤ 255) (long : Sized c) {v : Picked} (k : Ends b true c d (picked v)) where
-  pub closes-calm : v ≡ Nothing → Closes b c d × (clashed b (pair d) ≡ none)
-  closes-calm e =
-      let (q, f) = ends-calm k (ap picked e) in
-      let z : Closes b c d = record { few = few; sized = long; closed = q } in
-      (z, clash-told z f e)
+-- whether there is a rule
+pub no-rule : {told : Bool} (v : Option RuleNo) → told ≡ is_some v → told ≡ false → v ≡ None
+no-rule None e f = refl
+no-rule (Some r) e f = true-and-false e f
 
-  pub closes-clash : {r : RuleNo} → v ≡ Rule r → Closes b c (close b c) × (q : RuleNo) × (clashed b (pair (close b c)) ≡ one q)
-  closes-clash e = let (q, m) = ends-clash k (ap picked e) in (record { few = few; sized = long; closed = refl }, q, m)
+pub some-rule : {told : Bool} (v : Option RuleNo) → told ≡ is_some v → told ≡ true → (r : RuleNo) × (v ≡ Some r)
+some-rule None e f = true-and-false f e
+some-rule (Some r) e f = (r, refl)
+
+module _ {b : Book} {c d : Tables} (few : count b ≤ 255) (long : Sized c) (v : Option RuleNo) (k : Ends b true c d (picked v)) {told : Bool} (t : told ≡ is_some v) where
+  pub closes-calm : told ≡ false → Closes b c d × (clashed b (pair d) ≡ none)
+  closes-calm e =
+      let (q, f) = ends-calm k (ap picked (no-rule v t e)) in
+      let z : Closes b c d = record { few = few; sized = long; closed = q } in
+      (z, clash-told z f (no-rule v t e))
+
+  pub closes-clash : told ≡ true → Closes b c (close b c) × (q : RuleNo) × (clashed b (pair (close b c)) ≡ one q)
+  closes-clash e = let (q, m) = ends-clash k (ap picked (some-rule v t e).1) in (record { few = few; sized = long; closed = refl }, q, m)
 
   -- the walk meets it: the origin that is kept leads to its rule
-  pub walk-left : (p : Set Atoms) (w : Wanted) (s : State) → s.tally.halt ≡ Going → s.tally.tries < w.limit → {r : RuleNo} → v ≡ Rule r
+  pub walk-left : (p : Set Atoms) (w : Wanted) (s : State) → s.tally.halt ≡ Going → s.tally.tries < w.limit → told ≡ true
       → (on off origin : List ℕ) → pair d ≡ lent (listed on) (listed off) → origin_in origin ≡ coloured (listed on) (listed off)
       → {t : Tally} → t ≡ record { tries = s.tally.tries + 1; sets = s.tally.sets; clash = rule_no 0; halt = Going }
       → record { tally = told_clash b origin t; out = s.out } ≡ run b w s (counted_by b p (events b c))

@@ -7,6 +7,7 @@ use mathlib.Core.List.{List, [], ◌∷◌, ◌++◌}
 use Prim.Native.Nat.{ℕ, ◌+◌, ◌≤◌, ◌<◌}
 use native.Mathlib.Omega.{arith}
 use lib.ListN.{length}
+use Rattle.std.specs.Prelude.{Option, Some}
 use Rattle.meaning.specs.declared.RuleNo.{RuleNo}
 use Rattle.meaning.specs.Written.{Tables}
 use Rattle.meaning.specs.Sets.{Set}
@@ -33,8 +34,6 @@ use Rattle.walk.specs.Room.{Room}
 use Rattle.walk.specs.Readings.{reading_of}
 use Rattle.walk.specs.FirstAlike.{counted_by}
 use Rattle.closing.specs.Picked.{picked}
-use Rattle.closing.specs.declared.clash.Picked.{Picked}
-use Rattle.closing.specs.declared.clash.Picked.TheVariants.{Rule}
 use Rattle.walk.specs.declared.tally.Halt.{Halt}
 use Rattle.walk.specs.declared.tally.Halt.TheVariants.{Going, Full, Limit}
 use Rattle.walk.specs.declared.tally.Tally.{Tally}
@@ -72,16 +71,16 @@ module _ (s : List ℕ) (h : Shape) (e : ReadAs s h) where
   pub few : h.rules < 256 → count (book_in s) ≤ 255
   few n = omega (arith, shape-count s h e)
 
-  pub lowest-told : (on off : List Bool) {v w : Picked} → picked v ≡ lowest_from 0 h.rules (uncoloured (lent on off)) → v ≡ w
+  pub lowest-told : (on off : List Bool) {v w : Option RuleNo} → picked v ≡ lowest_from 0 h.rules (uncoloured (lent on off)) → v ≡ w
       → lowest (book_in s) (uncoloured (lent on off)) ≡ picked w
   lowest-told on off f g = sym (lowest-in (book_in s) (shape-count s h e) _ f) ∙ ap picked g
 
-  pub forks-told : {c d : Tables} {p : Picked} {r : RuleNo} → Closes (book_in s) c d → clashed (book_in s) (pair d) ≡ none
-      → picked p ≡ lowest_from 0 h.rules (uncoloured (pair d)) → p ≡ Rule r → Forks (book_in s) c d r
+  pub forks-told : {c d : Tables} {p : Option RuleNo} {r : RuleNo} → Closes (book_in s) c d → clashed (book_in s) (pair d) ≡ none
+      → picked p ≡ lowest_from 0 h.rules (uncoloured (pair d)) → p ≡ Some r → Forks (book_in s) c d r
   forks-told k t q m = record { closes = k; calm = t; choice = lowest-told _ _ q m }
 
 -- what a closing told of its contradiction, of the colouring that it gave
-pub clash-told : {b : Book} {c d : Tables} {v w : Picked} → Closes b c d → picked v ≡ clashed b (pair (close b c)) → v ≡ w
+pub clash-told : {b : Book} {c d : Tables} {v w : Option RuleNo} → Closes b c d → picked v ≡ clashed b (pair (close b c)) → v ≡ w
     → clashed b (pair d) ≡ picked w
 clash-told k f g = rw k.closed (sym f ∙ ap picked g)
 

@@ -7,7 +7,7 @@
 --                    events a book has
 --   find_of book k limit answer   the same along the fixed walk
 --   first_walk b limit            the walk to answer set 1, for whoever needs no more than that there is one
-use Rattle.std.specs.Prelude.{List, ℕ, ◌-◌, length, replicate}
+use Rattle.std.specs.Prelude.{List, ℕ, ◌-◌, length, replicate, Result, Ok, Err}
 use Rattle.meaning.specs.Books.{rule_no, Book}
 use Rattle.meaning.specs.Written.{nothing}
 use Rattle.meaning.specs.Choice.{if_lt, if_eq}
@@ -18,21 +18,21 @@ use Rattle.walk.specs.Events.{Event, events}
 use Rattle.walk.specs.Run.{State, run}
 use Rattle.walk.specs.declared.tally.Halt.{Halt}
 use Rattle.walk.specs.declared.tally.Halt.TheVariants.{Going, Full, Limit}
-use Rattle.walk.specs.declared.kth.Found.{Found}
-use Rattle.walk.specs.declared.kth.Found.TheVariants.{Set, Fewer, Stopped, Book as BadBook, NoRoom, NoNumber, NoList}
+use Rattle.walk.specs.declared.kth.Unfound.{Unfound}
+use Rattle.walk.specs.declared.kth.Unfound.TheVariants.{Fewer, Stopped, Book as BadBook, NoRoom, NoNumber, NoList}
 
 -- success tells the tries
 abbrev pub set : ℕ → Told ℕ
 set tries = success tries
 
-abbrev pub told : Found → Told ℕ
-told (Set tries) = set tries
-told (Fewer tries sets rule) = fewer tries sets rule.0
-told (Stopped limit) = stopped limit
-told (BadBook f) = refused_at (number_of f) (place_of f)
-told NoRoom = refused 8
-told NoNumber = refused 15
-told NoList = refused 16
+abbrev pub told : Result ℕ Unfound → Told ℕ
+told (Ok tries) = set tries
+told (Err (Fewer tries sets rule)) = fewer tries sets rule.0
+told (Err (Stopped limit)) = stopped limit
+told (Err (BadBook f)) = refused_at (number_of f) (place_of f)
+told (Err NoRoom) = refused 8
+told (Err NoNumber) = refused 15
+told (Err NoList) = refused 16
 
 -- so many tries were made before, and none was contradictory as far as the way knows
 abbrev pub start_at : ℕ → List ℕ → State

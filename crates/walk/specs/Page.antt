@@ -7,7 +7,7 @@
 --   events_from b tries x  all events at the start, when no try was made; later those after the reading x
 --   page_of book limit tries last out   the answer and the buffer: of the bytes of the book, the limit, the tries made so far, the last row
 --                         of the page before, and the bytes of the buffer
-use Rattle.std.specs.Prelude.{List, ℕ, zero, suc, ◌/◌, eqb, length, get_or}
+use Rattle.std.specs.Prelude.{List, ℕ, zero, suc, ◌/◌, eqb, length, get_or, Result, Ok, Err}
 use Rattle.meaning.specs.Books.{Atoms, Book}
 use Rattle.meaning.specs.Written.{nothing}
 use Rattle.meaning.specs.Choice.{if_lt, if_eq}
@@ -20,7 +20,9 @@ use Rattle.walk.specs.Find.{start_at}
 use Rattle.walk.specs.declared.tally.Halt.{Halt}
 use Rattle.walk.specs.declared.tally.Halt.TheVariants.{Going, Full, Limit}
 use Rattle.walk.specs.declared.page_answer.Page.{Page}
-use Rattle.walk.specs.declared.page_answer.Page.TheVariants.{Whole, Last, Cut, Book as BadBook, NoRoom}
+use Rattle.walk.specs.declared.page_answer.Page.TheVariants.{Whole, Last, Cut}
+use Rattle.walk.specs.declared.page_answer.NoPage.{NoPage}
+use Rattle.walk.specs.declared.page_answer.NoPage.TheVariants.{Book as BadBook, NoRoom}
 
 -- success tells how the page ended: it is full, and all tries so far; it is the last one, all tries and its rows; or the limit cut it, and
 -- its rows
@@ -29,12 +31,12 @@ pub data PageEnd : Type 0 where
   last : ℕ → ℕ → PageEnd
   cut : ℕ → PageEnd
 
-abbrev pub told : Page → Told PageEnd
-told (Whole tries) = success (whole tries)
-told (Last tries rows) = success (last tries rows)
-told (Cut rows) = success (cut rows)
-told (BadBook f) = refused_at (number_of f) (place_of f)
-told NoRoom = refused 8
+abbrev pub told : Result Page NoPage → Told PageEnd
+told (Ok (Whole tries)) = success (whole tries)
+told (Ok (Last tries rows)) = success (last tries rows)
+told (Ok (Cut rows)) = success (cut rows)
+told (Err (BadBook f)) = refused_at (number_of f) (place_of f)
+told (Err NoRoom) = refused 8
 
 unfoldable pub set_in : List ℕ → Atoms
 set_in row a = eqb (get_or row a.0 0) 1

@@ -13,6 +13,7 @@ use Rattle.meaning.specs.Buffers.{write_at}
 use Rattle.walk.specs.Events.{Event, clash, fork, reading, quiet}
 use Rattle.walk.specs.Readings.{reading_of}
 use Rattle.walk.specs.declared.tally.Tally.{Tally}
+pub use Rattle.walk.specs.declared.wanted.Wanted.{Wanted}
 use Rattle.walk.specs.declared.tally.Halt.{Halt}
 use Rattle.walk.specs.declared.tally.Halt.TheVariants.{Going, Full, Limit}
 
@@ -23,11 +24,6 @@ row_from i (suc n) x = ifb (x (atom_no i)) 1 0 ∷ row_from (suc i) n x
 
 unfoldable pub row_of : Book → Atoms → List ℕ
 row_of b x = row_from 0 b.atoms x
-
-pub record Wanted : Type 0 where
-  pub pass : ℕ
-  pub room : ℕ
-  pub limit : ℕ
 
 pub record State : Type 0 where
   pub tally : Tally

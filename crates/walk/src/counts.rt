@@ -4,8 +4,7 @@ ghost use Rattle.meaning.specs.Bits.{members, listed};
 ghost use Rattle.meaning.specs.Choice.{ifb};
 ghost use Rattle.meaning.specs.Colours.{heads};
 ghost use Rattle.meaning.specs.Written.{of};
-ghost use Rattle.book.specs.Format.{book_in, ReadAs};
-ghost use Rattle.book.specs.RuleRows.{RuleRows};
+ghost use Rattle.book.specs.ReadBook.{the_book};
 ghost use Rattle.walk.specs.FirstAlike.{fresh, counts};
 ghost use Rattle.walk.specs.Search.{shown_in, part_of, Generated, Kept, Remembers};
 
@@ -13,84 +12,59 @@ use crate::memory::{find_part, keep, words_at};
 use crate::part::{rules_with, shown_part};
 use crate::search::{first_alike, same_rules};
 use crate::verdict::Verdict;
-use book::Shape;
+use book::RowedBook;
 use closing::Choice;
-use meaning::{Bits, Colouring, whole};
+use meaning::{Bits, Colouring};
 
 // The reading whose generating rules are `on` is the first of those that match it: found by a search
 // that starts with every rule off whose head is a shown atom outside the reading.
-fn is_first(
-    book: &[u8],
-    shape: Shape,
-    rows: &[u64; 3072],
-    on: Bits,
-    mask: &[u64; 4],
-    part: Bits,
-) -> bool
-    requires { ReadAs book.now shape × RuleRows (book_in book.now) rows.now
-        × Generated (book_in book.now) (listed on.w)
-        × (members part.w ≡ part_of rows.now mask.now on.w) }
-    ensures { result ≡ fresh (book_in book.now) (shown_in mask.now)
-        (heads (book_in book.now) (of (listed on.w))) }
+fn is_first(rowed: &RowedBook, on: Bits, mask: &Bits, part: Bits) -> bool
+    requires { Generated (the_book rowed.now.book) (listed on.w)
+        × (members part.w ≡ part_of rowed.now.rows mask.now.w on.w) }
+    ensures { result ≡ fresh (the_book rowed.now.book) (shown_in mask.now.w)
+        (heads (the_book rowed.now.book) (of (listed on.w))) }
 {
-    let outside = whole(mask).difference(part);
-    let w = outside.w;
-    let off = rules_with(rows, &w);
-    let mut c = Colouring::empty();
-    c.off = off;
-    let inside = part.w;
-    let verdict = first_alike(book, shape, rows, c, Choice::Nothing, &inside, on);
-    let Verdict::This = verdict else {
-        return false;
+    let outside = mask.difference(part);
+    let c = Colouring {
+        off: rules_with(rowed, &outside),
+        ..Colouring::empty()
     };
-    true
+    let verdict = first_alike(rowed, c, Choice::Nothing, &part, on);
+    matches!(verdict, Verdict::This)
 }
 
 // The same, asked first of the memory, of which the first n rows are in use.
 fn is_first_known(
-    book: &[u8],
-    shape: Shape,
-    rows: &[u64; 3072],
+    rowed: &RowedBook,
     on: Bits,
-    mask: &[u64; 4],
+    mask: &Bits,
     part: Bits,
     n: usize,
     seen: &[u64],
 ) -> bool
-    requires { ReadAs book.now shape × RuleRows (book_in book.now) rows.now
-        × Generated (book_in book.now) (listed on.w)
-        × (members part.w ≡ part_of rows.now mask.now on.w)
-        × Kept (book_in book.now) (shown_in mask.now) seen.now n }
-    ensures { result ≡ fresh (book_in book.now) (shown_in mask.now)
-        (heads (book_in book.now) (of (listed on.w))) }
+    requires { Generated (the_book rowed.now.book) (listed on.w)
+        × (members part.w ≡ part_of rowed.now.rows mask.now.w on.w)
+        × Kept (the_book rowed.now.book) (shown_in mask.now.w) seen.now n }
+    ensures { result ≡ fresh (the_book rowed.now.book) (shown_in mask.now.w)
+        (heads (the_book rowed.now.book) (of (listed on.w))) }
 {
-    let k = find_part(seen, n, part);
-    if k < n {
-        return same_rules(shape.rules, on, words_at(seen, k * 2 + 1));
+    match find_part(seen, n, part) {
+        Some(k) => same_rules(rowed.book.shape.rules, on, words_at(seen, k * 2 + 1)),
+        None => is_first(rowed, on, mask, part),
     }
-    is_first(book, shape, rows, on, mask, part)
 }
 
 // The same, and a reading that counts is remembered as the next row.
-pub fn is_new(
-    book: &[u8],
-    shape: Shape,
-    rows: &[u64; 3072],
-    on: Bits,
-    mask: &[u64; 4],
-    n: u32,
-    seen: &mut [u64],
-) -> bool
-    requires { ReadAs book.now shape × RuleRows (book_in book.now) rows.now
-        × Generated (book_in book.now) (listed on.w)
-        × Kept (book_in book.now) (shown_in mask.now) seen.old n }
-    ensures { (result ≡ fresh (book_in book.now) (shown_in mask.now)
-        (heads (book_in book.now) (of (listed on.w))))
-        × Kept (book_in book.now) (shown_in mask.now) seen.new
+pub fn is_new(rowed: &RowedBook, on: Bits, mask: &Bits, n: u32, seen: &mut [u64]) -> bool
+    requires { Generated (the_book rowed.now.book) (listed on.w)
+        × Kept (the_book rowed.now.book) (shown_in mask.now.w) seen.old n }
+    ensures { (result ≡ fresh (the_book rowed.now.book) (shown_in mask.now.w)
+        (heads (the_book rowed.now.book) (of (listed on.w))))
+        × Kept (the_book rowed.now.book) (shown_in mask.now.w) seen.new
         (ifb result (n + 1) n) }
 {
-    let part = shown_part(rows, mask, on);
-    if !is_first_known(book, shape, rows, on, mask, part, n as usize, seen) {
+    let part = shown_part(rowed, mask, on);
+    if !is_first_known(rowed, on, mask, part, n as usize, seen) {
         return false;
     }
     keep(seen, n as usize, part, on);
@@ -99,25 +73,19 @@ pub fn is_new(
 
 // The same where every reading may count, as one is told.
 pub fn does_count(
-    book: &[u8],
-    shape: Shape,
-    rows: &[u64; 3072],
+    rowed: &RowedBook,
     on: Bits,
     every: bool,
-    mask: &[u64; 4],
+    mask: &Bits,
     n: u32,
     seen: &mut [u64],
 ) -> bool
-    requires { ReadAs book.now shape × RuleRows (book_in book.now) rows.now
-        × Generated (book_in book.now) (listed on.w)
-        × Remembers every (book_in book.now) (shown_in mask.now) seen.old n }
-    ensures { (result ≡ counts every (book_in book.now) (shown_in mask.now)
-        (heads (book_in book.now) (of (listed on.w))))
-        × Remembers every (book_in book.now) (shown_in mask.now) seen.new
+    requires { Generated (the_book rowed.now.book) (listed on.w)
+        × Remembers every (the_book rowed.now.book) (shown_in mask.now.w) seen.old n }
+    ensures { (result ≡ counts every (the_book rowed.now.book) (shown_in mask.now.w)
+        (heads (the_book rowed.now.book) (of (listed on.w))))
+        × Remembers every (the_book rowed.now.book) (shown_in mask.now.w) seen.new
         (ifb result (n + 1) n) }
 {
-    if every {
-        return true;
-    }
-    is_new(book, shape, rows, on, mask, n, seen)
+    every || is_new(rowed, on, mask, n, seen)
 }

@@ -20,13 +20,15 @@ mod selected;
 mod tally;
 mod verdict;
 mod walk;
+mod wanted;
 
 pub use colours::lowest_uncoloured;
 pub use descent::levels;
-pub use kth::{Found, find, first, tell};
+pub use kth::{Unfound, find, first, tell};
 pub use met::meet;
-pub use page_answer::Page;
+pub use page_answer::{NoPage, Page};
 pub use pages::page;
 pub use resume::generates;
 pub use selected::find_shown;
 pub use tally::{Halt, Tally};
+pub use wanted::Wanted;

@@ -4,24 +4,21 @@ ghost use Rattle.meaning.specs.Bits.{members};
 ghost use Rattle.walk.specs.FindShown.{good_list};
 ghost use Rattle.walk.specs.Search.{in_list};
 
-use meaning::{Bits, put};
+use meaning::Bits;
 
 // The list is strictly ascending, and each of its bytes is below the number of atoms.
 pub fn is_good_list(list: &[u8], atoms: u8) -> bool
     ensures { result ≡ good_list atoms list.now }
 {
     let mut least: u8 = 0;
-    let mut i = 0;
-    while i < list.len() {
-        let n = list[i];
-        if atoms <= n {
+    for n in list {
+        if atoms <= *n {
             return false;
         }
-        if n < least {
+        if *n < least {
             return false;
         }
-        least = n + 1;
-        i += 1;
+        least = *n + 1;
     }
     true
 }
@@ -30,11 +27,9 @@ pub fn is_good_list(list: &[u8], atoms: u8) -> bool
 pub fn mask_of(list: &[u8]) -> Bits
     ensures { members result.w ≡ in_list list.now }
 {
-    let mut mask = [0u64; 4];
-    let mut i = 0;
-    while i < list.len() {
-        put(&mut mask, list[i]);
-        i += 1;
+    let mut mask = Bits::EMPTY;
+    for a in list {
+        mask.put(*a);
     }
-    Bits { w: mask }
+    mask
 }

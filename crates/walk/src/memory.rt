@@ -1,7 +1,7 @@
 // Readings that were found to count, so that a later one that matches needs no search. A row has
 // eight words: the shown atoms of the reading, and the rules that generate it. What was forgotten for
 // want of room is searched for again.
-ghost use Rattle.std.specs.Prelude.{◌≡◌, true, ◌+◌, ◌*◌, ◌/◌, ◌≤◌, ◌<◌, length};
+ghost use Rattle.std.specs.Prelude.{◌≡◌, ◌+◌, ◌*◌, ◌/◌, ◌≤◌, ◌<◌, length, IfSome};
 ghost use Rattle.meaning.specs.Bits.{members};
 ghost use Rattle.book.specs.RuleRows.{row};
 ghost use Rattle.walk.specs.Memory.{stored, kept_at};
@@ -19,32 +19,12 @@ pub fn words_at(seen: &[u64], k: usize) -> Bits
     }
 }
 
-// Both sets have the same members.
-fn is_same(one: Bits, other: Bits) -> bool
-    ensures { result ≡ true → members one.w ≡ members other.w }
+// Which of the first n rows has the shown atoms `part`, if one is known to.
+pub fn find_part(seen: &[u64], n: usize, part: Bits) -> Option<usize>
+    ensures { IfSome result (λ k. (k < n) × (k < length seen.now / 8)
+        × (members (row seen.now (k * 2)) ≡ members part.w)) }
 {
-    if !one.is_within(other) {
-        return false;
-    }
-    other.is_within(one)
-}
-
-// Which of the first n rows has the shown atoms `part`; n if none is known to.
-pub fn find_part(seen: &[u64], n: usize, part: Bits) -> usize
-    ensures { result < n → (result < length seen.now / 8)
-        × (members (row seen.now (result * 2)) ≡ members part.w) }
-{
-    let mut k = 0;
-    while k < n {
-        if seen.len() / 8 <= k {
-            return n;
-        }
-        if is_same(words_at(seen, k * 2), part) {
-            return k;
-        }
-        k += 1;
-    }
-    n
+    (0..n.min(seen.len() / 8)).find(|k| words_at(seen, *k * 2).w == part.w)
 }
 
 // Writes half row k.

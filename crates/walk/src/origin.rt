@@ -2,14 +2,13 @@
 ghost use Rattle.std.specs.Prelude.{◌≡◌};
 ghost use Rattle.meaning.specs.Bits.{listed};
 ghost use Rattle.meaning.specs.Written.{coloured};
-ghost use Rattle.book.specs.Format.{book_in, ReadAs};
-ghost use Rattle.book.specs.RuleRows.{RuleRows};
+ghost use Rattle.book.specs.ReadBook.{the_book};
 ghost use Rattle.walk.specs.Origin.{origin_in, told_clash};
 
 use crate::memory::{keep, words_at};
 use crate::tally::Tally;
-use book::Shape;
-use closing::{Picked, close};
+use book::RowedBook;
+use closing::close;
 use meaning::{Bits, Colouring};
 
 // Keeps the two sets over those of the try before.
@@ -21,33 +20,20 @@ pub fn keep_origin(on: Bits, off: Bits, origin: &mut [u64; 8])
 
 // The tally with the rule of the last contradictory try, if there was one: the one closing of a walk
 // that goes on to its end after a contradiction.
-pub fn tell_clash(
-    book: &[u8],
-    shape: Shape,
-    rows: &[u64; 3072],
-    origin: &[u64; 8],
-    t: Tally,
-) -> Tally
-    requires { ReadAs book.now shape × RuleRows (book_in book.now) rows.now }
-    ensures { result ≡ told_clash (book_in book.now) origin.now t }
+pub fn tell_clash(rowed: &RowedBook, origin: &[u64; 8], t: Tally) -> Tally
+    ensures { result ≡ told_clash (the_book rowed.now.book) origin.now t }
 {
-    let rule = t.clash;
-    if rule.0 == 255 {
+    if t.clash.0 == 255 {
         return t;
     }
-    let mut c = Colouring::empty();
-    c.on = words_at(origin, 0);
-    c.off = words_at(origin, 1);
-    let closed = close(book, shape, rows, c);
-    let clash = closed.clash;
-    let Picked::Rule(r) = clash else {
+    let c = Colouring {
+        on: words_at(origin, 0),
+        off: words_at(origin, 1),
+        ..Colouring::empty()
+    };
+    let closed = close(rowed, c);
+    let Some(r) = closed.clash else {
         return t;
     };
-    let halt = t.halt;
-    Tally {
-        tries: t.tries,
-        sets: t.sets,
-        clash: r,
-        halt,
-    }
+    Tally { clash: r, ..t }
 }

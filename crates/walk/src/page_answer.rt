@@ -1,4 +1,7 @@
 // What a call for the next page of a listing answers.
+ghost use Rattle.std.specs.Prelude.{◌≡◌};
+ghost use Rattle.walk.specs.declared.page_answer.NoPage.TheVariants.{Book};
+
 use book::Refusal;
 
 #[derive(Clone, Copy)]
@@ -9,8 +12,21 @@ pub enum Page {
     Last(u32, u32),
     // One more try would pass the limit: so many rows stand in the buffer.
     Cut(u32),
+}
+
+// Why there is no page.
+#[derive(Clone, Copy)]
+pub enum NoPage {
     // 1 to 7: the book is refused.
     Book(Refusal),
     // 8: the buffer has fewer bytes than the book has atoms.
     NoRoom,
+}
+
+impl From<Refusal> for NoPage {
+    ghost from_gives = { λ why r. r ≡ Book why };
+
+    fn from(why: Refusal) -> NoPage {
+        NoPage::Book(why)
+    }
 }

@@ -4,48 +4,48 @@ ghost use Rattle.std.specs.Prelude.{◌≡◌};
 ghost use Rattle.meaning.specs.Bits.{members};
 ghost use Rattle.walk.specs.Search.{part_of, with_heads, lost_in};
 
-use book::head_row;
-use meaning::{AtomNo, Bits, join, next_in, put};
+use book::RowedBook;
+use meaning::{AtomNo, Bits};
 
 // Of the atoms in the mask, those that are heads of on rules.
-pub fn shown_part(rows: &[u64; 3072], mask: &[u64; 4], on: Bits) -> Bits
-    ensures { members result.w ≡ part_of rows.now mask.now on.w }
+pub fn shown_part(rowed: &RowedBook, mask: &Bits, on: Bits) -> Bits
+    ensures { members result.w ≡ part_of rowed.now.rows mask.now.w on.w }
 {
-    let mut part = [0u64; 4];
-    let mut i = next_in(mask, 0);
+    let mut part = Bits::EMPTY;
+    let mut i = mask.next_in(0);
     while i < 256 {
         let a = i as u8;
-        if head_row(rows, AtomNo(a)).meets(on) {
-            put(&mut part, a);
+        if rowed.head_row(AtomNo(a)).meets(on) {
+            part.put(a);
         }
-        i = next_in(mask, i + 1);
+        i = mask.next_in(i + 1);
     }
-    Bits { w: part }
+    part
 }
 
 // The rules whose head is one of the atoms.
-pub fn rules_with(rows: &[u64; 3072], atoms: &[u64; 4]) -> Bits
-    ensures { members result.w ≡ with_heads rows.now atoms.now }
+pub fn rules_with(rowed: &RowedBook, atoms: &Bits) -> Bits
+    ensures { members result.w ≡ with_heads rowed.now.rows atoms.now.w }
 {
     let mut all = Bits::EMPTY;
-    let mut i = next_in(atoms, 0);
+    let mut i = atoms.next_in(0);
     while i < 256 {
-        all = all.union(head_row(rows, AtomNo(i as u8)));
-        i = next_in(atoms, i + 1);
+        all = all.union(rowed.head_row(AtomNo(i as u8)));
+        i = atoms.next_in(i + 1);
     }
     all
 }
 
 // Some of the atoms has all its rules off.
-pub fn is_lost_in(rows: &[u64; 3072], atoms: &[u64; 4], off: Bits) -> bool
-    ensures { result ≡ lost_in rows.now atoms.now off.w }
+pub fn is_lost_in(rowed: &RowedBook, atoms: &Bits, off: Bits) -> bool
+    ensures { result ≡ lost_in rowed.now.rows atoms.now.w off.w }
 {
-    let mut i = next_in(atoms, 0);
+    let mut i = atoms.next_in(0);
     while i < 256 {
-        if head_row(rows, AtomNo(i as u8)).is_within(off) {
+        if rowed.head_row(AtomNo(i as u8)).is_within(off) {
             return true;
         }
-        i = next_in(atoms, i + 1);
+        i = atoms.next_in(i + 1);
     }
     false
 }

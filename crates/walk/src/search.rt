@@ -6,8 +6,7 @@ ghost use Rattle.meaning.specs.Sets.{every_below};
 ghost use Rattle.meaning.specs.Bits.{members};
 ghost use Rattle.meaning.specs.Choice.{agree};
 ghost use Rattle.meaning.specs.Written.{written};
-ghost use Rattle.book.specs.Format.{book_in, ReadAs};
-ghost use Rattle.book.specs.RuleRows.{RuleRows};
+ghost use Rattle.book.specs.ReadBook.{the_book};
 ghost use Rattle.closing.specs.Left.{Shallow};
 ghost use Rattle.closing.specs.Taken.{taken, Takes};
 ghost use Rattle.walk.specs.Search.{TellsFirst};
@@ -15,8 +14,8 @@ ghost use Rattle.walk.specs.Search.{TellsFirst};
 use crate::colours::lowest_uncoloured;
 use crate::part::is_lost_in;
 use crate::verdict::Verdict;
-use book::Shape;
-use closing::{Choice, Picked, close_or_clash};
+use book::RowedBook;
+use closing::{Choice, close_or_clash};
 use meaning::{Bits, Colouring};
 
 // The two sets hold the same of the first `rules` rules.
@@ -25,47 +24,40 @@ pub fn same_rules(rules: u8, one: Bits, other: Bits) -> bool
         every_below rules (λ i. agree (members one.w i) (members other.w i)) }
 {
     let all = Bits::below(rules);
-    if !all.intersection(one).is_within(other) {
-        return false;
-    }
-    all.intersection(other).is_within(one)
+    all.intersection(one).is_within(other) && all.intersection(other).is_within(one)
 }
 
 // The reading has the shown atoms `inside`, and its generating rules are `on`. The search ends
 // because each choice leaves fewer rules without a colour.
 pub fn first_alike(
-    book: &[u8],
-    shape: Shape,
-    rows: &[u64; 3072],
+    rowed: &RowedBook,
     c: Colouring,
     choice: Choice,
-    inside: &[u64; 4],
+    inside: &Bits,
     on: Bits,
 ) -> Verdict
-    requires { ReadAs book.now shape × Shallow (book_in book.now) (taken choice (written c))
-        × RuleRows (book_in book.now) rows.now
-        × Takes (book_in book.now) (written c) choice }
-    ensures { TellsFirst (book_in book.now) inside.now on.w
+    requires { Shallow (the_book rowed.now.book) (taken choice (written c))
+        × Takes (the_book rowed.now.book) (written c) choice }
+    ensures { TellsFirst (the_book rowed.now.book) inside.now.w on.w
         (taken choice (written c)) result }
 {
-    let closed = close_or_clash(book, shape, rows, c, choice);
-    let clash = closed.clash;
-    if let Picked::Rule(_) = clash {
+    let closed = close_or_clash(rowed, c, choice);
+    if closed.clash.is_some() {
         return Verdict::Nobody;
     }
     let d = closed.colours;
-    if is_lost_in(rows, inside, d.off) {
+    if is_lost_in(rowed, inside, d.off) {
         return Verdict::Nobody;
     }
-    let Picked::Rule(r) = lowest_uncoloured(shape.rules, d.on, d.off) else {
-        if same_rules(shape.rules, on, d.on) {
+    let Some(r) = lowest_uncoloured(rowed.book.shape.rules, d.on, d.off) else {
+        if same_rules(rowed.book.shape.rules, on, d.on) {
             return Verdict::This;
         }
         return Verdict::Another;
     };
-    let verdict = first_alike(book, shape, rows, d, Choice::On(r), inside, on);
+    let verdict = first_alike(rowed, d, Choice::On(r), inside, on);
     let Verdict::Nobody = verdict else {
         return verdict;
     };
-    first_alike(book, shape, rows, d, Choice::Off(r), inside, on)
+    first_alike(rowed, d, Choice::Off(r), inside, on)
 }

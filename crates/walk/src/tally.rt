@@ -24,18 +24,25 @@ pub struct Tally {
 }
 
 impl Tally {
+    // Before the first try.
+    pub const START: Tally = Tally {
+        tries: 0,
+        sets: 0,
+        clash: RuleNo(255),
+        halt: Halt::Going,
+    };
+
     // One try more, and what it came to: so many readings by now, and why the call goes no further.
     pub fn tried(self, sets: u32, halt: Halt) -> Tally
         requires { self.tries < 4294967295 }
         ensures { result ≡
             record { tries = self.tries + 1; sets = sets; clash = self.clash; halt = halt } }
     {
-        let clash = self.clash;
         Tally {
             tries: self.tries + 1,
             sets,
-            clash,
             halt,
+            ..self
         }
     }
 
@@ -44,13 +51,9 @@ impl Tally {
         ensures { result ≡
             record { tries = self.tries; sets = self.sets; clash = self.clash; halt = Limit } }
     {
-        let sets = self.sets;
-        let clash = self.clash;
         Tally {
-            tries: self.tries,
-            sets,
-            clash,
             halt: Halt::Limit,
+            ..self
         }
     }
 
@@ -62,9 +65,9 @@ impl Tally {
     {
         Tally {
             tries: self.tries + 1,
-            sets: self.sets,
             clash: r,
             halt: Halt::Going,
+            ..self
         }
     }
 }

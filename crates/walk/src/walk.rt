@@ -2,8 +2,7 @@
 // stops at the limit makes no further closing.
 ghost use Rattle.std.specs.Prelude.{◌≡◌};
 ghost use Rattle.meaning.specs.Written.{written};
-ghost use Rattle.book.specs.Format.{book_in, ReadAs};
-ghost use Rattle.book.specs.RuleRows.{RuleRows};
+ghost use Rattle.book.specs.ReadBook.{the_book};
 ghost use Rattle.closing.specs.Left.{Shallow};
 ghost use Rattle.closing.specs.Taken.{taken, Takes};
 ghost use Rattle.walk.specs.Events.{events};
@@ -18,9 +17,10 @@ use crate::counts::does_count;
 use crate::met::meet;
 use crate::origin::keep_origin;
 use crate::tally::{Halt, Tally};
-use book::Shape;
-use closing::{Choice, Picked, close_or_clash};
-use meaning::{Colouring, RuleNo};
+use crate::wanted::Wanted;
+use book::RowedBook;
+use closing::{Choice, close_or_clash};
+use meaning::{Bits, Colouring, RuleNo};
 
 // Walks on from the colouring c with the choice taken: one try, and after it first with a rule on,
 // then with it off, each from the colouring before that choice. Every reading counts, or only those that no earlier
@@ -29,90 +29,69 @@ use meaning::{Colouring, RuleNo};
 // the chosen rule, which had none, gets one. So it goes at most 255 levels deep. A closing is left at
 // its first contradiction: the rule of the last one is told by whoever needs it, from its origin.
 pub fn walk_shown(
-    book: &[u8],
-    shape: Shape,
-    rows: &[u64; 3072],
+    rowed: &RowedBook,
     c: Colouring,
     choice: Choice,
     every: bool,
-    mask: &[u64; 4],
-    pass: u32,
-    room: usize,
-    limit: u32,
+    mask: &Bits,
+    wanted: &Wanted,
     t: Tally,
     origin: &mut [u64; 8],
     seen: &mut [u64],
     out: &mut [u8],
 ) -> Tally
-    requires { ReadAs book.now shape
-        × Room (book_in book.now) pass room (record { tally = t; out = out.old })
-        × Shallow (book_in book.now) (taken choice (written c))
-        × RuleRows (book_in book.now) rows.now
-        × Remembers every (book_in book.now) (shown_in mask.now) seen.old t.sets
-        × Takes (book_in book.now) (written c) choice }
+    requires { Room (the_book rowed.now.book) wanted.now.pass wanted.now.room
+        (record { tally = t; out = out.old })
+        × Shallow (the_book rowed.now.book) (taken choice (written c))
+        × Remembers every (the_book rowed.now.book) (shown_in mask.now.w) seen.old t.sets
+        × Takes (the_book rowed.now.book) (written c) choice }
     ensures { (◌≡◌ {A = State}
-        (record { tally = told_clash (book_in book.now) origin.new result; out = out.new })
-        (run (book_in book.now) (record { pass = pass; room = room; limit = limit })
-        (record { tally = told_clash (book_in book.now) origin.old t; out = out.old })
-        (counted_by (book_in book.now)
-        (counts every (book_in book.now) (shown_in mask.now))
-        (events (book_in book.now) (taken choice (written c))))))
-        × Remembers every (book_in book.now) (shown_in mask.now) seen.new result.sets }
+        (record { tally = told_clash (the_book rowed.now.book) origin.new result; out = out.new })
+        (run (the_book rowed.now.book) wanted.now
+        (record { tally = told_clash (the_book rowed.now.book) origin.old t; out = out.old })
+        (counted_by (the_book rowed.now.book)
+        (counts every (the_book rowed.now.book) (shown_in mask.now.w))
+        (events (the_book rowed.now.book) (taken choice (written c))))))
+        × Remembers every (the_book rowed.now.book) (shown_in mask.now.w) seen.new result.sets }
 {
-    let halt = t.halt;
-    let Halt::Going = halt else {
+    let Halt::Going = t.halt else {
         return t;
     };
-    if limit <= t.tries {
-        let clash = t.clash;
-        return Tally {
-            tries: t.tries,
-            sets: t.sets,
-            clash,
-            halt: Halt::Limit,
-        };
+    if wanted.limit <= t.tries {
+        return t.stopped();
     }
-    let closed = close_or_clash(book, shape, rows, c, choice);
-    let clash = closed.clash;
+    let closed = close_or_clash(rowed, c, choice);
     let d = closed.colours;
-    if let Picked::Rule(_) = clash {
+    if closed.clash.is_some() {
         keep_origin(d.on, d.off, origin);
         return t.clashed(RuleNo(0));
     }
-    let Picked::Rule(r) = lowest_uncoloured(shape.rules, d.on, d.off) else {
-        if !does_count(book, shape, rows, d.on, every, mask, t.sets, seen) {
+    let Some(r) = lowest_uncoloured(rowed.book.shape.rules, d.on, d.off) else {
+        if !does_count(rowed, d.on, every, mask, t.sets, seen) {
             return t.tried(t.sets, Halt::Going);
         }
-        return meet(book, shape, d.on, pass, room, limit, t, out);
+        return meet(&rowed.book, d.on, wanted, t, out);
     };
     let forked = t.tried(t.sets, Halt::Going);
     let first = walk_shown(
-        book,
-        shape,
-        rows,
+        rowed,
         d,
         Choice::On(r),
         every,
         mask,
-        pass,
-        room,
-        limit,
+        wanted,
         forked,
         origin,
         seen,
         out,
     );
     walk_shown(
-        book,
-        shape,
-        rows,
+        rowed,
         d,
         Choice::Off(r),
         every,
         mask,
-        pass,
-        room,
-        limit,
+        wanted,
         first,
         origin,
         seen,
@@ -122,32 +101,27 @@ pub fn walk_shown(
 
 // The walk on which every reading counts.
 pub fn walk(
-    book: &[u8],
-    shape: Shape,
-    rows: &[u64; 3072],
+    rowed: &RowedBook,
     c: Colouring,
     choice: Choice,
-    pass: u32,
-    room: usize,
-    limit: u32,
+    wanted: &Wanted,
     t: Tally,
     origin: &mut [u64; 8],
     out: &mut [u8],
 ) -> Tally
-    requires { ReadAs book.now shape
-        × Room (book_in book.now) pass room (record { tally = t; out = out.old })
-        × Shallow (book_in book.now) (taken choice (written c))
-        × RuleRows (book_in book.now) rows.now
-        × Takes (book_in book.now) (written c) choice }
+    requires { Room (the_book rowed.now.book) wanted.now.pass wanted.now.room
+        (record { tally = t; out = out.old })
+        × Shallow (the_book rowed.now.book) (taken choice (written c))
+        × Takes (the_book rowed.now.book) (written c) choice }
     ensures { ◌≡◌ {A = State}
-        (record { tally = told_clash (book_in book.now) origin.new result; out = out.new })
-        (run (book_in book.now) (record { pass = pass; room = room; limit = limit })
-        (record { tally = told_clash (book_in book.now) origin.old t; out = out.old })
-        (events (book_in book.now) (taken choice (written c)))) }
+        (record { tally = told_clash (the_book rowed.now.book) origin.new result; out = out.new })
+        (run (the_book rowed.now.book) wanted.now
+        (record { tally = told_clash (the_book rowed.now.book) origin.old t; out = out.old })
+        (events (the_book rowed.now.book) (taken choice (written c)))) }
 {
-    let mask = [0u64; 4];
+    let mask = Bits::EMPTY;
     let mut seen = [0u64; 1];
     walk_shown(
-        book, shape, rows, c, choice, true, &mask, pass, room, limit, t, origin, &mut seen, out,
+        rowed, c, choice, true, &mask, wanted, t, origin, &mut seen, out,
     )
 }

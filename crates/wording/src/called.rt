@@ -1,25 +1,24 @@
 // What the atoms x0, x1 and so on are called in a grounder's text, in lines that say nothing in words.
-use talk::{name_of, print, put_number, put_text};
+use talk::{Line, name_of};
 
-// Writes what the atom is called, where it is told.
+// Writes what the atom is called.
 fn show_one(rt: &impl Print, a: u8, name: &[u8]) {
-    if name.len() == 0 {
-        return;
-    }
-    let mut line = [0u8; 512];
-    let held = put_text(b"# x", &mut line, 0);
-    let held = put_number(a as u64, &mut line, held);
-    let held = put_text(b" ", &mut line, held);
-    let held = put_text(name, &mut line, held);
-    let held = put_text(b"\n", &mut line, held);
-    print(rt, &line[..held]);
+    let mut room = [0u8; 512];
+    let mut line = Line::new(&mut room);
+    line.text(b"# x");
+    line.number(a as u64);
+    line.text(b" ");
+    line.text(name);
+    line.text(b"\n");
+    line.print(rt);
 }
 
-// Writes what each atom is called.
+// Writes what each atom is called, where it is told.
 pub fn show_called(rt: &impl Print, atoms: u8, names: &[u8]) {
-    let mut a: u8 = 0;
-    while a < atoms {
-        show_one(rt, a, name_of(names, a));
-        a += 1;
+    for a in 0..atoms {
+        let name = name_of(names, a);
+        if !name.is_empty() {
+            show_one(rt, a, name);
+        }
     }
 }

@@ -12,54 +12,39 @@
 mod called;
 mod rules;
 
-ghost use Rattle.book.specs.Format.{ReadAs};
-
-use book::{Read, Shape, read_book};
+use book::ReadBook;
 use called::show_called;
 use calling::{Source, open_book, shift, source_at};
 use rules::{show_names, show_rules};
 use std::rt::Env;
 use system::arg_count;
-use talk::{BOOK_ROOM, NAMES_ROOM, explain_book, print, put_size, put_text};
+use talk::{BOOK_ROOM, NAMES_ROOM, explain_book, show_size};
 
-// Writes the size in a line that says nothing in a text, so that one sees that it is whole.
-fn show_end(rt: &impl Print, shape: Shape) {
-    let mut line = [0u8; 64];
-    let held = put_text(b"# ", &mut line, 0);
-    let held = put_size(shape, &mut line, held);
-    let held = put_text(b"\n", &mut line, held);
-    print(rt, &line[..held]);
-}
-
-// Writes the text of a good book with these names.
-fn show_all(rt: &impl Print, book: &[u8], shape: Shape, names: &[u8])
-    requires { ReadAs book.now shape }
-{
-    show_names(rt, shape.atoms, names);
-    show_rules(rt, book, shape, names);
-    show_end(rt, shape);
+// Writes the text of a good book with these names; last its size, in a line that says nothing in a text,
+// so that one sees that it is whole.
+fn show_all(rt: &impl Print, book: &ReadBook, names: &[u8]) {
+    show_names(rt, book.shape.atoms, names);
+    show_rules(rt, book, names);
+    show_size(rt, b"# ", book.shape);
 }
 
 // Writes the text of a good book; of a grounder's text what its atoms are called, and then without
 // these names.
-fn show_good(rt: &(impl Env + Print), book: &[u8], shape: Shape, names: &[u8])
-    requires { ReadAs book.now shape }
-{
+fn show_good(rt: &(impl Env + Print), book: &ReadBook, names: &[u8]) {
     match source_at(rt, 1) {
-        Source::Book => show_all(rt, book, shape, names),
-        Source::Words => show_all(rt, book, shape, names),
+        Source::Book | Source::Words => show_all(rt, book, names),
         Source::Text => {
-            show_called(rt, shape.atoms, names);
-            show_all(rt, book, shape, b"");
+            show_called(rt, book.shape.atoms, names);
+            show_all(rt, book, b"");
         }
     }
 }
 
 // Writes the text of a good book, or why the bytes are none.
-fn show_book(rt: &(impl Env + Print), book: &[u8], names: &[u8]) {
-    match read_book(book) {
-        Read::Refused(why) => explain_book(rt, why, book),
-        Read::Good(shape) => show_good(rt, book, shape, names),
+fn show_book(rt: &(impl Env + Print), bytes: &[u8], names: &[u8]) {
+    match ReadBook::read(bytes) {
+        Ok(book) => show_good(rt, &book, names),
+        Err(why) => explain_book(rt, why, bytes),
     }
 }
 
@@ -68,10 +53,7 @@ fn main(rt: HostRuntime) {
     let mut names = [0u8; NAMES_ROOM];
     let is_right = arg_count(&rt) == 2 + shift(&rt);
     let usage = b"wording BOOKFILE, or wording --words WORDSFILE";
-    let opened = open_book(&rt, is_right, usage, &mut book, &mut names);
-    if opened.good {
-        let n = opened.count;
-        let m = opened.names;
-        show_book(&rt, &book[..n], &names[..m]);
+    if let Some(opened) = open_book(&rt, is_right, usage, &mut book, &mut names) {
+        show_book(&rt, opened.book, opened.names);
     }
 }

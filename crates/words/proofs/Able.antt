@@ -5,28 +5,27 @@ use Prim.Native.Nat.{ℕ, ◌<◌, ◌≤◌}
 use native.Mathlib.Omega.{arith}
 use mathlib.Core.Bool.{Bool}
 use mathlib.Core.List.{List}
+use Rattle.std.specs.Prelude.{Some, None, Ok, Err}
 use Rattle.meaning.proofs.Choice.{b-either, lt-either, eq-either}
 use Rattle.words.specs.declared.due.Due.{Due}
 use Rattle.words.specs.declared.due.Standing.{Standing}
 use Rattle.words.specs.declared.due.Said.{Said}
 use Rattle.words.specs.declared.due.Said.TheVariants.{Nothing as Silent, Lists, Listed, Atom}
-use Rattle.words.specs.declared.due.Move.{Move}
-use Rattle.words.specs.declared.due.Move.TheVariants.{Goes as Moves, Wrong}
 use Rattle.words.specs.declared.opened.Open.{Open}
 use Rattle.words.specs.declared.decision.Act.{Act}
 use Rattle.words.specs.declared.decision.Act.TheVariants.{Note, Stand}
-use Rattle.words.specs.declared.decision.Decision.{Decision}
-use Rattle.words.specs.declared.decision.Decision.TheVariants.{Goes, Form, Name, TooMany}
+use Rattle.words.specs.declared.decision.Misplaced.TheVariants.{Form, Name, TooMany}
 use Rattle.words.specs.declared.step.Reading.{Reading}
-use Rattle.words.specs.Reading.{full, stands, named, noted, begun, on_said, decided}
+use Rattle.words.specs.Moves.{Move}
+use Rattle.words.specs.Reading.{Decision, full, stands, named, noted, begun, on_said, decided}
 use Rattle.words.specs.Progress.{Able, weighed}
 use Rattle.words.proofs.Places.{place-within}
 
 unfoldable Ables : ℕ → Decision → Type 0
-Ables count (Goes due act) = Able count act
-Ables count Form = Unit {0}
-Ables count Name = Unit {0}
-Ables count TooMany = Unit {0}
+Ables count (Ok (due, act)) = Able count act
+Ables count (Err Form) = Unit {0}
+Ables count (Err Name) = Unit {0}
+Ables count (Err TooMany) = Unit {0}
 
 module _ (count a : ℕ) (h : a ≤ count) (k : count ≤ 255) (due : Due) (fixed : Bool) (rules : ℕ) (rule : Open) where
   able-stands : (standing : Standing) → a < 255 → Ables count (stands standing due rules a rule)
@@ -47,10 +46,10 @@ module _ (count a : ℕ) (h : a ≤ count) (k : count ≤ 255) (due : Due) (fixe
 able-decided : (m : Move) (count a : ℕ) → a ≤ count → count ≤ 255 → (fixed : Bool) (rules : ℕ) (rule : Open)
     → Ables count (decided m fixed rules count a rule)
 unfolding Ables decided
-able-decided (Moves due said) count a h k fixed rules rule = able-said count a h k due fixed rules rule said
-able-decided Wrong count a h k fixed rules rule = tt
+able-decided (Some (due, said)) count a h k fixed rules rule = able-said count a h k due fixed rules rule said
+able-decided None count a h k fixed rules rule = tt
 
-pub weighed-able : (text l : List ℕ) (r : Reading) → r.names.count ≤ 255 → (due : Due) (act : Act) → weighed text l r ≡ Goes due act
+pub weighed-able : (text l : List ℕ) (r : Reading) → r.names.count ≤ 255 → (due : Due) (act : Act) → weighed text l r ≡ Ok (due, act)
     → Able r.names.count act
 unfolding Ables weighed
 weighed-able text l r k due act e =

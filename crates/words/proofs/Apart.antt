@@ -8,6 +8,7 @@ use Prim.Native.Nat.{ℕ, ◌+◌, ◌<◌, ◌≤◌}
 use native.Mathlib.Omega.{arith}
 use lib.ListN.{length, get_or, length-append, length-map, get_or-append, get_or-map}
 use lib.Seq.{get_or-append_seam}
+use Rattle.std.specs.Prelude.{Some, None}
 use Rattle.meaning.proofs.Choice.{b-either, lt-either, eq-either}
 use Rattle.meaning.proofs.Tests.{lt-or-le, true-and-false}
 use Rattle.words.specs.declared.term.Term.{Term}
@@ -17,14 +18,12 @@ use Rattle.words.specs.declared.due.Due.TheVariants.{Line, Remark as InRemark, L
 use Rattle.words.specs.declared.due.Standing.{Standing}
 use Rattle.words.specs.declared.due.Said.{Said}
 use Rattle.words.specs.declared.due.Said.TheVariants.{Nothing as Silent, Lists, Listed, Atom}
-use Rattle.words.specs.declared.due.Move.{Move}
-use Rattle.words.specs.declared.due.Move.TheVariants.{Goes as Moves, Wrong}
 use Rattle.words.specs.declared.due.Ended.{Ended}
 use Rattle.words.specs.declared.due.Ended.TheVariants.{Nothing as Blank, Rule as Closes, Missing}
 use Rattle.words.specs.Words.{Word, Piece, word, line}
 use Rattle.words.specs.Names.{no_word, is_named, number_in}
 use Rattle.words.specs.Terms.{term_of}
-use Rattle.words.specs.Moves.{is_due, remarked, only_at, on_unless, move_of, ended_of}
+use Rattle.words.specs.Moves.{Move, is_due, remarked, only_at, on_unless, move_of, ended_of}
 use Rattle.words.specs.Reading.{State, full, stands, named, noted, begun, on_said, decided, known, done, goes, on_decision, decision_of, on_ended, on_piece, heard, names_of}
 use Rattle.words.specs.Text.{GoodNames}
 use Rattle.words.proofs.Names.{bytes-refl, first-none}
@@ -33,17 +32,17 @@ use Rattle.words.proofs.Reached.{Keeps, heard-keeps}
 -- ---- only a name says an atom
 
 unfoldable says_name : Move → Bool
-says_name (Moves next Silent) = false
-says_name (Moves next Lists) = false
-says_name (Moves next Listed) = true
-says_name (Moves next (Atom standing)) = true
-says_name Wrong = false
+says_name (Some (next, Silent)) = false
+says_name (Some (next, Lists)) = false
+says_name (Some (next, Listed)) = true
+says_name (Some (next, (Atom standing))) = true
+says_name None = false
 
 remarked-silent : (due : Due) → says_name (remarked due) ≡ false
 unfolding remarked says_name
 remarked-silent due = b-either (λ m. says_name m ≡ false) (is_due due InRemark) _ _ (λ e. refl) (λ e. refl)
 
-only-silent : (due place next : Due) (said : Said) → says_name (Moves next said) ≡ false → says_name (only_at due place next said) ≡ false
+only-silent : (due place next : Due) (said : Said) → says_name (Some (next, said)) ≡ false → says_name (only_at due place next said) ≡ false
 unfolding only_at
 only-silent due place next said h = b-either (λ m. says_name m ≡ false) (is_due due place) _ _ (λ e. h) (λ e. remarked-silent due)
 
@@ -128,7 +127,7 @@ module _ (s : State) (g : Names s) (w : Word) where
       b-either (λ d. Keeps Names (on_decision d w s)) (full standing (length s.rules) (number_in s.names w.bytes) s.rule) _ _
       (λ e. tt) (λ e. names-known s g w t)
 
-  names-said : (due : Due) (said : Said) → (says_name (Moves due said) ≡ true → term_of w.bytes ≡ AName)
+  names-said : (due : Due) (said : Said) → (says_name (Some (due, said)) ≡ true → term_of w.bytes ≡ AName)
       → Keeps Names (on_decision (on_said said due s.fixed (length s.rules) (length s.names) (number_in s.names w.bytes) s.rule) w s)
   unfolding Keeps on_decision on_said begun noted named done says_name
   names-said due Silent t = g
@@ -145,8 +144,8 @@ module _ (s : State) (g : Names s) (w : Word) where
   names-move : (m : Move) → (says_name m ≡ true → term_of w.bytes ≡ AName)
       → Keeps Names (on_decision (decided m s.fixed (length s.rules) (length s.names) (number_in s.names w.bytes) s.rule) w s)
   unfolding Keeps on_decision decided
-  names-move (Moves due said) t = names-said due said t
-  names-move Wrong t = tt
+  names-move (Some (due, said)) t = names-said due said t
+  names-move None t = tt
 
 names-ended : (s : State) → Names s → (place : ℕ) (e : Ended) → Keeps Names (on_ended e place s)
 unfolding Keeps on_ended

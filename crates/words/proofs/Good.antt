@@ -10,6 +10,7 @@ use native.Mathlib.Omega.{arith}
 use lib.Dec.{leb}
 use lib.ListN.{length, length-append, length-set}
 use borrow.Author.Tests.{le-leb}
+use Rattle.std.specs.Prelude.{Some, None, Ok, Err}
 use Rattle.meaning.specs.Books.{Rule, count}
 use Rattle.meaning.proofs.Choice.{b-either, lt-either, eq-either}
 use Rattle.meaning.proofs.Tests.{lt-or-le, true-and-false, either}
@@ -19,17 +20,14 @@ use Rattle.words.specs.declared.due.Standing.{Standing}
 use Rattle.words.specs.declared.due.Standing.TheVariants.{Head, Positive, Negative}
 use Rattle.words.specs.declared.due.Said.{Said}
 use Rattle.words.specs.declared.due.Said.TheVariants.{Nothing as Silent, Lists, Listed, Atom}
-use Rattle.words.specs.declared.due.Move.{Move}
-use Rattle.words.specs.declared.due.Move.TheVariants.{Goes as Moves, Wrong}
 use Rattle.words.specs.declared.due.Ended.TheVariants.{Rule as Closes}
 use Rattle.words.specs.declared.decision.Act.{Act}
 use Rattle.words.specs.declared.decision.Act.TheVariants.{Nothing, Fix, Note, Stand}
-use Rattle.words.specs.declared.decision.Decision.{Decision}
-use Rattle.words.specs.declared.decision.Decision.TheVariants.{Goes, Form, Name, TooMany}
+use Rattle.words.specs.declared.decision.Misplaced.TheVariants.{Form, Name, TooMany}
 use Rattle.words.specs.Words.{Word}
 use Rattle.words.specs.Terms.{term_of}
-use Rattle.words.specs.Moves.{rank, move_of, ended_of}
-use Rattle.words.specs.Reading.{State, placed, full, stands, named, noted, begun, on_said, decided, known, done, decision_of, next_line, open_rule, start}
+use Rattle.words.specs.Moves.{Move, rank, move_of, ended_of}
+use Rattle.words.specs.Reading.{Decision, State, placed, full, stands, named, noted, begun, on_said, decided, known, done, decision_of, next_line, open_rule, start}
 use Rattle.words.specs.Progress.{is_open, Good}
 use Rattle.words.proofs.Places.{number-within}
 use Rattle.words.proofs.Opens.{headed, opens_by, opens-move, closes-open}
@@ -88,7 +86,7 @@ module _ (s : State) (g : Good s) where
 -- ---- a word
 
 -- an open rule stays open
-stays_open : (k : ℕ) (next : Due) (said : Said) → opens_by k (Moves next said) ≡ true → headed said ≡ false → is_open next ≡ true
+stays_open : (k : ℕ) (next : Due) (said : Said) → opens_by k (Some (next, said)) ≡ true → headed said ≡ false → is_open next ≡ true
     → leb 3 k ≡ true
 unfolding opens_by
 stays_open k next said e f o =
@@ -105,10 +103,10 @@ known-long l a w h k m =
     (λ p. let e : length (l ++ (w ∷ [])) ≡ length l + 1 = length-append l (w ∷ []) in (omega arith, omega arith, omega arith))
 
 unfoldable Kept : Word → State → Decision → Type 0
-Kept w s (Goes due act) = Good (done due act w s)
-Kept w s Form = Unit {0}
-Kept w s Name = Unit {0}
-Kept w s TooMany = Unit {0}
+Kept w s (Ok (due, act)) = Good (done due act w s)
+Kept w s (Err Form) = Unit {0}
+Kept w s (Err Name) = Unit {0}
+Kept w s (Err TooMany) = Unit {0}
 
 module _ (s : State) (g : Good s) (w : Word) (due : Due) where
   good-silent : (is_open due ≡ true → is_open s.due ≡ true) → Good (done due Nothing w s)
@@ -198,7 +196,7 @@ module _ (s : State) (g : Good s) (w : Word) (due : Due) where
     good-stands standing o =
         b-either (Kept w s) (full standing (length s.rules) a s.rule) _ _ (λ e. tt) (λ e. good-atom standing o e)
 
-  good-said : (said : Said) → opens_by (rank s.due) (Moves due said) ≡ true → (a : ℕ) → a ≤ length s.names
+  good-said : (said : Said) → opens_by (rank s.due) (Some (due, said)) ≡ true → (a : ℕ) → a ≤ length s.names
       → Kept w s (on_said said due s.fixed (length s.rules) (length s.names) a s.rule)
   unfolding Kept on_said begun noted named headed opens_by
   good-said Silent o a h = good-silent (λ e. stays_open (rank s.due) due Silent o refl e)
@@ -221,10 +219,10 @@ module _ (s : State) (g : Good s) (w : Word) (due : Due) where
 good-move : (s : State) (g : Good s) (w : Word) (m : Move) → opens_by (rank s.due) m ≡ true → (a : ℕ) → a ≤ length s.names
     → Kept w s (decided m s.fixed (length s.rules) (length s.names) a s.rule)
 unfolding Kept decided
-good-move s g w (Moves due said) o a h = good-said s g w due said o a h
-good-move s g w Wrong o a h = tt
+good-move s g w (Some (due, said)) o a h = good-said s g w due said o a h
+good-move s g w None o a h = tt
 
-pub good-word : (s : State) (g : Good s) (w : Word) (l : List ℕ) (due : Due) (act : Act) → decision_of l s ≡ Goes due act → Good (done due act w s)
+pub good-word : (s : State) (g : Good s) (w : Word) (l : List ℕ) (due : Due) (act : Act) → decision_of l s ≡ Ok (due, act) → Good (done due act w s)
 unfolding Kept decision_of
 good-word s g w l due act e =
     let k : Kept w s (decision_of l s) =

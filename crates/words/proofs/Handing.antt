@@ -9,17 +9,20 @@ use native.Mathlib.Omega.{arith}
 use lib.ListN.{length, take, drop}
 use lib.Seq.{take_all}
 use Rattle.meaning.specs.Books.{Rule, Book}
-use Rattle.meaning.specs.Told.{success, refused_at, refused}
+use Rattle.meaning.specs.Told.{success, refused}
 use Rattle.meaning.proofs.Choice.{lt_yes, lt_no}
 use Rattle.meaning.proofs.Tests.{lt-or-le, true-and-false}
 use Rattle.book.specs.Making.{Made, Finished}
 use Rattle.book.specs.Writing.{bytes_of_book}
+use Rattle.std.specs.Prelude.{Err}
+use Rattle.words.specs.declared.decision.Misplaced.{Misplaced}
+use Rattle.words.specs.declared.decision.Misplaced.TheVariants.{Form as BadForm, Name as BadName, TooMany as OneTooMany}
 use Rattle.words.specs.declared.step.Fate.{Fate}
-use Rattle.words.specs.declared.step.Fate.TheVariants.{Goes, Done, Form, Name, TooMany}
+use Rattle.words.specs.declared.step.Fate.TheVariants.{Goes, Done, Refused}
 use Rattle.words.specs.declared.step.Reading.{Reading}
-use Rattle.words.specs.Reading.{State, goes, wrong, heard, book_of}
-use Rattle.words.specs.Make.{filled, starts_of, ends_of, Answer, only, hand_over, make_heard, make_of}
-use Rattle.words.specs.Progress.{reading_of, goes_on, Holds, Along, going, whole, form, name, many}
+use Rattle.words.specs.Reading.{State, number, goes, wrong, heard, book_of}
+use Rattle.words.specs.Make.{told_book, unworded, filled, starts_of, ends_of, Answer, only, hand_over, make_heard, make_of}
+use Rattle.words.specs.Progress.{reading_of, goes_on, Holds, Along, going, whole, barred}
 use Rattle.words.proofs.Turns.{rules-counted}
 
 -- reading is done
@@ -62,16 +65,7 @@ module _ {b : Book} {n : ℕ} {draft : List ℕ} (f : Finished b n draft) where
 unfoldable kind_of : Fate → ℕ
 kind_of Goes = 0
 kind_of Done = 1
-kind_of (Form place) = 2
-kind_of (Name place) = 3
-kind_of (TooMany place) = 4
-
-unfoldable place_in : Fate → ℕ
-place_in Goes = 0
-place_in Done = 0
-place_in (Form place) = place
-place_in (Name place) = place
-place_in (TooMany place) = place
+kind_of (Refused why place) = 2
 
 module _ (text : List ℕ) (r : Reading) (draft : List ℕ) where
   other : {A : Type 0} (f g : Fate) → r.fate ≡ f → r.fate ≡ g → (kind_of f ≡ kind_of g → ⊥) → A
@@ -81,33 +75,16 @@ module _ (text : List ℕ) (r : Reading) (draft : List ℕ) where
   unfolding kind_of
   over_done (going s e h f) g = other Goes Done (ap (λ (x : Reading). x.fate) e) g (λ n. omega arith)
   over_done (whole s e h f) g = record { state = s; same = e; holds = h; all = f }
-  over_done (form place e f) g = other (Form place) Done e g (λ n. omega arith)
-  over_done (name place e f) g = other (Name place) Done e g (λ n. omega arith)
-  over_done (many place e f) g = other (TooMany place) Done e g (λ n. omega arith)
+  over_done (barred why place e f) g = other (Refused why place) Done e g (λ n. omega arith)
 
-  pub over-form : Along text r draft → (p : ℕ) → r.fate ≡ Form p → wrong 40 p ≡ heard text
-  unfolding kind_of place_in
-  over-form (going s e h f) p g = other Goes (Form p) (ap (λ (x : Reading). x.fate) e) g (λ n. omega arith)
-  over-form (whole s e h f) p g = other Done (Form p) (ap (λ (x : Reading). x.fate) e) g (λ n. omega arith)
-  over-form (form place e f) p g = ap (wrong 40) (ap place_in (sym g ∙ e)) ∙ f
-  over-form (name place e f) p g = other (Name place) (Form p) e g (λ n. omega arith)
-  over-form (many place e f) p g = other (TooMany place) (Form p) e g (λ n. omega arith)
-
-  pub over-name : Along text r draft → (p : ℕ) → r.fate ≡ Name p → wrong 41 p ≡ heard text
-  unfolding kind_of place_in
-  over-name (going s e h f) p g = other Goes (Name p) (ap (λ (x : Reading). x.fate) e) g (λ n. omega arith)
-  over-name (whole s e h f) p g = other Done (Name p) (ap (λ (x : Reading). x.fate) e) g (λ n. omega arith)
-  over-name (form place e f) p g = other (Form place) (Name p) e g (λ n. omega arith)
-  over-name (name place e f) p g = ap (wrong 41) (ap place_in (sym g ∙ e)) ∙ f
-  over-name (many place e f) p g = other (TooMany place) (Name p) e g (λ n. omega arith)
-
-  pub over-many : Along text r draft → (p : ℕ) → r.fate ≡ TooMany p → wrong 42 p ≡ heard text
-  unfolding kind_of place_in
-  over-many (going s e h f) p g = other Goes (TooMany p) (ap (λ (x : Reading). x.fate) e) g (λ n. omega arith)
-  over-many (whole s e h f) p g = other Done (TooMany p) (ap (λ (x : Reading). x.fate) e) g (λ n. omega arith)
-  over-many (form place e f) p g = other (Form place) (TooMany p) e g (λ n. omega arith)
-  over-many (name place e f) p g = other (Name place) (TooMany p) e g (λ n. omega arith)
-  over-many (many place e f) p g = ap (wrong 42) (ap place_in (sym g ∙ e)) ∙ f
+  pub over-barred : Along text r draft → (why : Misplaced) (p : ℕ) → r.fate ≡ Refused why p → wrong (number why) p ≡ heard text
+  unfolding kind_of
+  over-barred (going s e h f) why p g = other Goes (Refused why p) (ap (λ (x : Reading). x.fate) e) g (λ n. omega arith)
+  over-barred (whole s e h f) why p g = other Done (Refused why p) (ap (λ (x : Reading). x.fate) e) g (λ n. omega arith)
+  over-barred (barred v place e f) why p g =
+      let k = sym g ∙ e in
+      let a : why ≡ v = cc in
+      let b : p ≡ place = cc in rw (a, b) f
 
   pub never-goes : {A : Type 0} → goes_on r.fate ≡ false → r.fate ≡ Goes → A
   unfolding goes_on
@@ -116,9 +93,12 @@ module _ (text : List ℕ) (r : Reading) (draft : List ℕ) where
 -- ---- what is told
 
 module _ (text out from to : List ℕ) where
-  pub make-wrong : (i place : ℕ) → wrong i place ≡ heard text → only (refused_at i place) out from to ≡ make_of text out from to
+  pub make-wrong : (why : Misplaced) (place : ℕ) → wrong (number why) place ≡ heard text
+      → only (told_book (Err (unworded why place))) out from to ≡ make_of text out from to
   unfolding make_heard
-  make-wrong i place e = rw (← e) refl
+  make-wrong BadForm place e = rw (← e) refl
+  make-wrong BadName place e = rw (← e) refl
+  make-wrong OneTooMany place e = rw (← e) refl
 
   module _ (s : State) (e : goes s ≡ heard text) (n : ℕ) (size : n ≡ length (bytes_of_book (book_of s))) where
     pub make-short : length out < n → only (refused 43) out from to ≡ make_of text out from to
@@ -136,6 +116,4 @@ pub goes-fate : (f : Fate) → goes_on f ≡ true → f ≡ Goes
 unfolding goes_on
 goes-fate Goes e = refl
 goes-fate Done e = true-and-false e refl
-goes-fate (Form place) e = true-and-false e refl
-goes-fate (Name place) e = true-and-false e refl
-goes-fate (TooMany place) e = true-and-false e refl
+goes-fate (Refused why place) e = true-and-false e refl

@@ -1,8 +1,8 @@
 -- The laws of books in words that need no code. Read in this order.
 pub mod Words
 pub mod Names
-pub mod Terms
 pub mod Places
+pub mod Dues
 pub mod Able
 pub mod Lined
 pub mod Opens

@@ -9,11 +9,11 @@ use native.Mathlib.Numerals.{add-one}
 use native.Mathlib.Omega.{arith}
 use lib.Dec.{eqb}
 use borrow.Author.Tests.{eqb-true, eq-eqb}
+use Rattle.std.specs.Prelude.{Some, None}
 use Rattle.meaning.specs.Sets.{Set, ◌∈◌, ◌∉◌}
 use Rattle.meaning.specs.Books.{atom_no}
 use Rattle.meaning.proofs.Choice.{b-yes, b-no, b-either, lt_yes, lt_no}
 use Rattle.meaning.proofs.Tests.{both, and_left, and_right, decided, same, true-and-false}
-use Rattle.words.specs.declared.answer.Whose.TheVariants.{Atom, Nothing}
 use Rattle.words.specs.Names.{same_bytes, first_from, place_of, whose_of}
 
 -- ---- bytes
@@ -88,10 +88,10 @@ first-none i (suc n) s h j k l = ⊎_elim
 -- ---- whose name a word is
 
 module _ (s : List ℕ) (n : ℕ) (from to l : List ℕ) (i : ℕ) (e : i ≡ place_of s n from to l) where
-  pub whose-atom : i < n → Atom (atom_no i) ≡ whose_of s n from to l
+  pub whose-atom : i < n → Some (atom_no i) ≡ whose_of s n from to l
   unfolding whose_of
   whose-atom h = rw e (sym (lt_yes _ _ _ _ (rw e at h)))
 
-  pub whose-nothing : n ≤ i → Nothing ≡ whose_of s n from to l
+  pub whose-nothing : n ≤ i → None ≡ whose_of s n from to l
   unfolding whose_of
   whose-nothing h = sym (lt_no _ _ _ _ (rw e at h))

@@ -4,6 +4,7 @@ use mathlib.Core.Bool.{Bool, true, false, not, ◌||◌}
 use Prim.Native.Nat.{ℕ}
 use lib.Dec.{leb}
 use borrow.Author.Tests.{eqb-true}
+use Rattle.std.specs.Prelude.{Some, None}
 use Rattle.meaning.proofs.Choice.{b-either}
 use Rattle.meaning.proofs.Tests.{true-and-false}
 use Rattle.words.specs.declared.term.Term.{Term}
@@ -13,11 +14,9 @@ use Rattle.words.specs.declared.due.Due.TheVariants.{Line, Remark as InRemark, L
 use Rattle.words.specs.declared.due.Standing.TheVariants.{Head, Positive as InPositive, Negative as InNegative}
 use Rattle.words.specs.declared.due.Said.{Said}
 use Rattle.words.specs.declared.due.Said.TheVariants.{Nothing as Silent, Lists, Listed, Atom}
-use Rattle.words.specs.declared.due.Move.{Move}
-use Rattle.words.specs.declared.due.Move.TheVariants.{Goes, Wrong}
 use Rattle.words.specs.declared.due.Ended.{Ended}
 use Rattle.words.specs.declared.due.Ended.TheVariants.{Nothing as Blank, Rule as Closes, Missing}
-use Rattle.words.specs.Moves.{rank, is_due, remarked, only_at, on_unless, on_name, move_of, ended_of}
+use Rattle.words.specs.Moves.{Move, rank, is_due, remarked, only_at, on_unless, on_name, move_of, ended_of}
 
 unfoldable pub headed : Said → Bool
 headed Silent = false
@@ -29,14 +28,14 @@ headed (Atom InNegative) = false
 
 -- k is the number of what is due before the word
 unfoldable pub opens_by : ℕ → Move → Bool
-opens_by k (Goes next said) = not (leb 3 (rank next)) || (headed said || leb 3 k)
-opens_by k Wrong = true
+opens_by k (Some (next, said)) = not (leb 3 (rank next)) || (headed said || leb 3 k)
+opens_by k None = true
 
 opens-remarked : (due : Due) → opens_by (rank due) (remarked due) ≡ true
 unfolding remarked is_due opens_by rank headed
 opens-remarked due = b-either (λ m. opens_by (rank due) m ≡ true) (is_due due InRemark) _ _ (λ e. refl) (λ e. refl)
 
-opens-only : (due place next : Due) (said : Said) → opens_by (rank place) (Goes next said) ≡ true
+opens-only : (due place next : Due) (said : Said) → opens_by (rank place) (Some (next, said)) ≡ true
     → opens_by (rank due) (only_at due place next said) ≡ true
 unfolding only_at is_due
 opens-only due place next said p =

@@ -4,17 +4,17 @@ use mathlib.Core.List.{List, [], ◌∷◌}
 use Prim.{tt, Unit}
 use Prim.Native.Nat.{ℕ}
 use lib.ListN.{length}
+use Rattle.std.specs.Prelude.{Ok, Err}
 use Rattle.meaning.specs.Books.{count}
 use Rattle.book.specs.Format.{good, read_of}
 use Rattle.book.specs.Writing.{Fits, records_bytes, bytes_of_book}
 use Rattle.book.proofs.ReadBack.{read-write}
 use Rattle.words.specs.declared.due.Ended.{Ended}
 use Rattle.words.specs.declared.due.Ended.TheVariants.{Nothing as Blank, Rule as Closes, Missing}
-use Rattle.words.specs.declared.decision.Decision.{Decision}
-use Rattle.words.specs.declared.decision.Decision.TheVariants.{Goes as MayGo, Form as BadForm, Name as BadName, TooMany as OneTooMany}
+use Rattle.words.specs.declared.decision.Misplaced.TheVariants.{Form as BadForm, Name as BadName, TooMany as OneTooMany}
 use Rattle.words.specs.Words.{Word, Piece, word, line, pieces}
 use Rattle.words.specs.Moves.{ended_of}
-use Rattle.words.specs.Reading.{State, Outcome, goes, wrong, on_decision, decision_of, on_ended, on_piece, and_then, follow, follow_at, heard, book_of, start}
+use Rattle.words.specs.Reading.{Decision, State, Outcome, goes, wrong, on_decision, decision_of, on_ended, on_piece, and_then, follow, follow_at, heard, book_of, start}
 use Rattle.words.specs.Progress.{Good}
 use Rattle.words.proofs.Good.{good_start, good-blank, good-closed, good-word}
 
@@ -44,10 +44,10 @@ module _ (I : State → Type 0) (step : (p : Piece) (s : State) → I s → Keep
 
 good-decided : (s : State) (g : Good s) (w : Word) (d : Decision) → decision_of w.bytes s ≡ d → Keeps Good (on_decision d w s)
 unfolding Keeps on_decision
-good-decided s g w (MayGo due act) e = good-word s g w w.bytes due act e
-good-decided s g w BadForm e = tt
-good-decided s g w BadName e = tt
-good-decided s g w OneTooMany e = tt
+good-decided s g w (Ok (due, act)) e = good-word s g w w.bytes due act e
+good-decided s g w (Err BadForm) e = tt
+good-decided s g w (Err BadName) e = tt
+good-decided s g w (Err OneTooMany) e = tt
 
 good-ended : (s : State) (g : Good s) (place : ℕ) (e : Ended) → ended_of s.due ≡ e → Keeps Good (on_ended e place s)
 unfolding Keeps on_ended

@@ -10,6 +10,7 @@ use native.Mathlib.Omega.{arith}
 use lib.Dec.{leb}
 use lib.ListN.{length, get_or}
 use borrow.Author.Tests.{le-leb, leb-true}
+use Rattle.std.specs.Prelude.{Some, None, Ok, Err}
 use Rattle.meaning.proofs.Choice.{b-yes, b-no, lt_yes, lt_no, eq_no, b-either, lt-either, eq-either}
 use Rattle.meaning.proofs.Tests.{lt-or-le, decided as either_way, true-and-false}
 use Rattle.book.specs.Making.{listed}
@@ -18,16 +19,13 @@ use Rattle.words.specs.declared.due.Standing.{Standing}
 use Rattle.words.specs.declared.due.Standing.TheVariants.{Head, Positive, Negative}
 use Rattle.words.specs.declared.due.Said.{Said}
 use Rattle.words.specs.declared.due.Said.TheVariants.{Nothing as Silent, Lists, Listed, Atom}
-use Rattle.words.specs.declared.due.Move.{Move}
-use Rattle.words.specs.declared.due.Move.TheVariants.{Goes as Moves, Wrong}
 use Rattle.words.specs.declared.due.Ended.{Ended}
 use Rattle.words.specs.declared.due.Ended.TheVariants.{Nothing as Blank, Rule as Closes, Missing}
-use Rattle.words.specs.declared.decision.Decision.{Decision}
-use Rattle.words.specs.declared.decision.Decision.TheVariants.{Goes, Form, Name, TooMany}
+use Rattle.words.specs.declared.decision.Misplaced.TheVariants.{Form, Name, TooMany}
 use Rattle.words.specs.Words.{Word, Piece, word, line}
 use Rattle.words.specs.Names.{is_named, number_in}
-use Rattle.words.specs.Moves.{ended_of}
-use Rattle.words.specs.Reading.{State, Outcome, goes, wrong, crowded, full, stands, named, noted, begun, on_said, decided, on_decision, decision_of, on_ended, on_piece, heard}
+use Rattle.words.specs.Moves.{Move, ended_of}
+use Rattle.words.specs.Reading.{Decision, State, Outcome, goes, wrong, crowded, full, stands, named, noted, begun, on_said, decided, on_decision, decision_of, on_ended, on_piece, heard}
 use Rattle.words.specs.Rows.{Comes, moves_to, Has, Allowed, Seventeenth, WrongForm, no_place, list-behind-rule, WrongName, unlisted, listed-twice, OneTooMany, listed-name, new-name, rule, positive, negative, WrongAt, form, missing, name, many}
 use Rattle.words.proofs.Names.{bytes-refl, bytes-equal, first_found, first-none}
 use Rattle.words.proofs.Refusals.{refused-first, first-refused}
@@ -66,10 +64,10 @@ module _ (part : List Bool) (a : ℕ) where
 -- ---- a decision and its reason
 
 unfoldable Reason : State → Word → Decision → Type 0
-Reason s w (Goes next act) = Unit {0}
-Reason s w Form = WrongForm s w
-Reason s w Name = WrongName s w
-Reason s w TooMany = OneTooMany s w
+Reason s w (Ok (next, act)) = Unit {0}
+Reason s w (Err Form) = WrongForm s w
+Reason s w (Err Name) = WrongName s w
+Reason s w (Err TooMany) = OneTooMany s w
 
 module _ (s : State) (w : Word) where
   abbrev number : ℕ
@@ -78,7 +76,7 @@ module _ (s : State) (w : Word) where
   abbrev decision : Move → Decision
   decision m = decided m s.fixed (length s.rules) (length s.names) number s.rule
 
-  stands-reason : (standing : Standing) (next : Due) → moves_to s w ≡ Moves next (Atom standing) → Allowed s w
+  stands-reason : (standing : Standing) (next : Due) → moves_to s w ≡ Some (next, (Atom standing)) → Allowed s w
       → Reason s w (stands standing next (length s.rules) number s.rule)
   unfolding Reason stands full
   stands-reason Head next m k =
@@ -92,7 +90,7 @@ module _ (s : State) (w : Word) where
   hasnt : length s.names ≤ number → Has s.names w.bytes → ⊥
   hasnt h k = let n = has-number s.names w.bytes k in omega arith
 
-  said-reason : (next : Due) (said : Said) → moves_to s w ≡ Moves next said → Reason s w (decision (Moves next said))
+  said-reason : (next : Due) (said : Said) → moves_to s w ≡ Some (next, said) → Reason s w (decision (Some (next, said)))
   unfolding Reason decided on_said begun noted named
   said-reason next Silent m = tt
   said-reason next Lists m = eq-either (Reason s w) (length s.rules) 0 _ _ (λ e. tt)
@@ -106,33 +104,33 @@ module _ (s : State) (w : Word) where
 
   move-reason : (m : Move) → moves_to s w ≡ m → Reason s w (decision m)
   unfolding Reason decided
-  move-reason (Moves next said) m = said-reason next said m
-  move-reason Wrong m = no_place m
+  move-reason (Some (next, said)) m = said-reason next said m
+  move-reason None m = no_place m
 
   -- and back: by what the word does there
   moved : {m : Move} → moves_to s w ≡ m → decision_of w.bytes s ≡ decision m
   unfolding decision_of
   moved e = ap decision e
 
-  form-decided : WrongForm s w → decision_of w.bytes s ≡ Form
+  form-decided : WrongForm s w → decision_of w.bytes s ≡ Err Form
   unfolding decided on_said begun
   form-decided (no_place m) = moved m
   form-decided (list-behind-rule m h) = moved m ∙ eq_no _ _ _ _ (λ e. omega arith)
 
-  name-decided : WrongName s w → decision_of w.bytes s ≡ Name
+  name-decided : WrongName s w → decision_of w.bytes s ≡ Err Name
   unfolding decided on_said noted named
   name-decided (unlisted m f) =
       let new = hasnt-number s.names w.bytes (λ h. f (inr h)) in
       moved m ∙ lt_no _ _ _ _ new ∙ b-yes _ _ _ (⊎_elim (λ e. e) (λ e. absurd (f (inl e))) (either_way s.fixed))
   name-decided (listed-twice m h) = moved m ∙ lt_yes _ _ _ _ (has-number _ _ h)
 
-  allowed-many : (d : Decision) → Allowed s w → d ≡ TooMany → named s.fixed (length s.names) number d ≡ TooMany
+  allowed-many : (d : Decision) → Allowed s w → d ≡ Err TooMany → named s.fixed (length s.names) number d ≡ Err TooMany
   unfolding named
-  allowed-many d k e = lt-either (λ (x : Decision). x ≡ TooMany) number (length s.names) _ _ (λ h. e)
+  allowed-many d k e = lt-either (λ (x : Decision). x ≡ Err TooMany) number (length s.names) _ _ (λ h. e)
       (λ h. b-no _ _ _ (⊎_elim (λ f. f) (λ g. absurd (hasnt h g)) k)
-      ∙ lt-either (λ (x : Decision). x ≡ TooMany) (length s.names) 255 _ _ (λ g. e) (λ g. refl))
+      ∙ lt-either (λ (x : Decision). x ≡ Err TooMany) (length s.names) 255 _ _ (λ g. e) (λ g. refl))
 
-  many-decided : OneTooMany s w → decision_of w.bytes s ≡ TooMany
+  many-decided : OneTooMany s w → decision_of w.bytes s ≡ Err TooMany
   unfolding decided on_said noted named stands full
   many-decided (listed-name m f h) = moved m ∙ lt_no _ _ _ _ (hasnt-number _ _ f) ∙ lt_no _ _ _ _ h
   many-decided (new-name m e f h) = moved m ∙ lt_no _ _ _ _ (hasnt-number _ _ f) ∙ b-no _ _ _ e ∙ lt_no _ _ _ _ h
@@ -149,10 +147,10 @@ module _ (text : List ℕ) where
 
   word_row : (w : Word) (s : State) → Comes text (word w) s → (d : Decision) → Reason s w d → Row (on_decision d w s)
   unfolding Reason Row on_decision
-  word_row w s c (Goes next act) r = tt
-  word_row w s c Form r = form c r
-  word_row w s c Name r = name c r
-  word_row w s c TooMany r = many c r
+  word_row w s c (Ok (next, act)) r = tt
+  word_row w s c (Err Form) r = form c r
+  word_row w s c (Err Name) r = name c r
+  word_row w s c (Err TooMany) r = many c r
 
   line_row : (at : ℕ) (s : State) → Comes text (line at) s → (e : Ended) → ended_of s.due ≡ e → Row (on_ended e at s)
   unfolding Row on_ended

@@ -10,6 +10,7 @@ use native.Mathlib.Omega.{arith}
 use lib.ListN.{length, set, drop, length-append}
 use lib.Seq.{append_snoc}
 use borrow.Author.Tests.{lt-leb}
+use Rattle.std.specs.Prelude.{Some}
 use Rattle.meaning.specs.declared.AtomNo.{AtomNo}
 use Rattle.meaning.specs.Books.{Rule}
 use Rattle.book.specs.Writing.{BodyFits, RuleFits}
@@ -17,7 +18,6 @@ use Rattle.words.specs.declared.due.Due.{Due}
 use Rattle.words.specs.declared.due.Due.TheVariants.{Line, AfterHead, Literal, Negative as DueNegative, AfterAtom}
 use Rattle.words.specs.declared.due.Standing.TheVariants.{Head, Positive, Negative}
 use Rattle.words.specs.declared.due.Said.TheVariants.{Nothing as Silent}
-use Rattle.words.specs.declared.due.Move.TheVariants.{Goes as Moves}
 use Rattle.words.specs.declared.due.Ended.TheVariants.{Rule as Closes}
 use Rattle.words.specs.declared.opened.Open.{Open}
 use Rattle.words.specs.Words.{Word, Piece, word, line, pieces_at}
@@ -34,7 +34,7 @@ use Rattle.words.proofs.Steps.{fixed_at, Ends, if-leads, and-leads, not-leads, n
 use Rattle.words.proofs.Tables.{Table, table_none, next-below, table_more, table-room}
 
 record Link (due : Due) (w : List ℕ) : Type 0 where
-  leads : move_of due (term_of w) ≡ Moves Literal Silent
+  leads : move_of due (term_of w) ≡ Some (Literal, Silent)
   ends : ended_of due ≡ Closes
 
 if-link : Link AfterHead if_word

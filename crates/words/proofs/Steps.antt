@@ -8,6 +8,7 @@ use mathlib.Core.Bool.{true, false}
 use mathlib.Core.List.{List, [], ◌∷◌, ◌++◌}
 use Prim.Native.Nat.{ℕ, ◌<◌, ◌≤◌}
 use lib.ListN.{length}
+use Rattle.std.specs.Prelude.{Some, Ok}
 use Rattle.meaning.specs.Choice.{ifb, if_eq}
 use Rattle.meaning.specs.Books.{Rule}
 use Rattle.meaning.proofs.Choice.{b-no, lt_yes, lt_no}
@@ -17,12 +18,10 @@ use Rattle.words.specs.declared.due.Due.{Due}
 use Rattle.words.specs.declared.due.Due.TheVariants.{Line, Listing, AfterHead, Literal, Negative, AfterAtom}
 use Rattle.words.specs.declared.due.Standing.{Standing}
 use Rattle.words.specs.declared.due.Said.TheVariants.{Nothing as Silent, Listed, Atom}
-use Rattle.words.specs.declared.due.Move.TheVariants.{Goes as Moves}
 use Rattle.words.specs.declared.due.Ended.TheVariants.{Nothing as Blank, Rule as Closes}
 use Rattle.words.specs.declared.opened.Open.{Open}
 use Rattle.words.specs.declared.decision.Act.{Act}
 use Rattle.words.specs.declared.decision.Act.TheVariants.{Nothing, Fix, Note, Stand}
-use Rattle.words.specs.declared.decision.Decision.TheVariants.{Goes}
 use Rattle.words.specs.Words.{Word, Piece, word, line}
 use Rattle.words.specs.Names.{same_bytes, number_in}
 use Rattle.words.specs.Terms.{if_word, and_word, not_word, atoms_word, term_of}
@@ -37,15 +36,15 @@ Ends y ps s = said (follow ps s) ≡ y
 
 -- ---- where the words lead
 
-pub if-leads : move_of AfterHead (term_of if_word) ≡ Moves Literal Silent
+pub if-leads : move_of AfterHead (term_of if_word) ≡ Some (Literal, Silent)
 unfolding move_of only_at is_due rank term_of same_bytes ifb
 if-leads = refl
 
-pub and-leads : move_of AfterAtom (term_of and_word) ≡ Moves Literal Silent
+pub and-leads : move_of AfterAtom (term_of and_word) ≡ Some (Literal, Silent)
 unfolding move_of only_at is_due rank term_of same_bytes ifb
 and-leads = refl
 
-pub not-leads : move_of Literal (term_of not_word) ≡ Moves Negative Silent
+pub not-leads : move_of Literal (term_of not_word) ≡ Some (Negative, Silent)
 unfolding move_of only_at is_due rank term_of same_bytes ifb
 not-leads = refl
 
@@ -53,25 +52,25 @@ pub name-leads : (due : Due) (w : List ℕ) → term_of w ≡ Name → move_of d
 unfolding move_of
 name-leads due w e = rw e refl
 
-pub atoms-begin : decision_of atoms_word start ≡ Goes Listing Fix
+pub atoms-begin : decision_of atoms_word start ≡ Ok (Listing, Fix)
 unfolding decision_of decided on_said begun move_of only_at is_due rank term_of same_bytes ifb if_eq
 atoms-begin = refl
 
 -- ---- a word
 
 module _ (y : Says) (ps : List Piece) where
-  pub step-goes : (v : Word) (s : State) (due : Due) (act : Act) → decision_of v.bytes s ≡ Goes due act → Ends y ps (done due act v s)
+  pub step-goes : (v : Word) (s : State) (due : Due) (act : Act) → decision_of v.bytes s ≡ Ok (due, act) → Ends y ps (done due act v s)
       → Ends y (word v ∷ ps) s
   unfolding follow and_then on_piece on_decision
   step-goes v s due act e h = rw e h
 
   module _ (names : List Word) (rules : List Rule) (o : Open) (due next : Due) (v : Word) where
-    pub step-silent : move_of due (term_of v.bytes) ≡ Moves next Silent → Ends y ps (fixed_at next names rules o)
+    pub step-silent : move_of due (term_of v.bytes) ≡ Some (next, Silent) → Ends y ps (fixed_at next names rules o)
         → Ends y (word v ∷ ps) (fixed_at due names rules o)
     unfolding decision_of decided on_said done
     step-silent e h = step-goes v (fixed_at due names rules o) next Nothing (rw e refl) h
 
-    pub step-listed : move_of due (term_of v.bytes) ≡ Moves next Listed → length names ≤ number_in names v.bytes → length names < 255
+    pub step-listed : move_of due (term_of v.bytes) ≡ Some (next, Listed) → length names ≤ number_in names v.bytes → length names < 255
         → Ends y ps (fixed_at next (names ++ (v ∷ [])) rules o) → Ends y (word v ∷ ps) (fixed_at due names rules o)
     unfolding decision_of decided on_said noted done
     step-listed e k l h = step-goes v (fixed_at due names rules o) next Note (rw e (lt_no _ _ _ _ k ∙ lt_yes _ _ _ _ l)) h
@@ -81,7 +80,7 @@ module _ (y : Says) (ps : List Piece) where
     unfolding known
     known-old a l = lt_yes _ _ _ _ l
 
-    pub step-atom : (standing : Standing) (a : ℕ) → move_of due (term_of v.bytes) ≡ Moves next (Atom standing)
+    pub step-atom : (standing : Standing) (a : ℕ) → move_of due (term_of v.bytes) ≡ Some (next, (Atom standing))
         → number_in names v.bytes ≡ a → a < length names → full standing (length rules) a o ≡ false
         → Ends y ps (fixed_at next names rules (placed standing a o)) → Ends y (word v ∷ ps) (fixed_at due names rules o)
     unfolding decision_of decided on_said named stands done

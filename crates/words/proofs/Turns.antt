@@ -6,6 +6,7 @@ use mathlib.Core.List.{List, [], ◌∷◌, ◌++◌, append-nil}
 use Prim.Native.Nat.{ℕ, ◌+◌, ◌<◌, ◌≤◌}
 use native.Mathlib.Omega.{arith}
 use lib.ListN.{length, get_or}
+use Rattle.std.specs.Prelude.{Ok, Err}
 use Rattle.meaning.specs.Books.{Rule}
 use Rattle.meaning.proofs.Choice.{lt_yes, lt_no, lt-either}
 use Rattle.meaning.proofs.Tests.{true-and-false}
@@ -17,16 +18,16 @@ use Rattle.words.specs.declared.due.Ended.{Ended}
 use Rattle.words.specs.declared.due.Ended.TheVariants.{Nothing as Blank, Rule as Closes, Missing}
 use Rattle.words.specs.declared.decision.Act.{Act}
 use Rattle.words.specs.declared.decision.Act.TheVariants.{Nothing, Fix, Note, Stand}
-use Rattle.words.specs.declared.decision.Decision.{Decision}
-use Rattle.words.specs.declared.decision.Decision.TheVariants.{Goes as MayGo, Form as BadForm, Name as BadName, TooMany as OneTooMany}
+use Rattle.words.specs.declared.decision.Misplaced.{Misplaced}
+use Rattle.words.specs.declared.decision.Misplaced.TheVariants.{Form}
 use Rattle.words.specs.declared.step.Fate.{Fate}
-use Rattle.words.specs.declared.step.Fate.TheVariants.{Goes, Done, Form, Name, TooMany}
+use Rattle.words.specs.declared.step.Fate.TheVariants.{Goes, Done, Refused}
 use Rattle.words.specs.declared.step.Reading.{Reading}
 use Rattle.words.specs.Words.{start_of, end_of, Word, between, word_at}
 use Rattle.words.specs.Names.{no_word}
 use Rattle.words.specs.Moves.{ended_of}
-use Rattle.words.specs.Reading.{State, known, done, goes, wrong, on_decision, decision_of, next_line, open_rule, on_ended, on_piece, and_then, follow_at, heard, book_of, start}
-use Rattle.words.specs.Progress.{known_of, reading_of, Able, known_by, weighed, acted, halted, on_weighed, worded, closed_by, next_at, lined_by, Lined, goes_on, Good, InText, Holds, Along, going, whole, form, name, many}
+use Rattle.words.specs.Reading.{Decision, number, State, known, done, goes, wrong, on_decision, decision_of, next_line, open_rule, on_ended, on_piece, and_then, follow_at, heard, book_of, start}
+use Rattle.words.specs.Progress.{known_of, reading_of, Able, known_by, weighed, acted, halted, on_weighed, worded, closed_by, next_at, lined_by, Lined, goes_on, Good, InText, Holds, Along, going, whole, barred}
 use Rattle.words.proofs.Words.{start-late}
 use Rattle.words.proofs.Able.{weighed-able}
 use Rattle.words.proofs.Places.{known_more, place-number, spelled-more}
@@ -48,9 +49,7 @@ pub on-way : (text : List ℕ) (r : Reading) (draft : List ℕ) → Along text r
 unfolding goes_on
 on-way text r draft (going s e h f) g = record { state = s; same = e; holds = h; rest = f }
 on-way text r draft (whole s e h f) g = not_going r.fate g (ap (λ (x : Reading). goes_on x.fate) e)
-on-way text r draft (form place e f) g = not_going r.fate g (ap goes_on e)
-on-way text r draft (name place e f) g = not_going r.fate g (ap goes_on e)
-on-way text r draft (many place e f) g = not_going r.fate g (ap goes_on e)
+on-way text r draft (barred why place e f) g = not_going r.fate g (ap goes_on e)
 
 -- ---- a word, in the code's terms and in those of the definition
 
@@ -110,17 +109,9 @@ module _ (text : List ℕ) (before : ℕ) (n : Reading) (draft : List ℕ) where
   is-done s at m e h f = rw e (whole s refl h f, λ p. true-and-false p refl)
 
   module _ (r : Reading) (place : ℕ) where
-    bad-form : n ≡ halted r (Form place) → wrong 40 place ≡ heard text → Turned text before n draft
+    is-barred : (why : Misplaced) → n ≡ halted r (Refused why place) → wrong (number why) place ≡ heard text → Turned text before n draft
     unfolding goes_on
-    bad-form e f = rw e (form place refl f, λ p. true-and-false p refl)
-
-    bad-name : n ≡ halted r (Name place) → wrong 41 place ≡ heard text → Turned text before n draft
-    unfolding goes_on
-    bad-name e f = rw e (name place refl f, λ p. true-and-false p refl)
-
-    one-too-many : n ≡ halted r (TooMany place) → wrong 42 place ≡ heard text → Turned text before n draft
-    unfolding goes_on
-    one-too-many e f = rw e (many place refl f, λ p. true-and-false p refl)
+    is-barred why e f = rw e (barred why place refl f, λ p. true-and-false p refl)
 
 -- the rules that were made are counted
 pub rules-counted : (text : List ℕ) (s : State) (at : ℕ) (m : Making) (draft : List ℕ) → Holds text s at m draft
@@ -151,7 +142,7 @@ module _ (text : List ℕ) (r : Reading) (draft : List ℕ) (o : OnWay text r dr
     by-decision : (n : Reading) (d : Decision) → decision_of w.bytes s ≡ d → n ≡ on_weighed d r i j
         → and_then (on_decision d w s) (follow_at text j) ≡ heard text → Turned text r.at n draft
     unfolding on_weighed on_decision and_then
-    by-decision n (MayGo due act) e g k =
+    by-decision n (Ok (due, act)) e g k =
         let (a, b, c) = word-ahead text r.at i j f in
         let able = weighed-able text w.bytes stood o.holds.good.book.atoms due act
         (weighed-decision text s r.at r.making draft o.holds Goes w.bytes (rules-counted text s _ _ draft o.holds).1 ∙ e) in
@@ -163,9 +154,8 @@ module _ (text : List ℕ) (r : Reading) (draft : List ℕ) (o : OnWay text r dr
           spelled = spelled-done text s w (word_in text r.at i j f) o.holds.spelled due act;
           made = made-done s w due act r.making draft o.holds.made;
         }) k (omega arith)
-    by-decision n BadForm e g k = bad-form text r.at n draft r i g (ap (wrong 40) (sym (word-place text r.at i j f)) ∙ k)
-    by-decision n BadName e g k = bad-name text r.at n draft r i g (ap (wrong 41) (sym (word-place text r.at i j f)) ∙ k)
-    by-decision n OneTooMany e g k = one-too-many text r.at n draft r i g (ap (wrong 42) (sym (word-place text r.at i j f)) ∙ k)
+    by-decision n (Err why) e g k =
+        is-barred text r.at n draft r i why g (ap (wrong (number why)) (sym (word-place text r.at i j f)) ∙ k)
 
     pub word-turn : (n : Reading) → n ≡ worded text r i j → Turned text r.at n draft
     unfolding on_piece
@@ -188,7 +178,7 @@ module _ (text : List ℕ) (r : Reading) (draft : List ℕ) (o : OnWay text r dr
     by-ended : {A : Type 0} (n : Reading) (e : Ended) → ended_of s.due ≡ e → Adds (closed_by e r.rule) r.making draft m after
         → n ≡ lined_by e r place at fate m
         → ((t : State) → n ≡ reading_of fate at m t → Holds text t at m after → on_ended e place s ≡ goes t → A)
-        → (n ≡ halted r (Form place) → on_ended e place s ≡ wrong 40 place → A) → A
+        → (n ≡ halted r (Refused Form place) → on_ended e place s ≡ wrong 40 place → A) → A
     unfolding closed_by lined_by on_ended
     by-ended n Blank e a l f g =
         f (next_line s.rules s) (next-same n s.rules l)
@@ -208,7 +198,7 @@ module _ (text : List ℕ) (r : Reading) (draft : List ℕ) (o : OnWay text r dr
       let rest = sym (follow-line text r.at s i f) ∙ o.rest in
       by-ended i (i + 1) Goes l.making after (omega arith) n (ended_of s.due) refl (rw ended-as at l.adds) (rw ended-as at l.next)
       (λ t p q g. goes_further text r.at n after t (i + 1) l.making p q (rw g at rest) (omega (arith, start-late text r.at)))
-      (λ p g. bad-form text r.at n after r i p (rw g at rest))
+      (λ p g. is-barred text r.at n after r i Form p (rw g at rest))
 
   pub end-turn : length text ≤ start_of text r.at → (n : Reading) (after : List ℕ)
       → Lined r (length text) (length text) Done draft n after → Turned text r.at n after
@@ -217,7 +207,7 @@ module _ (text : List ℕ) (r : Reading) (draft : List ℕ) (o : OnWay text r dr
       let rest = sym (follow-end text r.at s f) ∙ o.rest in
       by-ended (length text) (length text) Done l.making after (omega arith) n (ended_of s.due) refl (rw ended-as at l.adds) (rw ended-as at l.next)
       (λ t p q g. is-done text r.at n after t (length text) l.making p q (sym g ∙ rest))
-      (λ p g. bad-form text r.at n after r (length text) p (sym g ∙ rest))
+      (λ p g. is-barred text r.at n after r (length text) Form p (sym g ∙ rest))
 
 -- ---- begin and end
 

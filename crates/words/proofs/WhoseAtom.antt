@@ -6,19 +6,18 @@ use Prim.{tt, Unit}
 use Prim.Native.Nat.{ℕ, zero, suc, ◌+◌, ◌-◌, ◌<◌, ◌≤◌}
 use native.Mathlib.Omega.{arith}
 use lib.ListN.{length, get_or}
+use Rattle.std.specs.Prelude.{Option, Some, None, Ok, Err}
 use Rattle.meaning.specs.Books.{atom_no}
+use Rattle.meaning.specs.declared.AtomNo.{AtomNo}
 use Rattle.meaning.proofs.Choice.{lt_yes, lt_no, lt-either, eq-either}
 use Rattle.meaning.proofs.Tests.{lt-or-le}
-use Rattle.words.specs.declared.answer.Whose.{Whose}
-use Rattle.words.specs.declared.answer.Whose.TheVariants.{Atom, Nothing}
 use Rattle.words.specs.declared.due.Ended.{Ended}
 use Rattle.words.specs.declared.due.Ended.TheVariants.{Nothing as Blank, Rule as Closes, Missing}
-use Rattle.words.specs.declared.decision.Decision.{Decision}
-use Rattle.words.specs.declared.decision.Decision.TheVariants.{Goes, Form, Name, TooMany}
+use Rattle.words.specs.declared.decision.Misplaced.TheVariants.{Form, Name, TooMany}
 use Rattle.words.specs.Words.{start_of, end_of, Word, Piece, word, line, pieces_from, pieces_at, pieces}
 use Rattle.words.specs.Names.{no_word, number_in, whose_of}
 use Rattle.words.specs.Moves.{ended_of}
-use Rattle.words.specs.Reading.{State, goes, on_decision, decision_of, on_ended, on_piece, follow, follow_at, heard, start, names_of}
+use Rattle.words.specs.Reading.{Decision, State, goes, on_decision, decision_of, on_ended, on_piece, follow, follow_at, heard, start, names_of}
 use Rattle.words.specs.Text.{GoodNames}
 use Rattle.words.specs.Make.{filled, starts_of, ends_of}
 use Rattle.words.specs.Progress.{InText}
@@ -28,25 +27,25 @@ use Rattle.words.proofs.Turns.{spelled-done}
 use Rattle.words.proofs.Reached.{Keeps, then_keeps}
 use Rattle.words.proofs.Numbers.{number-named, number-of}
 
-unfoldable number_of : Whose → ℕ
-number_of (Atom a) = suc a.0
-number_of Nothing = 0
+unfoldable number_of : Option AtomNo → ℕ
+number_of (Some a) = suc a.0
+number_of None = 0
 
 module _ (text : List ℕ) (names : List Word) (t : (i : ℕ) → i < length names → InText text (get_or names i no_word)) (g : GoodNames (names_of names))
     (l : List ℕ) where
-  abbrev told : Whose
+  abbrev told : Option AtomNo
   told = whose_of text (length names) (filled (starts_of names)) (filled (ends_of names)) l
 
-  told-found : number_in names l < length names → told ≡ Atom (atom_no (number_in names l))
+  told-found : number_in names l < length names → told ≡ Some (atom_no (number_in names l))
   unfolding whose_of
   told-found h = rw (place-number text names t l) (lt_yes _ _ _ _ h)
 
-  told-nothing : length names ≤ number_in names l → told ≡ Nothing
+  told-nothing : length names ≤ number_in names l → told ≡ None
   unfolding whose_of
   told-nothing h = rw (place-number text names t l) (lt_no _ _ _ _ h)
 
   -- the atom told has the name
-  pub whose-named : (a : ℕ) → told ≡ Atom (atom_no a) → (a < length names) × (get_or (names_of names) a [] ≡ l)
+  pub whose-named : (a : ℕ) → told ≡ Some (atom_no a) → (a < length names) × (get_or (names_of names) a [] ≡ l)
   unfolding number_of
   whose-named a e = ⊎_elim
       (λ h. let f : suc (number_in names l) ≡ suc a = ap number_of (sym (told-found h) ∙ e) in
@@ -55,10 +54,10 @@ module _ (text : List ℕ) (names : List Word) (t : (i : ℕ) → i < length nam
       (lt-or-le (number_in names l) (length names))
 
   -- and the atom with the name is told
-  pub named-whose : (a : ℕ) → a < length names → get_or (names_of names) a [] ≡ l → told ≡ Atom (atom_no a)
+  pub named-whose : (a : ℕ) → a < length names → get_or (names_of names) a [] ≡ l → told ≡ Some (atom_no a)
   named-whose a h e =
       let same = number-of names l g a h e in
-      told-found (omega (arith, same)) ∙ ap (λ n. Atom (atom_no n)) same
+      told-found (omega (arith, same)) ∙ ap (λ n. Some (atom_no n)) same
 
 -- ---- the names of a text stand in it
 
@@ -82,10 +81,10 @@ Spelled text s = (i : ℕ) → i < length s.names → InText text (get_or s.name
 module _ (text : List ℕ) where
   spelled-decided : (s : State) → Spelled text s → (w : Word) → InText text w → (d : Decision) → Keeps (Spelled text) (on_decision d w s)
   unfolding Keeps on_decision
-  spelled-decided s f w t (Goes due act) = spelled-done text s w t f due act
-  spelled-decided s f w t Form = tt
-  spelled-decided s f w t Name = tt
-  spelled-decided s f w t TooMany = tt
+  spelled-decided s f w t (Ok (due, act)) = spelled-done text s w t f due act
+  spelled-decided s f w t (Err Form) = tt
+  spelled-decided s f w t (Err Name) = tt
+  spelled-decided s f w t (Err TooMany) = tt
 
   spelled-ended : (s : State) → Spelled text s → (place : ℕ) (e : Ended) → Keeps (Spelled text) (on_ended e place s)
   unfolding Keeps on_ended

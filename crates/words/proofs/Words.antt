@@ -1,5 +1,5 @@
--- The words of a text and its lines' ends, one by one: the turns of the two loops that find a word's ends, and that the pieces from a place on
--- are the first of them and the pieces behind it.
+-- The words of a text and its lines' ends, one by one: the two searches that find a word's ends, and that the pieces from a place on are the
+-- first of them and the pieces behind it.
 use mathlib.Core.Path.{◌≡◌, refl, ap, sym, ◌∙◌}
 use mathlib.Core.Bool.{true, false}
 use mathlib.Core.List.{List, [], ◌∷◌}
@@ -7,40 +7,44 @@ use Prim.Native.Nat.{ℕ, zero, suc, ◌+◌, ◌-◌, ◌<◌, ◌≤◌}
 use native.Mathlib.Nat.{add-zero}
 use native.Mathlib.Numerals.{add-one}
 use native.Mathlib.Omega.{arith}
-use lib.ListN.{length, get_or, drop, length-drop, drop_of_length-le}
-use lib.Seq.{drop-cons, get_or-drop}
+use lib.ListN.{length, get_or, take, drop, length-drop}
+use lib.Seq.{get_or-drop, take_all}
 use borrow.Author.Tests.{ne_eqb}
+use Rattle.std.specs.Prelude.{Option, MatchOption, unwrap_or}
+use Rattle.std.specs.List.{HoldsAt, AllWithin}
+use Rattle.std.proofs.lemmas.Iterator.{index_from_first}
 use Rattle.meaning.specs.Choice.{ifb}
-use Rattle.meaning.proofs.Choice.{b-no, b-either, lt_yes, lt_no, lt-either, eq_yes, eq_no, eq-either}
+use Rattle.meaning.proofs.Choice.{b-yes, b-no, b-either, lt_yes, lt_no, lt-either, eq_yes, eq_no, eq-either}
 use Rattle.words.specs.declared.token.Token.TheVariants.{Word as AWord, Line, End}
 use Rattle.words.specs.Words.{blank, parting, blanks, span, start_of, end_of, word_at, token_at, word, line, pieces_from, pieces_at}
 
--- ---- the two loops
+-- ---- the two searches
 
-module _ (s : List ℕ) (i : ℕ) where
-  pub start-end : length s ≤ i → start_of s i ≡ i
+-- what a search tells of the first that has P, where the others have Q
+abbrev pub First : (P Q : ℕ → Type 0) → List ℕ → Option ℕ → Type 0
+First P Q l r = MatchOption r (AllWithin Q l 0 (length l)) (λ i. (i < length l) × HoldsAt P l i × AllWithin Q l 0 i)
+
+-- the bytes from a place on, as a part of the text
+abbrev pub rest : List ℕ → ℕ → List ℕ
+rest s at = take (length s - at) (drop at s)
+
+rest-whole : (s : List ℕ) (at : ℕ) → rest s at ≡ drop at s
+rest-whole s at = take_all (length s - at) (drop at s) (omega (arith, length-drop at s))
+
+module _ (s : List ℕ) (at : ℕ) (r : Option ℕ) where
+  pub start-found : First (λ x. blank x ≡ false) (λ x. blank x ≡ true) (rest s at) r → at + unwrap_or r (length (rest s at)) ≡ start_of s at
   unfolding start_of blanks
-  start-end h = rw (drop_of_length-le s h) (add-zero i)
+  start-found h =
+      ap (λ n. at + n) (sym (index_from_first blanks (λ x. blank x ≡ false) (λ x. blank x ≡ true) refl (λ x xs e. b-no _ _ _ e)
+      (λ x xs e. b-yes _ _ _ e ∙ sym (add-one _)) (rest s at) r h))
+      ∙ ap (λ k. at + blanks k) (rest-whole s at)
 
-  pub start-here : i < length s → blank (get_or s i 0) ≡ false → start_of s i ≡ i
-  unfolding start_of blanks ifb
-  start-here h e = rw (drop-cons s i 0 h, e) (add-zero i)
-
-  pub start-turn : i < length s → blank (get_or s i 0) ≡ true → start_of s i ≡ start_of s (i + 1)
-  unfolding start_of blanks ifb
-  start-turn h e = rw (add-one i, drop-cons s i 0 h, e) (omega arith)
-
-  pub end-end : length s ≤ i → end_of s i ≡ i
+  pub end-found : First (λ x. parting x ≡ true) (λ x. parting x ≡ false) (rest s at) r → at + unwrap_or r (length (rest s at)) ≡ end_of s at
   unfolding end_of span
-  end-end h = rw (drop_of_length-le s h) (add-zero i)
-
-  pub end-here : i < length s → parting (get_or s i 0) ≡ true → end_of s i ≡ i
-  unfolding end_of span ifb
-  end-here h e = rw (drop-cons s i 0 h, e) (add-zero i)
-
-  pub end-turn : i < length s → parting (get_or s i 0) ≡ false → end_of s i ≡ end_of s (i + 1)
-  unfolding end_of span ifb
-  end-turn h e = rw (add-one i, drop-cons s i 0 h, e) (omega arith)
+  end-found h =
+      ap (λ n. at + n) (sym (index_from_first span (λ x. parting x ≡ true) (λ x. parting x ≡ false) refl (λ x xs e. b-yes _ _ _ e)
+      (λ x xs e. b-no _ _ _ e ∙ sym (add-one _)) (rest s at) r h))
+      ∙ ap (λ k. at + span k) (rest-whole s at)
 
 -- ---- one piece
 

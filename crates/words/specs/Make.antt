@@ -2,25 +2,34 @@
 -- "43 buffer too short for the book", last. "Nothing is written on a refusal."
 --
 --   told_book             an answer's number and values, case by case
+--   unworded why place    the refusal of a word that starts there, or of a line that ends there
 --   filled l             the 255 places of an array that begins with these, the later ones 0
 --   Answer               what is told, and what the three buffers hold afterwards
 --   make_of ..            the answer and the buffers, of the text and of the buffers before
-use Rattle.std.specs.Prelude.{List, ◌++◌, map, ℕ, ◌+◌, ◌-◌, length, drop, replicate}
+use Rattle.std.specs.Prelude.{List, ◌++◌, map, ℕ, ◌+◌, ◌-◌, length, drop, replicate, Result, Ok, Err}
 use Rattle.meaning.specs.Choice.{if_lt}
 use Rattle.meaning.specs.Told.{Told, success, refused_at, refused}
 use Rattle.book.specs.Writing.{bytes_of_book}
-use Rattle.words.specs.declared.answer.Worded.{Worded}
-use Rattle.words.specs.declared.answer.Worded.TheVariants.{Book, Form, Name, TooMany, NoRoom}
+use Rattle.words.specs.declared.decision.Misplaced.{Misplaced}
+use Rattle.words.specs.declared.decision.Misplaced.TheVariants.{Form as BadForm, Name as BadName, TooMany as OneTooMany}
+use Rattle.words.specs.declared.answer.Unworded.{Unworded}
+use Rattle.words.specs.declared.answer.Unworded.TheVariants.{Form, Name, TooMany, NoRoom}
 use Rattle.words.specs.Words.{Word}
 use Rattle.words.specs.Reading.{State, Outcome, goes, wrong, heard, book_of}
 
 -- success tells the book's length
-abbrev pub told_book : Worded → Told ℕ
-told_book (Book n) = success n
-told_book (Form place) = refused_at 40 place
-told_book (Name place) = refused_at 41 place
-told_book (TooMany place) = refused_at 42 place
-told_book NoRoom = refused 43
+abbrev pub told_book : Result ℕ Unworded → Told ℕ
+told_book (Ok n) = success n
+told_book (Err (Form place)) = refused_at 40 place
+told_book (Err (Name place)) = refused_at 41 place
+told_book (Err (TooMany place)) = refused_at 42 place
+told_book (Err NoRoom) = refused 43
+
+-- the refusal of a word that starts there, or of a line that ends there
+abbrev pub unworded : Misplaced → ℕ → Unworded
+unworded BadForm place = Form place
+unworded BadName place = Name place
+unworded OneTooMany place = TooMany place
 
 unfoldable pub filled : List ℕ → List ℕ
 filled l = l ++ replicate (255 - length l) 0

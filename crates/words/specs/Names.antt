@@ -5,12 +5,11 @@
 --   number_in names l         the number of the name with these bytes, or how many names there are
 --   is_between s from to l    these bytes stand in the text from one place to another
 --   whose_of ..               the first of the first `atoms` places whose name the word is
-use Rattle.std.specs.Prelude.{Bool, true, false, ◌&&◌, List, [], ◌∷◌, ℕ, zero, suc, eqb, length, get_or}
+use Rattle.std.specs.Prelude.{Bool, true, false, ◌&&◌, List, [], ◌∷◌, ℕ, zero, suc, eqb, length, get_or, Option, Some, None}
 use Rattle.meaning.specs.Choice.{ifb, if_lt}
 use Rattle.meaning.specs.Sets.{Set}
 use Rattle.meaning.specs.Books.{atom_no}
-use Rattle.words.specs.declared.answer.Whose.{Whose}
-use Rattle.words.specs.declared.answer.Whose.TheVariants.{Atom, Nothing}
+use Rattle.meaning.specs.declared.AtomNo.{AtomNo}
 use Rattle.words.specs.Words.{Word, between}
 
 unfoldable pub same_bytes : List ℕ → List ℕ → Bool
@@ -44,5 +43,5 @@ is_spelled s from to l i = is_between s (get_or from i 0) (get_or to i 0) l
 unfoldable pub place_of : List ℕ → ℕ → List ℕ → List ℕ → List ℕ → ℕ
 place_of s n from to l = first_from 0 n (is_spelled s from to l)
 
-unfoldable pub whose_of : List ℕ → ℕ → List ℕ → List ℕ → List ℕ → Whose
-whose_of s atoms from to l = if_lt (place_of s atoms from to l) atoms (Atom (atom_no (place_of s atoms from to l))) Nothing
+unfoldable pub whose_of : List ℕ → ℕ → List ℕ → List ℕ → List ℕ → Option AtomNo
+whose_of s atoms from to l = if_lt (place_of s atoms from to l) atoms (Some (atom_no (place_of s atoms from to l))) None

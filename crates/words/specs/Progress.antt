@@ -12,7 +12,7 @@
 --   InText s w               the word stands in the text at its place
 --   Holds text s at m d      the state is good, its names stand in the text, and its rules were made
 --   Along text r draft       reading goes on, is done or was refused as the text says
-use Rattle.std.specs.Prelude.{◌≡◌, Bool, true, false, List, [], ◌∷◌, ℕ, ◌+◌, ◌≤◌, ◌<◌, leb, length, get_or, set}
+use Rattle.std.specs.Prelude.{◌≡◌, Bool, true, false, List, [], ◌∷◌, ℕ, ◌+◌, ◌≤◌, ◌<◌, leb, length, get_or, set, Ok, Err}
 use Prim.{Unit}
 use Rattle.meaning.specs.Choice.{if_lt}
 use Rattle.meaning.specs.Books.{Rule}
@@ -27,16 +27,16 @@ use Rattle.words.specs.declared.known.Known.{Known}
 use Rattle.words.specs.declared.opened.Open.{Open}
 use Rattle.words.specs.declared.decision.Act.{Act}
 use Rattle.words.specs.declared.decision.Act.TheVariants.{Nothing, Fix, Note, Stand}
-use Rattle.words.specs.declared.decision.Decision.{Decision}
-use Rattle.words.specs.declared.decision.Decision.TheVariants.{Goes as MayGo, Form as BadForm, Name as BadName, TooMany as OneTooMany}
+use Rattle.words.specs.declared.decision.Misplaced.{Misplaced}
+use Rattle.words.specs.declared.decision.Misplaced.TheVariants.{Form}
 use Rattle.words.specs.declared.step.Fate.{Fate}
-use Rattle.words.specs.declared.step.Fate.TheVariants.{Goes, Done, Form, Name, TooMany}
+use Rattle.words.specs.declared.step.Fate.TheVariants.{Goes, Done, Refused}
 use Rattle.words.specs.declared.step.Reading.{Reading}
 use Rattle.words.specs.Words.{Word, between}
 use Rattle.words.specs.Names.{no_word, place_of}
 use Rattle.words.specs.Terms.{term_of}
 use Rattle.words.specs.Moves.{rank, move_of, ended_of}
-use Rattle.words.specs.Reading.{State, placed, decided, goes, wrong, follow_at, heard, book_of}
+use Rattle.words.specs.Reading.{Decision, State, placed, decided, number, goes, wrong, follow_at, heard, book_of}
 use Rattle.words.specs.Make.{filled, starts_of, ends_of}
 
 abbrev pub known_of : List Word → Known
@@ -90,10 +90,8 @@ halted r fate = record {
 }
 
 unfoldable pub on_weighed : Decision → Reading → ℕ → ℕ → Reading
-on_weighed (MayGo due act) r from to = acted r due act from to
-on_weighed BadForm r from to = halted r (Form from)
-on_weighed BadName r from to = halted r (Name from)
-on_weighed OneTooMany r from to = halted r (TooMany from)
+on_weighed (Ok (due, act)) r from to = acted r due act from to
+on_weighed (Err why) r from to = halted r (Refused why from)
 
 abbrev pub worded : List ℕ → Reading → ℕ → ℕ → Reading
 worded text r from to = on_weighed (weighed text (between text from to) r) r from to
@@ -112,7 +110,7 @@ next_at r at fate m =
 unfoldable pub lined_by : Ended → Reading → ℕ → ℕ → Fate → Making → Reading
 lined_by Blank r place at fate m = next_at r at fate m
 lined_by Closes r place at fate m = next_at r at fate m
-lined_by Missing r place at fate m = halted r (Form place)
+lined_by Missing r place at fate m = halted r (Refused Form place)
 
 -- the line's end at `place` was taken, which made `after` of the draft
 pub record Lined (r : Reading) (place at : ℕ) (fate : Fate) (before : List ℕ) (n : Reading) (after : List ℕ) : Type 0 where
@@ -126,9 +124,7 @@ pub record Lined (r : Reading) (place at : ℕ) (fate : Fate) (before : List ℕ
 unfoldable pub goes_on : Fate → Bool
 goes_on Goes = true
 goes_on Done = false
-goes_on (Form place) = false
-goes_on (Name place) = false
-goes_on (TooMany place) = false
+goes_on (Refused why place) = false
 
 unfoldable pub Able : ℕ → Act → Type 0
 Able count Nothing = Unit {0}
@@ -164,6 +160,4 @@ pub data Along (text : List ℕ) (r : Reading) (draft : List ℕ) : Type 0 where
       → follow_at text r.at s ≡ heard text → Along text r draft
   whole : (s : State) → r ≡ reading_of Done r.at r.making s → Holds text s r.at r.making draft
       → goes s ≡ heard text → Along text r draft
-  form : (place : ℕ) → r.fate ≡ Form place → wrong 40 place ≡ heard text → Along text r draft
-  name : (place : ℕ) → r.fate ≡ Name place → wrong 41 place ≡ heard text → Along text r draft
-  many : (place : ℕ) → r.fate ≡ TooMany place → wrong 42 place ≡ heard text → Along text r draft
+  barred : (why : Misplaced) (place : ℕ) → r.fate ≡ Refused why place → wrong (number why) place ≡ heard text → Along text r draft

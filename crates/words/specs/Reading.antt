@@ -2,14 +2,16 @@
 --
 --   State                what is due, whether names are listed, the names and rules so far, and the rule that is open
 --   full, placed         an atom has no place in the open rule any more; the rule with the atom in its place
+--   Decision             what is due behind a word and what is done with it; or why it may not stand there
 --   decided ..           whether a word may stand where it stands, and what is done with it; or 40, 41 or 42
 --   decision_of l s       the same of a word with these bytes
 --   done due act w s     the state behind the word
+--   number why           the number of a refusal
 --   on_piece p s          what a word or a line's end makes of the state
 --   follow ps s          the same of one after the other
 --   heard s              what the text says; or the number and the place of the first word that cannot stand
 --   words_in s            the same, of names by their bytes: names and rules
-use Rattle.std.specs.Prelude.{Bool, true, false, List, [], ◌∷◌, ◌++◌, map, ℕ, leb, length, get_or, set, replicate}
+use Rattle.std.specs.Prelude.{Bool, true, false, List, [], ◌∷◌, ◌++◌, map, ℕ, leb, length, get_or, set, replicate, Some, None, Result, Ok, Err}
 use Rattle.meaning.specs.Choice.{ifb, if_lt, if_eq}
 use Rattle.meaning.specs.Books.{atom_no, Rule, Book}
 use Rattle.book.specs.Making.{listed, rule_by}
@@ -19,19 +21,17 @@ use Rattle.words.specs.declared.due.Standing.{Standing}
 use Rattle.words.specs.declared.due.Standing.TheVariants.{Head, Positive, Negative}
 use Rattle.words.specs.declared.due.Said.{Said}
 use Rattle.words.specs.declared.due.Said.TheVariants.{Nothing as Silent, Lists, Listed, Atom}
-use Rattle.words.specs.declared.due.Move.{Move}
-use Rattle.words.specs.declared.due.Move.TheVariants.{Goes as Moves, Wrong}
 use Rattle.words.specs.declared.due.Ended.{Ended}
 use Rattle.words.specs.declared.due.Ended.TheVariants.{Nothing as Blank, Rule as Closes, Missing}
 use Rattle.words.specs.declared.opened.Open.{Open}
 use Rattle.words.specs.declared.decision.Act.{Act}
 use Rattle.words.specs.declared.decision.Act.TheVariants.{Nothing, Fix, Note, Stand}
-use Rattle.words.specs.declared.decision.Decision.{Decision}
-use Rattle.words.specs.declared.decision.Decision.TheVariants.{Goes, Form, Name, TooMany}
+use Rattle.words.specs.declared.decision.Misplaced.{Misplaced}
+use Rattle.words.specs.declared.decision.Misplaced.TheVariants.{Form, Name, TooMany}
 use Rattle.words.specs.Words.{Word, Piece, word, line, pieces_at}
 use Rattle.words.specs.Names.{number_in}
 use Rattle.words.specs.Terms.{term_of}
-use Rattle.words.specs.Moves.{move_of, ended_of}
+use Rattle.words.specs.Moves.{Move, move_of, ended_of}
 
 pub record State : Type 0 where
   pub due : Due
@@ -61,30 +61,34 @@ full Negative rules a o = crowded o.neg a
 
 -- ---- whether a word may stand where it stands: `a` is its number among the names, or how many names there are
 
+-- what is due behind the word, and what is done; or why it may not stand there
+abbrev pub Decision : Type 0
+Decision = Result (Due × Act) Misplaced
+
 unfoldable pub stands : Standing → Due → ℕ → ℕ → Open → Decision
-stands standing due rules a rule = ifb (full standing rules a rule) TooMany (Goes due (Stand standing a))
+stands standing due rules a rule = ifb (full standing rules a rule) (Err TooMany) (Ok (due, (Stand standing a)))
 
 -- "no other name may be used"; "the 256th name"
 unfoldable pub named : Bool → ℕ → ℕ → Decision → Decision
-named fixed count a d = if_lt a count d (ifb fixed Name (if_lt count 255 d TooMany))
+named fixed count a d = if_lt a count d (ifb fixed (Err Name) (if_lt count 255 d (Err TooMany)))
 
 -- "a name listed twice"
 unfoldable pub noted : Due → ℕ → ℕ → Decision
-noted due count a = if_lt a count Name (if_lt count 255 (Goes due Note) TooMany)
+noted due count a = if_lt a count (Err Name) (if_lt count 255 (Ok (due, Note)) (Err TooMany))
 
 -- "an `atoms:` line behind a rule"
 unfoldable pub begun : Due → ℕ → Decision
-begun due rules = if_eq rules 0 (Goes due Fix) Form
+begun due rules = if_eq rules 0 (Ok (due, Fix)) (Err Form)
 
 unfoldable pub on_said : Said → Due → Bool → ℕ → ℕ → ℕ → Open → Decision
-on_said Silent due fixed rules count a rule = Goes due Nothing
+on_said Silent due fixed rules count a rule = Ok (due, Nothing)
 on_said Lists due fixed rules count a rule = begun due rules
 on_said Listed due fixed rules count a rule = noted due count a
 on_said (Atom standing) due fixed rules count a rule = named fixed count a (stands standing due rules a rule)
 
 unfoldable pub decided : Move → Bool → ℕ → ℕ → ℕ → Open → Decision
-decided (Moves due said) fixed rules count a rule = on_said said due fixed rules count a rule
-decided Wrong fixed rules count a rule = Form
+decided (Some (due, said)) fixed rules count a rule = on_said said due fixed rules count a rule
+decided None fixed rules count a rule = Err Form
 
 -- ---- what a word or a line's end makes of the state
 
@@ -99,15 +103,19 @@ done due Note w s = record { due = due; fixed = s.fixed; names = s.names ++ (w �
 done due (Stand standing a) w s =
     record { due = due; fixed = s.fixed; names = known s.names a w; rules = s.rules; rule = placed standing a s.rule }
 
+-- the number of a refusal
+abbrev pub number : Misplaced → ℕ
+number Form = 40
+number Name = 41
+number TooMany = 42
+
 pub data Outcome : Type 0 where
   goes : State → Outcome
   wrong : ℕ → ℕ → Outcome
 
 unfoldable pub on_decision : Decision → Word → State → Outcome
-on_decision (Goes due act) w s = goes (done due act w s)
-on_decision Form w s = wrong 40 w.place
-on_decision Name w s = wrong 41 w.place
-on_decision TooMany w s = wrong 42 w.place
+on_decision (Ok (due, act)) w s = goes (done due act w s)
+on_decision (Err why) w s = wrong (number why) w.place
 
 unfoldable pub decision_of : List ℕ → State → Decision
 decision_of l s =

@@ -12,7 +12,7 @@
 --   OneTooMany s w       the name, the rule or the atom is one too many
 --   WrongAt text i at    row i of the table, 40 to 42, holds of the text at the place `at`: what stands before it can go on, and with it can't
 --   TooLong text out     43: the text is read, and the buffer is too short for its book
-use Rattle.std.specs.Prelude.{◌≡◌, ◌⊎◌, Bool, false, List, ◌∷◌, ◌++◌, ℕ, ◌<◌, ◌≤◌, length, get_or}
+use Rattle.std.specs.Prelude.{◌≡◌, ◌⊎◌, Bool, false, List, ◌∷◌, ◌++◌, ℕ, ◌<◌, ◌≤◌, length, get_or, Some, None}
 use Rattle.meaning.specs.Books.{Rule, Book}
 use Rattle.book.specs.Making.{listed}
 use Rattle.book.specs.Writing.{bytes_of_book}
@@ -20,13 +20,11 @@ use Rattle.words.specs.declared.due.Due.{Due}
 use Rattle.words.specs.declared.due.Standing.{Standing}
 use Rattle.words.specs.declared.due.Standing.TheVariants.{Head, Positive, Negative}
 use Rattle.words.specs.declared.due.Said.TheVariants.{Lists, Listed, Atom}
-use Rattle.words.specs.declared.due.Move.{Move}
-use Rattle.words.specs.declared.due.Move.TheVariants.{Goes as Moves, Wrong}
 use Rattle.words.specs.declared.due.Ended.TheVariants.{Missing}
 use Rattle.words.specs.Words.{Word, Piece, word, line, pieces}
 use Rattle.words.specs.Names.{no_word, number_in}
 use Rattle.words.specs.Terms.{term_of}
-use Rattle.words.specs.Moves.{move_of, ended_of}
+use Rattle.words.specs.Moves.{Move, move_of, ended_of}
 use Rattle.words.specs.Reading.{State, goes, follow, start, says, words_in}
 
 pub record Comes (text : List ℕ) (here : Piece) (state : State) : Type 0 where
@@ -49,22 +47,22 @@ pub record Seventeenth (part : List Bool) (a : ℕ) : Type 0 where
   pub sixteen : 16 ≤ length (listed part)
 
 pub data WrongForm (s : State) (w : Word) : Type 0 where
-  no_place : moves_to s w ≡ Wrong → WrongForm s w
-  list-behind-rule : {next : Due} → moves_to s w ≡ Moves next Lists → 0 < length s.rules → WrongForm s w
+  no_place : moves_to s w ≡ None → WrongForm s w
+  list-behind-rule : {next : Due} → moves_to s w ≡ Some (next, Lists) → 0 < length s.rules → WrongForm s w
 
 pub data WrongName (s : State) (w : Word) : Type 0 where
-  unlisted : {next : Due} {standing : Standing} → moves_to s w ≡ Moves next (Atom standing) → (Allowed s w → ⊥) → WrongName s w
-  listed-twice : {next : Due} → moves_to s w ≡ Moves next Listed → Has s.names w.bytes → WrongName s w
+  unlisted : {next : Due} {standing : Standing} → moves_to s w ≡ Some (next, (Atom standing)) → (Allowed s w → ⊥) → WrongName s w
+  listed-twice : {next : Due} → moves_to s w ≡ Some (next, Listed) → Has s.names w.bytes → WrongName s w
 
 -- a new name would get the next number, so that `number_in` is its number too
 pub data OneTooMany (s : State) (w : Word) : Type 0 where
-  listed-name : {next : Due} → moves_to s w ≡ Moves next Listed → (Has s.names w.bytes → ⊥) → 255 ≤ length s.names → OneTooMany s w
-  new-name : {next : Due} {standing : Standing} → moves_to s w ≡ Moves next (Atom standing) → s.fixed ≡ false
+  listed-name : {next : Due} → moves_to s w ≡ Some (next, Listed) → (Has s.names w.bytes → ⊥) → 255 ≤ length s.names → OneTooMany s w
+  new-name : {next : Due} {standing : Standing} → moves_to s w ≡ Some (next, (Atom standing)) → s.fixed ≡ false
       → (Has s.names w.bytes → ⊥) → 255 ≤ length s.names → OneTooMany s w
-  rule : {next : Due} → moves_to s w ≡ Moves next (Atom Head) → Allowed s w → 255 ≤ length s.rules → OneTooMany s w
-  positive : {next : Due} → moves_to s w ≡ Moves next (Atom Positive) → Allowed s w
+  rule : {next : Due} → moves_to s w ≡ Some (next, (Atom Head)) → Allowed s w → 255 ≤ length s.rules → OneTooMany s w
+  positive : {next : Due} → moves_to s w ≡ Some (next, (Atom Positive)) → Allowed s w
       → Seventeenth s.rule.pos (number_in s.names w.bytes) → OneTooMany s w
-  negative : {next : Due} → moves_to s w ≡ Moves next (Atom Negative) → Allowed s w
+  negative : {next : Due} → moves_to s w ≡ Some (next, (Atom Negative)) → Allowed s w
       → Seventeenth s.rule.neg (number_in s.names w.bytes) → OneTooMany s w
 
 pub data WrongAt (text : List ℕ) : ℕ → ℕ → Type 0 where

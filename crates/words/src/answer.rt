@@ -1,10 +1,6 @@
-// What making a book of words answers, and whose name a word is.
-use meaning::AtomNo;
-
+// Why no book is made of words.
 #[derive(Clone, Copy)]
-pub enum Worded {
-    // The book stands in the buffer; its length.
-    Book(usize),
+pub enum Unworded {
     // 40: the first byte of a word that cannot stand there, or the line's end where one is missing.
     Form(usize),
     // 41: the first byte of a name that is not listed, or is listed twice.
@@ -13,11 +9,4 @@ pub enum Worded {
     TooMany(usize),
     // 43: the buffer is too short for the book.
     NoRoom,
-}
-
-#[derive(Clone, Copy)]
-pub enum Whose {
-    Atom(AtomNo),
-    // No atom has this name.
-    Nothing,
 }

@@ -2,7 +2,7 @@
 ghost use Rattle.std.specs.Prelude.{◌≡◌, ◌≤◌, ◌<◌};
 ghost use Rattle.words.specs.Reading.{stands, named, noted, begun, on_said, decided};
 
-use crate::due::{Due, Move, Said, Standing};
+use crate::due::{Due, Said, Standing};
 use crate::opened::{Open, is_full};
 
 // What is done with a word that may stand where it stands.
@@ -17,28 +17,37 @@ pub enum Act {
     Stand(Standing, usize),
 }
 
-// A word may stand there, with what is due behind it and what is done; or the reason why not: 40,
-// 41 or 42.
+// Why a word may not stand there.
 #[derive(Clone, Copy)]
-pub enum Decision {
-    Goes(Due, Act),
+pub enum Misplaced {
+    // 40
     Form,
+    // 41
     Name,
+    // 42
     TooMany,
 }
 
 // The atom stands in the rule, if there is room for it.
-fn stand(rule: Open, standing: Standing, due: Due, rules: usize, a: usize) -> Decision
+#[tactic(auto, unfolding(crate::specs::Reading::stands, meaning::specs::Choice::ifb))]
+fn stand(
+    rule: Open,
+    standing: Standing,
+    due: Due,
+    rules: usize,
+    a: usize,
+) -> Result<(Due, Act), Misplaced>
     requires { a < 255 }
     ensures { result ≡ stands standing due rules a rule }
 {
     if is_full(rule, standing, rules, a) {
-        return Decision::TooMany;
+        return Err(Misplaced::TooMany);
     }
-    Decision::Goes(due, Act::Stand(standing, a))
+    Ok((due, Act::Stand(standing, a)))
 }
 
 // A name in a rule: `a` is its number among so many names, or how many there are.
+#[tactic(auto, unfolding(crate::specs::Reading::named, meaning::specs::Choice::ifb, meaning::specs::Choice::if_lt))]
 fn name_atom(
     rule: Open,
     standing: Standing,
@@ -47,7 +56,7 @@ fn name_atom(
     rules: usize,
     count: usize,
     a: usize,
-) -> Decision
+) -> Result<(Due, Act), Misplaced>
     requires { (a ≤ count) × (count ≤ 255) }
     ensures { result ≡ named fixed count a (stands standing due rules a rule) }
 {
@@ -55,37 +64,40 @@ fn name_atom(
         return stand(rule, standing, due, rules, a);
     }
     if fixed {
-        return Decision::Name;
+        return Err(Misplaced::Name);
     }
     if 255 <= count {
-        return Decision::TooMany;
+        return Err(Misplaced::TooMany);
     }
     stand(rule, standing, due, rules, a)
 }
 
 // A name in an `atoms:` line.
-fn list_name(due: Due, count: usize, a: usize) -> Decision
+#[tactic(auto, unfolding(crate::specs::Reading::noted, meaning::specs::Choice::ifb, meaning::specs::Choice::if_lt))]
+fn list_name(due: Due, count: usize, a: usize) -> Result<(Due, Act), Misplaced>
     ensures { result ≡ noted due count a }
 {
     if a < count {
-        return Decision::Name;
+        return Err(Misplaced::Name);
     }
     if 255 <= count {
-        return Decision::TooMany;
+        return Err(Misplaced::TooMany);
     }
-    Decision::Goes(due, Act::Note)
+    Ok((due, Act::Note))
 }
 
 // `atoms:` stands before the first rule.
-fn begin_list(due: Due, rules: usize) -> Decision
+#[tactic(auto, unfolding(crate::specs::Reading::begun, meaning::specs::Choice::ifb, meaning::specs::Choice::if_eq))]
+fn begin_list(due: Due, rules: usize) -> Result<(Due, Act), Misplaced>
     ensures { result ≡ begun due rules }
 {
     if rules == 0 {
-        return Decision::Goes(due, Act::Fix);
+        return Ok((due, Act::Fix));
     }
-    Decision::Form
+    Err(Misplaced::Form)
 }
 
+#[tactic(auto, unfolding(crate::specs::Reading::on_said))]
 fn on_said(
     said: Said,
     due: Due,
@@ -94,24 +106,33 @@ fn on_said(
     rules: usize,
     count: usize,
     a: usize,
-) -> Decision
+) -> Result<(Due, Act), Misplaced>
     requires { (a ≤ count) × (count ≤ 255) }
     ensures { result ≡ on_said said due fixed rules count a rule }
 {
     match said {
-        Said::Nothing => Decision::Goes(due, Act::Nothing),
+        Said::Nothing => Ok((due, Act::Nothing)),
         Said::Lists => begin_list(due, rules),
         Said::Listed => list_name(due, count, a),
         Said::Atom(standing) => name_atom(rule, standing, due, fixed, rules, count, a),
     }
 }
 
-pub fn decide(m: Move, rule: Open, fixed: bool, rules: usize, count: usize, a: usize) -> Decision
+// What is due behind the word, and what is done with it.
+#[tactic(auto, unfolding(crate::specs::Reading::decided))]
+pub fn decide(
+    m: Option<(Due, Said)>,
+    rule: Open,
+    fixed: bool,
+    rules: usize,
+    count: usize,
+    a: usize,
+) -> Result<(Due, Act), Misplaced>
     requires { (a ≤ count) × (count ≤ 255) }
     ensures { result ≡ decided m fixed rules count a rule }
 {
     match m {
-        Move::Goes(due, said) => on_said(said, due, rule, fixed, rules, count, a),
-        Move::Wrong => Decision::Form,
+        Some((due, said)) => on_said(said, due, rule, fixed, rules, count, a),
+        None => Err(Misplaced::Form),
     }
 }

@@ -1,8 +1,6 @@
 // What may stand next in a text, and what a word does there.
 ghost use Rattle.std.specs.Prelude.{◌≡◌};
 ghost use Rattle.words.specs.Moves.{
-  rank as rank_of,
-  is_due,
   remarked as remarked_at,
   only_at,
   on_unless,
@@ -13,7 +11,7 @@ ghost use Rattle.words.specs.Moves.{
 
 use crate::term::Term;
 
-#[derive(Clone, Copy)]
+#[derive(Clone, Copy, PartialEq, Eq)]
 pub enum Due {
     // The first word of a line.
     Line,
@@ -52,13 +50,6 @@ pub enum Said {
     Atom(Standing),
 }
 
-// What a word does: what is due behind it and what it says; or it cannot stand there.
-#[derive(Clone, Copy)]
-pub enum Move {
-    Goes(Due, Said),
-    Wrong,
-}
-
 // What the end of a line ends: nothing, or a rule; or a word is missing.
 #[derive(Clone, Copy)]
 pub enum Ended {
@@ -67,77 +58,55 @@ pub enum Ended {
     Missing,
 }
 
-// A number for each, to compare them by.
-fn rank(due: Due) -> u8
-    ensures { result ≡ rank_of due }
-{
-    match due {
-        Due::Line => 0,
-        Due::Remark => 1,
-        Due::Listing => 2,
-        Due::AfterHead => 3,
-        Due::Literal => 4,
-        Due::Negative => 5,
-        Due::AfterAtom => 6,
-        Due::Exception => 7,
-        Due::AfterException => 8,
-    }
-}
-
-fn is_due(due: Due, other: Due) -> bool
-    ensures { result ≡ is_due due other }
-{
-    rank(due) == rank(other)
-}
-
 // A word with no other meaning here: only a remark goes on with it.
-fn remarked(due: Due) -> Move
+fn remarked(due: Due) -> Option<(Due, Said)>
     ensures { result ≡ remarked_at due }
 {
-    if is_due(due, Due::Remark) {
-        return Move::Goes(Due::Remark, Said::Nothing);
+    if due == Due::Remark {
+        return Some((Due::Remark, Said::Nothing));
     }
-    Move::Wrong
+    None
 }
 
 // A word that may stand at one place only.
-fn only_at(due: Due, place: Due, next: Due, said: Said) -> Move
+fn only_at(due: Due, place: Due, next: Due, said: Said) -> Option<(Due, Said)>
     ensures { result ≡ only_at due place next said }
 {
-    if is_due(due, place) {
-        return Move::Goes(next, said);
+    if due == place {
+        return Some((next, said));
     }
     remarked(due)
 }
 
 // `unless` stands behind the head or behind an atom of the body.
-fn on_unless(due: Due) -> Move
+fn on_unless(due: Due) -> Option<(Due, Said)>
     ensures { result ≡ on_unless due }
 {
-    if is_due(due, Due::AfterHead) {
-        return Move::Goes(Due::Exception, Said::Nothing);
+    if due == Due::AfterHead {
+        return Some((Due::Exception, Said::Nothing));
     }
     only_at(due, Due::AfterAtom, Due::Exception, Said::Nothing)
 }
 
-fn on_name(due: Due) -> Move
+#[tactic(auto, unfolding(crate::specs::Moves::on_name))]
+fn on_name(due: Due) -> Option<(Due, Said)>
     ensures { result ≡ on_name due }
 {
     match due {
-        Due::Line => Move::Goes(Due::AfterHead, Said::Atom(Standing::Head)),
-        Due::Remark => Move::Goes(Due::Remark, Said::Nothing),
-        Due::Listing => Move::Goes(Due::Listing, Said::Listed),
-        Due::AfterHead => Move::Wrong,
-        Due::Literal => Move::Goes(Due::AfterAtom, Said::Atom(Standing::Positive)),
-        Due::Negative => Move::Goes(Due::AfterAtom, Said::Atom(Standing::Negative)),
-        Due::AfterAtom => Move::Wrong,
-        Due::Exception => Move::Goes(Due::AfterException, Said::Atom(Standing::Negative)),
-        Due::AfterException => Move::Wrong,
+        Due::Line => Some((Due::AfterHead, Said::Atom(Standing::Head))),
+        Due::Remark => Some((Due::Remark, Said::Nothing)),
+        Due::Listing => Some((Due::Listing, Said::Listed)),
+        Due::Literal => Some((Due::AfterAtom, Said::Atom(Standing::Positive))),
+        Due::Negative => Some((Due::AfterAtom, Said::Atom(Standing::Negative))),
+        Due::Exception => Some((Due::AfterException, Said::Atom(Standing::Negative))),
+        Due::AfterHead | Due::AfterAtom | Due::AfterException => None,
     }
 }
 
-// What a word of that kind does where this is due.
-pub fn move_of(due: Due, term: Term) -> Move
+// What is due behind a word of that kind and what it says, where this is due; none where it cannot
+// stand.
+#[tactic(auto, unfolding(crate::specs::Moves::move_of))]
+pub fn move_of(due: Due, term: Term) -> Option<(Due, Said)>
     ensures { result ≡ move_of due term }
 {
     match term {
@@ -154,18 +123,13 @@ pub fn move_of(due: Due, term: Term) -> Move
 }
 
 // What the end of a line ends where this is due.
+#[tactic(auto, unfolding(crate::specs::Moves::ended_of))]
 pub fn end_line(due: Due) -> Ended
     ensures { result ≡ ended_of due }
 {
     match due {
-        Due::Line => Ended::Nothing,
-        Due::Remark => Ended::Nothing,
-        Due::Listing => Ended::Nothing,
-        Due::AfterHead => Ended::Rule,
-        Due::Literal => Ended::Missing,
-        Due::Negative => Ended::Missing,
-        Due::AfterAtom => Ended::Rule,
-        Due::Exception => Ended::Missing,
-        Due::AfterException => Ended::Rule,
+        Due::Line | Due::Remark | Due::Listing => Ended::Nothing,
+        Due::AfterHead | Due::AfterAtom | Due::AfterException => Ended::Rule,
+        Due::Literal | Due::Negative | Due::Exception => Ended::Missing,
     }
 }

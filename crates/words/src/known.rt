@@ -2,11 +2,11 @@
 ghost use Rattle.std.specs.Prelude.{◌≡◌, ◌+◌, ◌≤◌, ◌<◌, set};
 ghost use Rattle.words.specs.Names.{is_between, place_of, whose_of};
 
-use crate::answer::Whose;
 use crate::term::is_same;
 use meaning::AtomNo;
 
-// So many names; where each starts, and where it ends. The later places are 0.
+// So many names; where each starts, and where it ends. The later places are 0. Two arrays, since
+// `make` hands both out: an array of pairs would be taken apart there.
 #[derive(Clone, Copy)]
 pub struct Known {
     pub count: usize,
@@ -15,16 +15,11 @@ pub struct Known {
 }
 
 // The word stands in the text from one place to the other, if these are places of it.
+#[tactic(auto, unfolding(crate::specs::Names::is_between, meaning::specs::Choice::ifb, meaning::specs::Choice::if_lt))]
 fn stands_between<'a>(text: &'a [u8], from: usize, to: usize, word: &'a [u8]) -> bool
     ensures { result ≡ is_between text.now from to word.now }
 {
-    if text.len() < to {
-        return false;
-    }
-    if to < from {
-        return false;
-    }
-    is_same(&text[from..to], word)
+    from <= to && to <= text.len() && is_same(&text[from..to], word)
 }
 
 // The first of the first n places at which the word stands in the text; n where there is none.
@@ -39,24 +34,12 @@ pub fn number_of<'a>(
     ensures { (result ≡ place_of text.now n from.now to.now
         word.now) × (result ≤ n) }
 {
-    let mut i = 0;
-    while i < n {
+    for i in 0..n {
         if stands_between(text, from[i], to[i], word) {
             return i;
         }
-        i += 1;
     }
     n
-}
-
-// The places with one more behind them.
-fn stored(places: [usize; 255], n: usize, place: usize) -> [usize; 255]
-    requires { n < 255 }
-    ensures { result ≡ set places n place }
-{
-    let mut more = places;
-    more[n] = place;
-    more
 }
 
 // One name more.
@@ -68,14 +51,11 @@ pub fn note(names: Known, from: usize, to: usize) -> Known
       to = set names.to names.count to;
     } }
 {
-    let n = names.count;
-    let starts = names.from;
-    let ends = names.to;
-    Known {
-        count: n + 1,
-        from: stored(starts, n, from),
-        to: stored(ends, n, to),
-    }
+    let mut more = names;
+    more.from[names.count] = from;
+    more.to[names.count] = to;
+    more.count += 1;
+    more
 }
 
 // Whose name the word is, by the places that making the book gave for so many atoms.
@@ -85,14 +65,14 @@ pub fn atom_named<'a>(
     from: &'a [usize; 255],
     to: &'a [usize; 255],
     word: &'a [u8],
-) -> Whose
+) -> Option<AtomNo>
     ensures { result ≡ whose_of text.now atoms from.now to.now
         word.now }
 {
     let n = atoms as usize;
     let i = number_of(text, n, from, to, word);
     if i < n {
-        return Whose::Atom(AtomNo(i as u8));
+        return Some(AtomNo(i as u8));
     }
-    Whose::Nothing
+    None
 }

@@ -13,7 +13,7 @@ mod step;
 mod term;
 mod token;
 
-pub use answer::{Whose, Worded};
+pub use answer::Unworded;
 pub use known::atom_named;
 pub use maker::make;
 pub use place::{column_of, line_of};

@@ -4,10 +4,11 @@ ghost use Rattle.book.specs.Format.{book_bytes};
 ghost use Rattle.book.specs.Making.{Made};
 ghost use Rattle.words.specs.declared.step.Fate.TheVariants.{Goes};
 ghost use Rattle.words.specs.Reading.{start};
-ghost use Rattle.words.specs.Make.{told_book, Answer, make_of};
+ghost use Rattle.words.specs.Make.{told_book, unworded, Answer, make_of};
 ghost use Rattle.words.specs.Progress.{reading_of, goes_on, Along};
 
-use crate::answer::Worded;
+use crate::answer::Unworded;
+use crate::decision::Misplaced;
 use crate::due::Due;
 use crate::known::Known;
 use crate::opened::Open;
@@ -51,17 +52,32 @@ fn read_text(text: &[u8], draft: &mut [u8; BOOK_BYTES]) -> Reading
     let mut r = begin();
     loop {
         let next = step(text, draft, r);
-        let fate = next.fate;
-        if !goes_on(fate) {
+        if !goes_on(next.fate) {
             return next;
         }
         r = next;
     }
 }
 
+// The refusal of a word that starts there, or of a line that ends there.
+fn unworded(why: Misplaced, place: usize) -> Unworded
+    ensures { result ≡ unworded why place }
+{
+    match why {
+        Misplaced::Form => Unworded::Form(place),
+        Misplaced::Name => Unworded::Name(place),
+        Misplaced::TooMany => Unworded::TooMany(place),
+    }
+}
+
 // Writes the book of the text to the front of the buffer, and where each atom's name starts and ends
 // to the other two; or says why not.
-pub fn make(text: &[u8], out: &mut [u8], from: &mut [usize; 255], to: &mut [usize; 255]) -> Worded
+pub fn make(
+    text: &[u8],
+    out: &mut [u8],
+    from: &mut [usize; 255],
+    to: &mut [usize; 255],
+) -> Result<usize, Unworded>
     ensures { ◌≡◌ {A = Answer} (record {
       told = told_book result;
       book = out.new;
@@ -72,26 +88,21 @@ pub fn make(text: &[u8], out: &mut [u8], from: &mut [usize; 255], to: &mut [usiz
 {
     let mut draft = [0u8; BOOK_BYTES];
     let r = read_text(text, &mut draft);
-    let fate = r.fate;
-    let names = r.names;
-    let making = r.making;
-    match fate {
+    match r.fate {
         // Never: reading is over.
-        Fate::Goes => Worded::NoRoom,
-        Fate::Form(place) => Worded::Form(place),
-        Fate::Name(place) => Worded::Name(place),
-        Fate::TooMany(place) => Worded::TooMany(place),
+        Fate::Goes => Err(Unworded::NoRoom),
+        Fate::Refused(why, place) => Err(unworded(why, place)),
         Fate::Done => {
-            let n = finish_book(&mut draft, making, names.count as u8);
+            let n = finish_book(&mut draft, r.making, r.names.count as u8);
             if out.len() < n {
-                return Worded::NoRoom;
+                return Err(Unworded::NoRoom);
             }
             copy_front(&draft[0..n], out);
-            let starts = names.from;
-            let ends = names.to;
+            let starts = r.names.from;
+            let ends = r.names.to;
             *from = starts;
             *to = ends;
-            Worded::Book(n)
+            Ok(n)
         }
     }
 }

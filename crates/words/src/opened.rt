@@ -14,27 +14,24 @@ pub struct Open {
 }
 
 // The atom would be the 17th of the part.
+#[tactic(auto, unfolding(crate::specs::Reading::crowded, meaning::specs::Choice::ifb))]
 fn is_crowded(part: &[bool; 255], a: usize) -> bool
     requires { a < 255 }
     ensures { result ≡ crowded part.now a }
 {
-    if part[a] {
-        return false;
-    }
-    16 <= count_atoms(part)
+    !part[a] && 16 <= count_atoms(part)
 }
 
 // The atom has no place in the rule any more: so many rules were closed.
+#[tactic(auto, unfolding(crate::specs::Reading::full))]
 pub fn is_full(rule: Open, standing: Standing, rules: usize, a: usize) -> bool
     requires { a < 255 }
     ensures { result ≡ full standing rules a rule }
 {
-    let pos = rule.pos;
-    let neg = rule.neg;
     match standing {
         Standing::Head => 255 <= rules,
-        Standing::Positive => is_crowded(&pos, a),
-        Standing::Negative => is_crowded(&neg, a),
+        Standing::Positive => is_crowded(&rule.pos, a),
+        Standing::Negative => is_crowded(&rule.neg, a),
     }
 }
 
@@ -49,13 +46,11 @@ fn joined(part: [bool; 255], a: usize) -> [bool; 255]
 }
 
 // The rule with the atom in its place; a head opens a new one.
+#[tactic(auto, unfolding(crate::specs::Reading::placed))]
 pub fn place(rule: Open, standing: Standing, a: usize) -> Open
     requires { a < 255 }
     ensures { result ≡ placed standing a rule }
 {
-    let head = rule.head;
-    let pos = rule.pos;
-    let neg = rule.neg;
     match standing {
         Standing::Head => Open {
             head: AtomNo(a as u8),
@@ -63,14 +58,12 @@ pub fn place(rule: Open, standing: Standing, a: usize) -> Open
             neg: [false; 255],
         },
         Standing::Positive => Open {
-            head,
-            pos: joined(pos, a),
-            neg,
+            pos: joined(rule.pos, a),
+            ..rule
         },
         Standing::Negative => Open {
-            head,
-            pos,
-            neg: joined(neg, a),
+            neg: joined(rule.neg, a),
+            ..rule
         },
     }
 }

@@ -16,7 +16,7 @@ ghost use Rattle.words.specs.Progress.{
   Along,
 };
 
-use crate::decision::{Act, Decision, decide};
+use crate::decision::{Act, Misplaced, decide};
 use crate::due::{Due, Ended, end_line, move_of};
 use crate::known::{Known, note, number_of};
 use crate::opened::{Open, place};
@@ -29,9 +29,7 @@ use book::{BOOK_BYTES, Making, add_rule};
 pub enum Fate {
     Goes,
     Done,
-    Form(usize),
-    Name(usize),
-    TooMany(usize),
+    Refused(Misplaced, usize),
 }
 
 // How far a text was read, and what it said so far.
@@ -47,89 +45,60 @@ pub struct Reading {
 }
 
 // Reading is not over.
+#[tactic(auto, unfolding(crate::specs::Progress::goes_on))]
 pub fn goes_on(fate: Fate) -> bool
     ensures { result ≡ goes_on fate }
 {
-    match fate {
-        Fate::Goes => true,
-        Fate::Done => false,
-        Fate::Form(_) => false,
-        Fate::Name(_) => false,
-        Fate::TooMany(_) => false,
-    }
+    matches!(fate, Fate::Goes)
 }
 
 // Whether the word may stand there.
-fn weigh<'a>(text: &'a [u8], word: &'a [u8], r: Reading) -> Decision
+fn weigh<'a>(text: &'a [u8], word: &'a [u8], r: Reading) -> Result<(Due, Act), Misplaced>
     requires { r.names.count ≤ 255 }
     ensures { result ≡ weighed text.now word.now r }
 {
-    let due = r.due;
     let names = r.names;
-    let from = names.from;
-    let to = names.to;
-    let rule = r.rule;
-    let making = r.making;
-    let a = number_of(text, names.count, &from, &to, word);
-    let m = move_of(due, term_of(word));
-    decide(m, rule, r.fixed, making.rules, names.count, a)
+    let a = number_of(text, names.count, &names.from, &names.to, word);
+    let m = move_of(r.due, term_of(word));
+    decide(m, r.rule, r.fixed, r.making.rules, names.count, a)
 }
 
 // The names with the name of number a, which may be new.
+#[tactic(auto, unfolding(crate::specs::Progress::known_by, meaning::specs::Choice::ifb, meaning::specs::Choice::if_lt))]
 fn know(names: Known, a: usize, from: usize, to: usize) -> Known
     requires { a < 255 }
     ensures { result ≡ known_by names a from to }
 {
     if a < names.count {
-        return names;
+        names
+    } else {
+        note(names, from, to)
     }
-    note(names, from, to)
 }
 
 // What is done with a word that may stand there.
+#[tactic(auto, unfolding(crate::specs::Progress::acted))]
 fn take(r: Reading, due: Due, act: Act, from: usize, to: usize) -> Reading
     requires { Able r.names.count act }
     ensures { result ≡ acted r due act from to }
 {
-    let names = r.names;
-    let rule = r.rule;
-    let making = r.making;
+    let on = Reading {
+        fate: Fate::Goes,
+        at: to,
+        due,
+        ..r
+    };
     match act {
-        Act::Nothing => Reading {
-            fate: Fate::Goes,
-            at: to,
-            due,
-            fixed: r.fixed,
-            names,
-            rule,
-            making,
-        },
-        Act::Fix => Reading {
-            fate: Fate::Goes,
-            at: to,
-            due,
-            fixed: true,
-            names,
-            rule,
-            making,
-        },
+        Act::Nothing => on,
+        Act::Fix => Reading { fixed: true, ..on },
         Act::Note => Reading {
-            fate: Fate::Goes,
-            at: to,
-            due,
-            fixed: r.fixed,
-            names: note(names, from, to),
-            rule,
-            making,
+            names: note(r.names, from, to),
+            ..on
         },
         Act::Stand(standing, a) => Reading {
-            fate: Fate::Goes,
-            at: to,
-            due,
-            fixed: r.fixed,
-            names: know(names, a, from, to),
-            rule: place(rule, standing, a),
-            making,
+            names: know(r.names, a, from, to),
+            rule: place(r.rule, standing, a),
+            ..on
         },
     }
 }
@@ -138,19 +107,7 @@ fn take(r: Reading, due: Due, act: Act, from: usize, to: usize) -> Reading
 fn stop(r: Reading, fate: Fate) -> Reading
     ensures { result ≡ halted r fate }
 {
-    let due = r.due;
-    let names = r.names;
-    let rule = r.rule;
-    let making = r.making;
-    Reading {
-        fate,
-        at: r.at,
-        due,
-        fixed: r.fixed,
-        names,
-        rule,
-        making,
-    }
+    Reading { fate, ..r }
 }
 
 // The word from one place to the other.
@@ -159,10 +116,8 @@ fn take_word(text: &[u8], r: Reading, from: usize, to: usize) -> Reading
     ensures { result ≡ worded text.now r from to }
 {
     match weigh(text, &text[from..to], r) {
-        Decision::Goes(due, act) => take(r, due, act, from, to),
-        Decision::Form => stop(r, Fate::Form(from)),
-        Decision::Name => stop(r, Fate::Name(from)),
-        Decision::TooMany => stop(r, Fate::TooMany(from)),
+        Ok((due, act)) => take(r, due, act, from, to),
+        Err(why) => stop(r, Fate::Refused(why, from)),
     }
 }
 
@@ -170,17 +125,15 @@ fn take_word(text: &[u8], r: Reading, from: usize, to: usize) -> Reading
 fn close_rule(draft: &mut [u8; BOOK_BYTES], ended: Ended, m: Making, rule: Open) -> Making
     ensures { Adds (closed_by ended rule) m draft.old result draft.new }
 {
-    let head = rule.head;
-    let pos = rule.pos;
-    let neg = rule.neg;
     match ended {
         Ended::Nothing => m,
-        Ended::Rule => add_rule(draft, m, head, &pos, &neg),
+        Ended::Rule => add_rule(draft, m, rule.head, &rule.pos, &rule.neg),
         Ended::Missing => m,
     }
 }
 
 // The next line, unless a word is missing.
+#[tactic(auto, unfolding(crate::specs::Progress::lined_by))]
 fn pass_line(
     ended: Ended,
     r: Reading,
@@ -191,21 +144,15 @@ fn pass_line(
 ) -> Reading
     ensures { result ≡ lined_by ended r place at fate making }
 {
-    let names = r.names;
-    let rule = r.rule;
-    let next = Reading {
-        fate,
-        at,
-        due: Due::Line,
-        fixed: r.fixed,
-        names,
-        rule,
-        making,
-    };
     match ended {
-        Ended::Nothing => next,
-        Ended::Rule => next,
-        Ended::Missing => stop(r, Fate::Form(place)),
+        Ended::Nothing | Ended::Rule => Reading {
+            fate,
+            at,
+            due: Due::Line,
+            making,
+            ..r
+        },
+        Ended::Missing => stop(r, Fate::Refused(Misplaced::Form, place)),
     }
 }
 
@@ -219,11 +166,8 @@ fn take_line(
 ) -> Reading
     ensures { Lined r place at fate draft.old result draft.new }
 {
-    let due = r.due;
-    let rule = r.rule;
-    let making = r.making;
-    let ended = end_line(due);
-    let m = close_rule(draft, ended, making, rule);
+    let ended = end_line(r.due);
+    let m = close_rule(draft, ended, r.making, r.rule);
     pass_line(ended, r, place, at, fate, m)
 }
 

@@ -20,65 +20,26 @@ pub enum Term {
     Other,
 }
 
-// The byte is from `low` to `high`.
-fn is_in_range(x: u8, low: u8, high: u8) -> bool
-    ensures { result ≡ in_range low high x }
-{
-    if x < low {
-        return false;
-    }
-    x <= high
-}
-
 // A letter, a digit, or one of the three signs that a name may have.
+#[tactic(auto, unfolding(crate::specs::Terms::name_byte, crate::specs::Terms::in_range, meaning::specs::Choice::ifb, meaning::specs::Choice::if_lt, meaning::specs::Choice::if_eq))]
 fn is_name_byte(x: u8) -> bool
     ensures { result ≡ name_byte x }
 {
-    if is_in_range(x, b'a', b'z') {
-        return true;
-    }
-    if is_in_range(x, b'A', b'Z') {
-        return true;
-    }
-    if is_in_range(x, b'0', b'9') {
-        return true;
-    }
-    if x == b'_' {
-        return true;
-    }
-    if x == b'-' {
-        return true;
-    }
-    x == b'\''
+    matches!(x, b'a'..=b'z' | b'A'..=b'Z' | b'0'..=b'9' | b'_' | b'-' | b'\'')
 }
 
 fn are_name_bytes(word: &[u8]) -> bool
     ensures { result ≡ every name_byte word.now }
 {
-    let mut i = 0;
-    while i < word.len() {
-        if !is_name_byte(word[i]) {
-            return false;
-        }
-        i += 1;
-    }
-    true
+    word.iter().all(|x| is_name_byte(*x))
 }
 
 // 1 to 64 bytes of a name, no digit first.
+#[tactic(auto, unfolding(crate::specs::Terms::spelled, crate::specs::Terms::in_range, meaning::specs::Choice::ifb, meaning::specs::Choice::if_lt, meaning::specs::Choice::if_eq))]
 fn is_spelled(word: &[u8]) -> bool
     ensures { result ≡ spelled word.now }
 {
-    if word.len() == 0 {
-        return false;
-    }
-    if 64 < word.len() {
-        return false;
-    }
-    if is_in_range(word[0], b'0', b'9') {
-        return false;
-    }
-    are_name_bytes(word)
+    0 < word.len() && word.len() <= 64 && !word[0].is_ascii_digit() && are_name_bytes(word)
 }
 
 // The word has these bytes.
@@ -89,21 +50,18 @@ pub fn is_same<'a>(word: &'a [u8], other: &'a [u8]) -> bool
 }
 
 // A word with no meaning of its own.
+#[tactic(auto, unfolding(crate::specs::Terms::plain_term, meaning::specs::Choice::ifb, meaning::specs::Choice::if_eq))]
 fn plain_term(word: &[u8]) -> Term
     ensures { result ≡ plain_term word.now }
 {
-    if word.len() == 0 {
-        return Term::Other;
+    match word {
+        [b'#', ..] => Term::Remark,
+        _ if is_spelled(word) => Term::Name,
+        _ => Term::Other,
     }
-    if word[0] == b'#' {
-        return Term::Remark;
-    }
-    if is_spelled(word) {
-        return Term::Name;
-    }
-    Term::Other
 }
 
+#[tactic(auto, unfolding(crate::specs::Terms::term_of, meaning::specs::Choice::ifb))]
 pub fn term_of(word: &[u8]) -> Term
     ensures { result ≡ term_of word.now }
 {

@@ -13,26 +13,19 @@ pub enum Token {
 }
 
 // Spaces, tabs and the byte that some editors write before a line's end part words.
+#[tactic(auto, unfolding(crate::specs::Words::blank, meaning::specs::Choice::if_eq, meaning::specs::Choice::ifb))]
 fn is_blank(x: u8) -> bool
     ensures { result ≡ blank x }
 {
-    if x == b' ' {
-        return true;
-    }
-    if x == b'\t' {
-        return true;
-    }
-    x == b'\r'
+    matches!(x, b' ' | b'\t' | b'\r')
 }
 
 // The byte does not belong to a word.
+#[tactic(auto, unfolding(crate::specs::Words::parting, meaning::specs::Choice::ifb))]
 fn is_parting(x: u8) -> bool
     ensures { result ≡ parting x }
 {
-    if is_blank(x) {
-        return true;
-    }
-    x == b'\n'
+    is_blank(x) || x == b'\n'
 }
 
 // Where the next word or line's end is, from `at` on; the length where there is none.
@@ -40,14 +33,11 @@ fn start_of(text: &[u8], at: usize) -> usize
     requires { at ≤ length text.now }
     ensures { (result ≡ start_of text.now at) × (result ≤ length text.now) }
 {
-    let mut i = at;
-    while i < text.len() {
-        if !is_blank(text[i]) {
-            return i;
-        }
-        i += 1;
-    }
-    i
+    let rest = &text[at..];
+    at + rest
+        .iter()
+        .position(|x| !is_blank(*x))
+        .unwrap_or(rest.len())
 }
 
 // Where the word that starts there ends.
@@ -55,14 +45,12 @@ fn end_of(text: &[u8], start: usize) -> usize
     requires { start ≤ length text.now }
     ensures { (result ≡ end_of text.now start) × (result ≤ length text.now) }
 {
-    let mut i = start;
-    while i < text.len() {
-        if is_parting(text[i]) {
-            return i;
-        }
-        i += 1;
-    }
-    i
+    let rest = &text[start..];
+    start
+        + rest
+            .iter()
+            .position(|x| is_parting(*x))
+            .unwrap_or(rest.len())
 }
 
 // The next word or line's end, from `at` on.

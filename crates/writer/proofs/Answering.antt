@@ -21,9 +21,7 @@ use Rattle.meaning.specs.Paper.{paper_bytes, paper_with}
 use Rattle.meaning.proofs.Tests.{apart}
 use Rattle.book.specs.declared.refusal.Refusal.{Refusal}
 use Rattle.book.specs.declared.reader.Shape.{Shape}
-use Rattle.book.specs.declared.reader.Read.{Read}
-use Rattle.book.specs.declared.reader.Read.TheVariants.{Good, Refused}
-use Rattle.book.specs.Numbers.{shape, number_of, place_of, told as book_told}
+use Rattle.book.specs.Numbers.{shape, number_of, place_of}
 use Rattle.book.specs.Format.{BookRead, good, bad, read_of, told_of, book_of, book_in, ReadAs}
 use Rattle.walk.specs.Run.{State}
 use Rattle.walk.specs.Page.{set_in}
@@ -157,19 +155,12 @@ module _ (k : Claim) (limit : ℕ) (buffer : List ℕ) where
   read-bad (good n r index l) e = apart (cc)
   read-bad (bad j to) e = cc
 
-  module _ (s : List ℕ) {x : Read} (e : book_told x ≡ told_of (read_of s)) where
-    pub write-bad : {f : Refusal} → x ≡ Refused f
+  module _ (s : List ℕ) where
+    pub write-bad : (f : Refusal) → refused_at (number_of f) (place_of f) ≡ told_of (read_of s)
         → only buffer (refused_at (number_of f) (place_of f)) ≡ write_of s k limit buffer
     unfolding write_of
-    write-bad f = read-bad (read_of s) (sym e ∙ ap book_told f)
+    write-bad f e = read-bad (read_of s) (sym e)
 
-    module _ {h : Shape} (g : x ≡ Good h) where
-      pub read_as : ReadAs s h
-      read_as = sym e ∙ ap book_told g
-
-      write-book : write_of s k limit buffer ≡ write_in (book_in s) k limit buffer
-      unfolding write_of book_in
-      write-book = read-good (read_of s) read_as
-
-      pub write-good : {r : Answered Handed} → r ≡ write_in (book_in s) k limit buffer → r ≡ write_of s k limit buffer
-      write-good f = f ∙ sym write-book
+    pub write-good : {h : Shape} → ReadAs s h → {r : Answered Handed} → r ≡ write_in (book_in s) k limit buffer → r ≡ write_of s k limit buffer
+    unfolding write_of book_in
+    write-good g f = f ∙ sym (read-good (read_of s) g)

@@ -7,10 +7,11 @@ use mathlib.Core.List.{List, [], ◌∷◌}
 use Prim.Native.Nat.{ℕ, ◌<◌}
 use native.Mathlib.Omega.{arith}
 use lib.ListN.{length, get_or}
+use Rattle.std.specs.Prelude.{Option, Some, None, is_some}
 use Rattle.meaning.specs.declared.AtomNo.{AtomNo}
 use Rattle.meaning.specs.declared.RuleNo.{RuleNo}
 use Rattle.meaning.specs.Books.{Rules, Book, count, InBook}
-use Rattle.meaning.specs.Colours.{Pair, heads, all_in, may_on, blocked, uncoloured, clashing}
+use Rattle.meaning.specs.Colours.{Pair, on_side, off_side, heads, all_in, may_on, blocked, uncoloured, clashing}
 use Rattle.meaning.specs.declared.kind.Kind.{Kind}
 use Rattle.meaning.specs.declared.kind.Kind.TheVariants.{Naming, Clearing}
 use Rattle.meaning.specs.declared.kind.Claim.{Claim}
@@ -28,10 +29,8 @@ use Rattle.book.proofs.AtomSets.{table-in}
 use Rattle.book.proofs.Places.{in-shape}
 use Rattle.book.proofs.Asked.{goes-on-may_on, is-blocked-blocked}
 use Rattle.closing.specs.Picked.{picked}
-use Rattle.closing.specs.declared.clash.Picked.{Picked}
-use Rattle.closing.specs.declared.clash.Picked.TheVariants.{Nothing, Rule}
 use Rattle.closing.proofs.Searches.{lowest-in}
-use Rattle.writer.specs.Steps.{tabled_by, tabled, new_on, new_off, Does}
+use Rattle.writer.specs.Steps.{tabled_by, tabled, new_on, new_off, new_by, Does}
 use Rattle.writer.specs.declared.step.Step.{Step}
 
 -- ---- an answer
@@ -40,10 +39,10 @@ use Rattle.writer.specs.declared.step.Step.{Step}
 pub does-next : {b : Book} {l : List Bool} {x : Step} {m n : Next} → n ≡ m → Does b l x m → Does b l x n
 does-next e d = rw e d
 
-pub picked-one : {x : Picked} {p : Pick} {r : RuleNo} → picked x ≡ p → x ≡ Rule r → one r ≡ p
+pub picked-one : {x : Option RuleNo} {p : Pick} {r : RuleNo} → picked x ≡ p → x ≡ Some r → one r ≡ p
 picked-one e f = rw f at e
 
-pub picked_none : {x : Picked} {p : Pick} → picked x ≡ p → x ≡ Nothing → none ≡ p
+pub picked_none : {x : Option RuleNo} {p : Pick} → picked x ≡ p → x ≡ None → none ≡ p
 picked_none e f = rw f at e
 
 -- the lowest rule of two sets that agree on the rules of the book
@@ -57,28 +56,25 @@ lowest-same b s t f = go (lowest b t) refl
 module _ (s : List ℕ) (h : Shape) (e : ReadAs s h) (n : h.atoms < 256) (on off headed : List Bool)
     (f : headed ≡ atom_table (heads (book_in s) (of on))) where
   pub new-on-lowest : (lost : List Bool) → lost ≡ atom_table (all_in (book_in s) (of off))
-      → lowest (book_in s) (new_on (book_in s) headed lost on) ≡ lowest (book_in s) (less (may_on (book_in s) (lent on off)) (of on))
-  unfolding new_on
+      → lowest (book_in s) (new_by on_side (book_in s) headed lost on) ≡ lowest (book_in s) (less (may_on (book_in s) (lent on off)) (of on))
+  unfolding new_by new_on
   new-on-lowest lost g = lowest-same (book_in s) _ _ (λ r l. ap (λ t. t && not (of on r))
       (goes-on-may_on s h e n r (in-shape s h e r l) (lent on off) headed f lost g))
 
-  pub new-off-lowest : lowest (book_in s) (new_off (book_in s) headed off)
+  pub new-off-lowest : (lost : List Bool) → lowest (book_in s) (new_by off_side (book_in s) headed lost off)
       ≡ lowest (book_in s) (less (blocked (book_in s) (lent on off)) (of off))
-  unfolding new_off
-  new-off-lowest = lowest-same (book_in s) _ _ (λ r l. ap (λ t. t && not (of off r))
+  unfolding new_by new_off
+  new-off-lowest lost = lowest-same (book_in s) _ _ (λ r l. ap (λ t. t && not (of off r))
       (is-blocked-blocked s h e n r (in-shape s h e r l) (lent on off) headed f))
 
 -- ---- 45
 
--- a rule that was found in both sets, and none
-module _ (b : Book) {n : ℕ} (e : count b ≡ n) (c : Pair) {x : Picked} (f : picked x ≡ lowest_from 0 n (in_both c)) where
-  pub clash-found : {r : RuleNo} → x ≡ Rule r → true ≡ clashing b c
-  unfolding clashed
-  clash-found q = sym (clashed-clashing b c _ (sym (picked-one (lowest-in b e _ f) q)))
-
-  pub clash-none : x ≡ Nothing → false ≡ clashing b c
-  unfolding clashed
-  clash-none q = sym ((clashed-none b c).0 (sym (picked_none (lowest-in b e _ f) q)))
+-- whether a rule was found in both sets
+pub clash-told : (b : Book) {n : ℕ} → count b ≡ n → (c : Pair) (x : Option RuleNo) → picked x ≡ lowest_from 0 n (in_both c)
+    → is_some x ≡ clashing b c
+unfolding clashed
+clash-told b e c (Some r) f = sym (clashed-clashing b c r (sym (lowest-in b e _ f)))
+clash-told b e c None f = sym ((clashed-none b c).0 (sym (lowest-in b e _ f)))
 
 -- the number of the claimed atom is the claim's byte
 pub claimed-at : (k : Claim) {q : Kind} {a : AtomNo} → k ≡ claim q a → {i : ℕ} → i ≡ a.0 → claimed k < 255 → i < 255

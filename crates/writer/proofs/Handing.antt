@@ -2,12 +2,9 @@
 -- and what the draft's length says of the paper's. And the paper put together: the steps that stand in the draft, the witness, the trailer.
 use mathlib.Core.Path.{◌≡◌, refl, sym}
 use mathlib.Core.List.{List, [], ◌++◌, append_assoc}
-use Prim.Native.Nat.{ℕ, ◌+◌, ◌≤◌, ◌<◌}
-use native.Mathlib.Nat.{zero-add}
-use native.Mathlib.Numerals.{add-one}
+use Prim.Native.Nat.{ℕ, ◌≤◌, ◌<◌}
 use native.Mathlib.Omega.{arith}
-use lib.ListN.{length, get_or, take, drop, set, length-append}
-use lib.Seq.{paste-suc, length-take-le}
+use lib.ListN.{length, take, drop, length-append}
 use Rattle.meaning.specs.declared.RuleNo.{RuleNo}
 use Rattle.meaning.specs.Books.{Atoms, Book}
 use Rattle.meaning.specs.declared.kind.Claim.{Claim}
@@ -31,19 +28,6 @@ pub stands-counted : {l : List ℕ} {n : ℕ} {out : List ℕ} → Stands l n ou
 stands-counted (whole g e h f) l = absurd (omega arith)
 stands-counted (passed g e h) l = e
 
--- the buffer with the first i bytes of the draft
-abbrev pub copied : List ℕ → List ℕ → ℕ → List ℕ
-copied draft buffer i = take i draft ++ drop i buffer
-
-pub copy_more : (draft buffer : List ℕ) (i : ℕ) → i < length draft → i < length buffer → {b : List ℕ} → b ≡ copied draft buffer i
-    → set b i (get_or draft i 0) ≡ copied draft buffer (i + 1)
-copy_more draft buffer i h g e = rw (e, add-one) (simp zero-add at (paste-suc buffer 0 draft i 0 (omega arith) h))
-
-pub copy-whole : (draft buffer : List ℕ) (i n : ℕ) → n ≤ length draft → i ≡ n → {b : List ℕ} → b ≡ copied draft buffer i
-    → b ≡ write_at 0 (take n draft) buffer
-unfolding write_at
-copy-whole draft buffer i n h f e = rw (zero-add, length-take-le n draft h, ← f) e
-
 -- ---- the paper handed over
 
 module _ (tries : ℕ) (buffer : List ℕ) {w : List ℕ} {n : ℕ} {draft : List ℕ} where
@@ -55,10 +39,11 @@ module _ (tries : ℕ) (buffer : List ℕ) {w : List ℕ} {n : ℕ} {draft : Lis
   hand-passed (whole g e h f) l = absurd (omega arith)
   hand-passed (passed g e h) l = sym (hand-long tries w buffer h)
 
-  pub hand-copied : Stands w n draft → n ≤ length buffer → n ≤ paper_bytes → {b : List ℕ} → b ≡ write_at 0 (take n draft) buffer
-      → record { told = paper tries n; buffer = b } ≡ hand_over tries w buffer
+  -- the front of the buffer is the draft's
+  pub hand-copied : Stands w n draft → n ≤ length buffer → n ≤ paper_bytes → {front : List ℕ} → front ≡ take n draft
+      → record { told = paper tries n; buffer = front ++ drop n buffer } ≡ hand_over tries w buffer
   unfolding write_at
-  hand-copied (whole g e h f) l m c = rw (c, f, zero-add, e) (sym (hand-over tries w buffer (omega arith) (omega arith)))
+  hand-copied (whole g e h f) l m c = rw (c, f, e) (sym (hand-over tries w buffer (omega arith) (omega arith)))
   hand-copied (passed g e h) l m c = absurd (omega arith)
 
 -- ---- the paper put together

@@ -2,30 +2,27 @@
 -- whether one rule is: for 41 and 42 it is, if it passes a test and isn't in an array yet.
 use mathlib.Core.Path.{◌≡◌, refl, sym, ◌∙◌, ap}
 use mathlib.Core.Logic.{⊎_elim}
-use mathlib.Core.Bool.{Bool, true, false, not, ◌&&◌}
+use mathlib.Core.Bool.{Bool, true, false, not}
 use mathlib.Core.List.{List}
 use Prim.Native.Nat.{ℕ, ◌+◌, ◌≤◌, ◌<◌}
 use native.Mathlib.Nat.{eq-or-lt_of_le}
 use native.Mathlib.Omega.{arith}
 use Rattle.meaning.specs.declared.RuleNo.{RuleNo}
-use Rattle.meaning.specs.Sets.{◌∉◌, every, some}
-use Rattle.meaning.specs.Books.{Rules, rule_no, Book, count, rule}
+use Rattle.meaning.specs.Sets.{◌∉◌}
+use Rattle.meaning.specs.Books.{Rules, rule_no, Book, count}
 use Rattle.meaning.specs.Lowest.{lowest, none, one}
 use Rattle.meaning.specs.Written.{of}
 use Rattle.meaning.specs.Engine.{less}
 use Rattle.meaning.proofs.Tests.{both, not_first, not-second}
 use Rattle.meaning.proofs.Lowest.{none-lowest, one-lowest}
-use Rattle.book.specs.Tables.{atoms_in}
-use Rattle.writer.specs.Steps.{new_on, new_off}
+use Rattle.writer.specs.Steps.{new_on, new_off, may_by, new_by}
+use Rattle.meaning.specs.Colours.{Side, on_side, off_side}
 
 -- no rule below n is in s
 pub record NoneBelow (s : Rules) (n : ℕ) : Type 0 where
   pub lower : (r : RuleNo) → r.0 < n → r ∉ s
 
 module _ (s : Rules) where
-  pub none_yet : NoneBelow s 0
-  none_yet = record { lower = λ r h. absurd (omega arith) }
-
   module _ {n : ℕ} (none_before : NoneBelow s n) where
     pub none_more : s (rule_no n) ≡ false → NoneBelow s (n + 1)
     none_more t = record { lower = λ r h. let l : r.0 ≤ n = omega arith in ⊎_elim (here r) (none_before.lower r) (eq-or-lt_of_le l) }
@@ -55,13 +52,8 @@ module _ {s t : Rules} {l : List Bool} (sifts : Sifts s t l) {r : ℕ} where
   pub sifts-in : of l (rule_no r) ≡ true → s (rule_no r) ≡ false
   sifts-in o = sifts.is _ ∙ not-second (t (rule_no r)) (ap not o)
 
--- 41
-pub new-on-sifts : (b : Book) (headed lost on : List Bool)
-    → Sifts (new_on b headed lost on) (λ r. every (atoms_in headed) (rule b r).pos && every (atoms_in lost) (rule b r).neg) on
-unfolding new_on
-new-on-sifts b headed lost on = record { is = λ r. refl }
-
--- 42
-pub new-off-sifts : (b : Book) (headed off : List Bool) → Sifts (new_off b headed off) (λ r. some (atoms_in headed) (rule b r).neg) off
-unfolding new_off
-new-off-sifts b headed off = record { is = λ r. refl }
+-- 41 and 42
+pub new-sifts : (x : Side) (b : Book) (headed lost set : List Bool) → Sifts (new_by x b headed lost set) (may_by x b headed lost) set
+unfolding new_by may_by new_on new_off
+new-sifts on_side b headed lost on = record { is = λ r. refl }
+new-sifts off_side b headed lost off = record { is = λ r. refl }

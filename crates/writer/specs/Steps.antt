@@ -4,6 +4,7 @@
 --
 --   new_on, new_off        the rules that 41 and 42 are for, asked by tables of atoms: "may go on and isn't on", "may go off so and isn't
 --                        off"
+--   may_by x, new_by x     whether a rule may go to the side x; the rules that the step for it is for
 --   tabled k headed lost  what tables of the heads of on rules, and of the atoms all of whose rules are off, say of the claim
 --   outside marks off    the rules that are neither marked nor off
 --   may_list b s l        the rules of s that may be listed next, where those of l are listed
@@ -17,7 +18,7 @@ use Rattle.meaning.specs.declared.kind.Claim.{Claim}
 use Rattle.meaning.specs.declared.kind.Claim.TheVariants.{About, NoReading}
 use Rattle.meaning.specs.Sets.{every, some}
 use Rattle.meaning.specs.Books.{Atoms, Rules, Book, rule}
-use Rattle.meaning.specs.Colours.{heads}
+use Rattle.meaning.specs.Colours.{Side, on_side, off_side, heads}
 use Rattle.meaning.specs.Written.{of}
 use Rattle.meaning.specs.Lowest.{rules_in}
 use Rattle.meaning.specs.Engine.{Next, ends, puts-on, puts-off, drops, splits, stuck, less}
@@ -40,6 +41,15 @@ new_on b headed lost on =
 
 unfoldable pub new_off : Book → List Bool → List Bool → Rules
 new_off b headed off = less (λ r. some (atoms_in headed) (rule b r).neg) (of off)
+
+-- the same for a side: 41 puts on, 42 puts off
+unfoldable pub may_by : Side → Book → List Bool → List Bool → Rules
+may_by on_side b headed lost r = every (atoms_in headed) (rule b r).pos && every (atoms_in lost) (rule b r).neg
+may_by off_side b headed lost r = some (atoms_in headed) (rule b r).neg
+
+unfoldable pub new_by : Side → Book → List Bool → List Bool → List Bool → Rules
+new_by on_side b headed lost on = new_on b headed lost on
+new_by off_side b headed lost off = new_off b headed off
 
 unfoldable pub outside : List Bool → List Bool → Rules
 outside marks off = less (λ r. not (of marks r)) (of off)

@@ -8,7 +8,7 @@
 --   witnessed, unwitnessed   the answer to a claim that stands on an answer set, and to one that doesn't, of a good book
 --   write_of book k limit paper   the answer and the buffer, of the bytes of the book and of the buffer before
 --   name_of, clear_of, contradict_of   the same, for one claim each
-use Rattle.std.specs.Prelude.{List, [], ℕ, length}
+use Rattle.std.specs.Prelude.{List, [], ℕ, length, Result, Ok, Err}
 use Rattle.meaning.specs.declared.AtomNo.{AtomNo}
 use Rattle.meaning.specs.Books.{Book}
 use Rattle.meaning.specs.Colours.{start}
@@ -31,9 +31,9 @@ use Rattle.walk.specs.declared.tally.Halt.TheVariants.{Going, Full, Limit}
 use Rattle.writer.specs.Branches.{branches}
 use Rattle.writer.specs.Scan.{Course, writing, limited, refuted, Progress, scan}
 use Rattle.writer.specs.PaperNeeds.{whole_paper}
-use Rattle.writer.specs.declared.answer.Named.{Named}
-use Rattle.writer.specs.declared.answer.Named.TheVariants.{Paper, Fewer, Stopped, NotCertain, NotClear, HasReading, NoAtom, TooLong}
-use Rattle.writer.specs.declared.answer.Named.TheVariants.{Book as BadBook}
+use Rattle.writer.specs.declared.answer.Unwritten.{Unwritten}
+use Rattle.writer.specs.declared.answer.Unwritten.TheVariants.{Fewer, Stopped, NotCertain, NotClear, HasReading, NoAtom, TooLong}
+use Rattle.writer.specs.declared.answer.Unwritten.TheVariants.{Book as BadBook}
 
 -- success tells the tries of the paper's walk and the paper's length
 pub record Handed : Type 0 where
@@ -44,16 +44,16 @@ abbrev pub paper : ℕ → ℕ → Told Handed
 paper tries size = success (record { tries = tries; size = size })
 
 -- 11 tells all tries of the first walk, and that there are no sets
-abbrev pub told : Named → Told Handed
-told (Paper tries size) = paper tries size
-told (Fewer tries rule) = fewer tries 0 rule.0
-told (Stopped limit) = stopped limit
-told (BadBook f) = refused_at (number_of f) (place_of f)
-told NotCertain = refused 12
-told NotClear = refused 18
-told HasReading = refused 38
-told NoAtom = refused 13
-told TooLong = refused 14
+abbrev pub told : Result (ℕ × ℕ) Unwritten → Told Handed
+told (Ok (tries, size)) = paper tries size
+told (Err (Fewer tries rule)) = fewer tries 0 rule.0
+told (Err (Stopped limit)) = stopped limit
+told (Err (BadBook f)) = refused_at (number_of f) (place_of f)
+told (Err NotCertain) = refused 12
+told (Err NotClear) = refused 18
+told (Err HasReading) = refused 38
+told (Err NoAtom) = refused 13
+told (Err TooLong) = refused 14
 
 unfoldable pub lacking : Kind → ℕ
 lacking Naming = 12

@@ -1,15 +1,15 @@
-// What a call for a paper answers: that the paper stands in the buffer, or why there is none.
-ghost use Rattle.std.specs.Prelude.{◌≡◌};
+// Why a call for a paper gives none, where it doesn't answer with the tries of the paper's walk and the
+// length of the paper that stands in the buffer.
+ghost use Rattle.std.specs.Prelude.{◌≡◌, Err};
 ghost use Rattle.meaning.specs.Told.{refused};
 ghost use Rattle.writer.specs.Write.{told, failing};
+ghost use Rattle.writer.specs.declared.answer.Unwritten.TheVariants.{Book};
 
 use book::Refusal;
 use meaning::{Claim, Kind, RuleNo};
 
 #[derive(Clone, Copy)]
-pub enum Named {
-    // The paper stands in the buffer: the tries of its walk, and its length.
-    Paper(u32, usize),
+pub enum Unwritten {
     // 11: no reading; all tries of the walk to the first one, and the rule of the last
     // contradictory try.
     Fewer(u32, RuleNo),
@@ -29,15 +29,21 @@ pub enum Named {
     TooLong,
 }
 
+impl From<Refusal> for Unwritten {
+    ghost from_gives = { λ why it. it ≡ Book why };
+
+    fn from(why: Refusal) -> Unwritten {
+        Unwritten::Book(why)
+    }
+}
+
 // What is told of a claim that fails of a reading.
-pub fn unproved(claim: Claim) -> Named
-    ensures { told result ≡ refused (failing claim) }
+pub fn unproved(claim: Claim) -> Unwritten
+    ensures { told (Err result) ≡ refused (failing claim) }
 {
     match claim {
-        Claim::About(kind, _) => match kind {
-            Kind::Naming => Named::NotCertain,
-            Kind::Clearing => Named::NotClear,
-        },
-        Claim::NoReading => Named::HasReading,
+        Claim::About(Kind::Naming, _) => Unwritten::NotCertain,
+        Claim::About(Kind::Clearing, _) => Unwritten::NotClear,
+        Claim::NoReading => Unwritten::HasReading,
     }
 }

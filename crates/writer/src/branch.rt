@@ -2,17 +2,16 @@
 ghost use Rattle.std.specs.Prelude.{◌<◌};
 ghost use Rattle.meaning.specs.Claim.{claimed};
 ghost use Rattle.meaning.specs.Written.{written, pair};
-ghost use Rattle.book.specs.Format.{book_in, ReadAs};
+ghost use Rattle.book.specs.ReadBook.{the_book};
 ghost use Rattle.writer.specs.Branches.{branch};
 ghost use Rattle.writer.specs.Draft.{Writes, Wrote, tip_bytes};
 
 use crate::draft::{write, write_step};
 use crate::list::drop_rules;
 use crate::step::{Step, Tip, next_step};
-use book::Shape;
+use book::ReadBook;
 use meaning::{
     Bits, Claim, Colouring, PAPER_BYTES, STEP_END, STEP_OFF, STEP_ON, STEP_SPLIT, STEP_UNFOUNDED,
-    put,
 };
 
 // What a branch ends by, with the colouring there and the draft's length behind it.
@@ -36,50 +35,38 @@ fn write_tip(draft: &mut [u8; PAPER_BYTES], at: usize, tip: Tip) -> usize
 
 // Writes the branch that starts with the colouring c, step by step.
 pub fn write_branch(
-    book: &[u8],
-    shape: Shape,
+    book: &ReadBook,
     claim: Claim,
     c: Colouring,
     draft: &mut [u8; PAPER_BYTES],
     at: usize,
 ) -> Written
-    requires { ReadAs book.now shape × (claimed claim < 255) }
-    ensures { Wrote (branch (book_in book.now) claim (pair (written c)))
+    requires { claimed claim < 255 }
+    ensures { Wrote (branch (the_book book.now) claim (pair (written c)))
         at draft.old result draft.new }
 {
-    let c_on = c.on;
-    let c_off = c.off;
-    let mut on = c_on.w;
-    let mut off = c_off.w;
-    let marks = c.marks;
-    let level = c.level;
-    let levels = c.levels;
-    let mut dropped = [0u64; 4];
+    let mut colours = c;
+    let mut dropped = Bits::EMPTY;
     let mut n = at;
+    // Each step is found from the colours that those before it left: no range says how many there are.
     loop {
-        match next_step(book, shape, claim, &on, &off, &mut dropped) {
+        match next_step(book, claim, &colours.on, &colours.off, &mut dropped) {
             Step::On(r) => {
-                put(&mut on, r.0);
+                colours.on.put(r.0);
                 n = write_step(draft, n, STEP_ON, r);
             }
             Step::Off(r) => {
-                put(&mut off, r.0);
+                colours.off.put(r.0);
                 n = write_step(draft, n, STEP_OFF, r);
             }
             Step::Unfounded(m) => {
                 let coded = write(draft, n, STEP_UNFOUNDED);
                 let counted = write(draft, coded, m);
-                n = drop_rules(shape.rules, &dropped, &mut off, draft, counted);
+                n = drop_rules(book.shape.rules, &dropped, &mut colours.off, draft, counted);
             }
             Step::Stops(tip) => {
                 return Written {
-                    colours: Colouring {
-                        on: Bits { w: on },
-                        off: Bits { w: off },
-                        marks,
-                        level,
-                        levels,
-                    },
+                    colours,
                     length: write_tip(draft, n, tip),
                     tip,
                 };

@@ -1,65 +1,52 @@
 // A draft whose steps came to their end becomes the paper.
-ghost use Rattle.std.specs.Prelude.{◌≡◌, List, ℕ, ◌<◌, ◌≤◌, length, take};
+ghost use Rattle.std.specs.Prelude.{◌≡◌, List, ℕ, ◌<◌, length};
 ghost use Rattle.meaning.specs.Told.{Answered};
 ghost use Rattle.meaning.specs.Paper.{paper_bytes};
-ghost use Rattle.book.specs.Format.{book_in, ReadAs};
-ghost use Rattle.meaning.specs.Buffers.{write_at};
+ghost use Rattle.book.specs.ReadBook.{the_book};
 ghost use Rattle.walk.specs.Page.{set_in};
 ghost use Rattle.writer.specs.Draft.{Stands};
 ghost use Rattle.writer.specs.PaperNeeds.{whole_paper};
 ghost use Rattle.writer.specs.Write.{Handed, told, hand_over};
 
-use crate::answer::Named;
+use crate::answer::Unwritten;
 use crate::draft::write_trailer;
 use crate::witness::write_witness;
-use book::Shape;
+use book::ReadBook;
 use meaning::{Claim, Colouring, PAPER_BYTES};
 
 // Writes the witness and the trailer behind the steps; the length of the whole paper.
 pub fn finish(
-    book: &[u8],
-    shape: Shape,
+    book: &ReadBook,
     claim: Claim,
     row: &[u8; Colouring::ATOMS],
     draft: &mut [u8; PAPER_BYTES],
     from: usize,
 ) -> usize
-    requires { ReadAs book.now shape × (from < 65536) }
+    requires { from < 65536 }
     ensures { (steps : List ℕ) → Stands steps from draft.old →
-        Stands (whole_paper (book_in book.now) claim steps
+        Stands (whole_paper (the_book book.now) claim steps
         (set_in row.now)) result draft.new }
 {
-    let witness = write_witness(book, shape, row, draft, from);
+    let witness = write_witness(book, row, draft, from);
     write_trailer(draft, witness.length, claim, witness.count, from)
 }
 
-// Copies the first `n` bytes of the draft to the front of the paper.
-fn copy(draft: &[u8; PAPER_BYTES], n: usize, paper: &mut [u8])
-    requires { (length draft.now ≡ paper_bytes) × (n ≤ paper_bytes) × (n ≤ length paper.old) }
-    ensures { paper.new ≡
-        write_at 0 (take n draft.now) paper.old }
-{
-    let mut i = 0;
-    while i < n {
-        paper[i] = draft[i];
-        i += 1;
-    }
-}
-
-// Hands the paper of the first `n` bytes over, or refuses it as too long for the buffer or for a
-// paper.
-pub fn hand_over(tries: u32, draft: &[u8; PAPER_BYTES], n: usize, paper: &mut [u8]) -> Named
+// Copies the paper of the first `n` bytes to the front of the buffer, or refuses it as too long for
+// the buffer or for a paper.
+pub fn hand_over(
+    tries: u32,
+    draft: &[u8; PAPER_BYTES],
+    n: usize,
+    paper: &mut [u8],
+) -> Result<(u32, usize), Unwritten>
     requires { length draft.now ≡ paper_bytes }
     ensures { (whole : List ℕ) → Stands whole n draft.now →
         ◌≡◌ {A = Answered Handed} (record { told = told result; buffer = paper.new })
         (hand_over tries whole paper.old) }
 {
-    if paper.len() < n {
-        return Named::TooLong;
+    if paper.len() < n || PAPER_BYTES < n {
+        return Err(Unwritten::TooLong);
     }
-    if PAPER_BYTES < n {
-        return Named::TooLong;
-    }
-    copy(draft, n, paper);
-    Named::Paper(tries, n)
+    paper[..n].copy_from_slice(&draft[..n]);
+    Ok((tries, n))
 }

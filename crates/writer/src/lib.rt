@@ -19,5 +19,5 @@ mod split;
 mod step;
 mod witness;
 
-pub use answer::Named;
+pub use answer::Unwritten;
 pub use paper::{clear, contradict, name, write_claim};

@@ -1,60 +1,50 @@
 // The lowest rule that a step is written for. Tables of atoms are made for the step, so that a
 // search asks of an atom in one step.
-ghost use Rattle.std.specs.Prelude.{◌≡◌};
+ghost use Rattle.std.specs.Prelude.{◌≡◌, ◌<◌};
 ghost use Rattle.meaning.specs.Bits.{listed};
+ghost use Rattle.meaning.specs.Colours.{side_of};
 ghost use Rattle.meaning.specs.Lowest.{lowest};
-ghost use Rattle.book.specs.Format.{book_in, ReadAs};
+ghost use Rattle.book.specs.ReadBook.{the_book};
 ghost use Rattle.closing.specs.Picked.{picked};
-ghost use Rattle.writer.specs.Steps.{new_on, new_off};
+ghost use Rattle.writer.specs.Steps.{may_by, new_by};
 
-use book::{Shape, goes_on, is_blocked};
-use closing::Picked;
-use meaning::{Colouring, RuleNo, has};
+use book::ReadBook;
+use meaning::{Bits, Colouring, RuleNo, Side};
 
-// 41: the lowest rule that may go on and isn't on.
-pub fn lowest_on<'a>(
-    book: &[u8],
-    shape: Shape,
-    on: &[u64; 4],
+// The rule may go to this side: 41 if it is on, 42 if it is off.
+fn may_go<'a>(
+    book: &ReadBook,
+    side: Side,
+    r: RuleNo,
     headed: &'a [bool; Colouring::ATOMS],
     lost: &'a [bool; Colouring::ATOMS],
-) -> Picked
-    requires { ReadAs book.now shape }
-    ensures { picked result ≡ lowest (book_in book.now)
-        (new_on (book_in book.now) headed.now lost.now
-        (listed on.now)) }
+) -> bool
+    requires { r.0 < book.now.shape.rules }
+    ensures { result ≡
+        may_by (side_of side) (the_book book.now) headed.now lost.now r }
 {
-    let mut r: u8 = 0;
-    while r < shape.rules {
-        if !has(on, r) {
-            if goes_on(book, shape, RuleNo(r), headed, lost) {
-                return Picked::Rule(RuleNo(r));
-            }
-        }
-        r += 1;
+    match side {
+        Side::On => book.goes_on(r, headed, lost),
+        Side::Off => book.is_blocked(r, headed),
     }
-    Picked::Nothing
 }
 
-// 42: the lowest rule with a negative atom that is the head of an on rule, and that isn't off.
-pub fn lowest_off(
-    book: &[u8],
-    shape: Shape,
-    off: &[u64; 4],
-    headed: &[bool; Colouring::ATOMS],
-) -> Picked
-    requires { ReadAs book.now shape }
-    ensures { picked result ≡ lowest (book_in book.now)
-        (new_off (book_in book.now) headed.now (listed off.now)) }
+// The lowest rule that may go to this side and isn't in its set.
+pub fn lowest_for<'a>(
+    book: &ReadBook,
+    side: Side,
+    set: &Bits,
+    headed: &'a [bool; Colouring::ATOMS],
+    lost: &'a [bool; Colouring::ATOMS],
+) -> Option<RuleNo>
+    ensures { picked result ≡ lowest (the_book book.now)
+        (new_by (side_of side) (the_book book.now) headed.now lost.now
+        (listed set.now.w)) }
 {
-    let mut r: u8 = 0;
-    while r < shape.rules {
-        if !has(off, r) {
-            if is_blocked(book, shape, RuleNo(r), headed) {
-                return Picked::Rule(RuleNo(r));
-            }
+    for r in 0..book.shape.rules {
+        if !set.has(r) && may_go(book, side, RuleNo(r), headed, lost) {
+            return Some(RuleNo(r));
         }
-        r += 1;
     }
-    Picked::Nothing
+    None
 }

@@ -5,14 +5,14 @@ ghost use Rattle.meaning.specs.Claim.{claimed};
 ghost use Rattle.meaning.specs.Bits.{listed};
 ghost use Rattle.meaning.specs.Written.{lent};
 ghost use Rattle.meaning.specs.Engine.{next};
-ghost use Rattle.book.specs.Format.{book_in, ReadAs};
+ghost use Rattle.book.specs.ReadBook.{the_book};
 ghost use Rattle.writer.specs.Steps.{Does, tabled};
 
 use crate::list::list_unsupported;
-use crate::search::{lowest_off, lowest_on};
-use book::{Shape, heads_of, lost_in, wide};
-use closing::{Picked, lowest_clash};
-use meaning::{Claim, Colouring, Kind, RuleNo, whole};
+use crate::search::lowest_for;
+use book::{ReadBook, wide};
+use closing::lowest_clash;
+use meaning::{Bits, Claim, Colouring, Kind, RuleNo, Side};
 use walk::lowest_uncoloured;
 
 // A step that the branch goes on after, or what it stops by.
@@ -37,15 +37,11 @@ pub enum Tip {
 }
 
 // Some rule is in both sets.
-fn is_clashing<'a>(book: &[u8], shape: Shape, on: &'a [u64; 4], off: &'a [u64; 4]) -> bool
-    requires { ReadAs book.now shape }
+fn is_clashing<'a>(book: &ReadBook, on: &'a Bits, off: &'a Bits) -> bool
     ensures { result ≡
-        clashing (book_in book.now) (lent (listed on.now) (listed off.now)) }
+        clashing (the_book book.now) (lent (listed on.now.w) (listed off.now.w)) }
 {
-    match lowest_clash(shape.rules, whole(on), whole(off)) {
-        Picked::Nothing => false,
-        Picked::Rule(_) => true,
-    }
+    lowest_clash(book.shape.rules, *on, *off).is_some()
 }
 
 // What the tables say of the claimed atom: the head of an on rule, or of off rules only. That the
@@ -59,13 +55,8 @@ fn is_shown<'a>(
     ensures { result ≡ tabled claim headed.now lost.now }
 {
     match claim {
-        Claim::About(kind, atom) => {
-            let a = wide(atom.0);
-            match kind {
-                Kind::Naming => headed[a],
-                Kind::Clearing => lost[a],
-            }
-        }
+        Claim::About(Kind::Naming, atom) => headed[wide(atom.0)],
+        Claim::About(Kind::Clearing, atom) => lost[wide(atom.0)],
         Claim::NoReading => false,
     }
 }
@@ -73,39 +64,38 @@ fn is_shown<'a>(
 // 45 as soon as allowed; else the first of 41, 42, 55 and 53 that there is a rule for. The rules of
 // 55 are written over whatever the set held.
 pub fn next_step<'a>(
-    book: &[u8],
-    shape: Shape,
+    book: &ReadBook,
     claim: Claim,
-    on: &'a [u64; 4],
-    off: &'a [u64; 4],
-    dropped: &mut [u64; 4],
+    on: &'a Bits,
+    off: &'a Bits,
+    dropped: &mut Bits,
 ) -> Step
-    requires { ReadAs book.now shape × (claimed claim < 255) }
-    ensures { Does (book_in book.now) (listed dropped.new) result
-        (next (book_in book.now) claim
-        (lent (listed on.now) (listed off.now))) }
+    requires { claimed claim < 255 }
+    ensures { Does (the_book book.now) (listed dropped.new.w) result
+        (next (the_book book.now) claim
+        (lent (listed on.now.w) (listed off.now.w))) }
 {
-    if is_clashing(book, shape, on, off) {
+    if is_clashing(book, on, off) {
         return Step::Stops(Tip::Ended);
     }
     let mut headed = [false; Colouring::ATOMS];
-    heads_of(book, shape, on, &mut headed);
+    book.heads_of(on, &mut headed);
     let mut lost = [false; Colouring::ATOMS];
-    lost_in(book, shape, off, &mut lost);
+    book.lost_in(off, &mut lost);
     if is_shown(claim, &headed, &lost) {
         return Step::Stops(Tip::Ended);
     }
-    if let Picked::Rule(r) = lowest_on(book, shape, on, &headed, &lost) {
+    if let Some(r) = lowest_for(book, Side::On, on, &headed, &lost) {
         return Step::On(r);
     }
-    if let Picked::Rule(r) = lowest_off(book, shape, off, &headed) {
+    if let Some(r) = lowest_for(book, Side::Off, off, &headed, &lost) {
         return Step::Off(r);
     }
-    let m = list_unsupported(book, shape, off, dropped);
+    let m = list_unsupported(book, off, dropped);
     if m != 0 {
         return Step::Unfounded(m);
     }
-    if let Picked::Rule(r) = lowest_uncoloured(shape.rules, whole(on), whole(off)) {
+    if let Some(r) = lowest_uncoloured(book.shape.rules, *on, *off) {
         return Step::Stops(Tip::Parted(r));
     }
     Step::Stops(Tip::Unsettled)

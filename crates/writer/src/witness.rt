@@ -7,7 +7,7 @@ ghost use Rattle.meaning.specs.Engine.{witness_of};
 ghost use Rattle.meaning.specs.Lowest.{lowest};
 ghost use Rattle.meaning.specs.Bits.{listed};
 ghost use Rattle.meaning.specs.Written.{of};
-ghost use Rattle.book.specs.Format.{book_in, ReadAs};
+ghost use Rattle.book.specs.ReadBook.{the_book};
 ghost use Rattle.book.specs.Tables.{atom_table};
 ghost use Rattle.walk.specs.Page.{set_in};
 ghost use Rattle.closing.specs.Picked.{picked};
@@ -15,9 +15,8 @@ ghost use Rattle.writer.specs.Draft.{Writes};
 ghost use Rattle.writer.specs.Steps.{may_list};
 
 use crate::draft::write;
-use book::{Shape, every_in, heads_of, positives};
-use closing::Picked;
-use meaning::{Colouring, PAPER_BYTES, RuleNo, has, put};
+use book::{ReadBook, every_in};
+use meaning::{Bits, Colouring, PAPER_BYTES, RuleNo};
 use walk::generates;
 
 // How many rules the witness lists, and the draft's length behind it.
@@ -29,71 +28,60 @@ pub struct Witness {
 
 // The rule generates the row's set, isn't listed, and its positive atoms are heads of listed rules.
 fn may_list(
-    book: &[u8],
-    shape: Shape,
+    book: &ReadBook,
     r: RuleNo,
     row: &[u8; Colouring::ATOMS],
-    taken: &[u64; 4],
+    taken: &Bits,
     headed: &[bool; Colouring::ATOMS],
 ) -> bool
-    requires { ReadAs book.now shape × (r.0 < shape.rules)
-        × (headed.now ≡ atom_table (heads (book_in book.now) (of (listed taken.now)))) }
-    ensures { result ≡ may_list (book_in book.now)
-        (generating (book_in book.now) (set_in row.now))
-        (listed taken.now) r }
+    requires { (r.0 < book.now.shape.rules)
+        × (headed.now ≡ atom_table (heads (the_book book.now) (of (listed taken.now.w)))) }
+    ensures { result ≡ may_list (the_book book.now)
+        (generating (the_book book.now) (set_in row.now))
+        (listed taken.now.w) r }
 {
-    if has(taken, r.0) {
-        return false;
-    }
-    if !generates(book, shape, r, row) {
-        return false;
-    }
-    every_in(positives(book, shape, r), headed)
+    !taken.has(r.0) && generates(book, r, row) && every_in(book.positives(r), headed)
 }
 
 // The lowest rule that may be listed next.
-fn next_listed(book: &[u8], shape: Shape, row: &[u8; Colouring::ATOMS], taken: &[u64; 4]) -> Picked
-    requires { ReadAs book.now shape }
-    ensures { picked result ≡ lowest (book_in book.now)
-        (may_list (book_in book.now)
-        (generating (book_in book.now) (set_in row.now))
-        (listed taken.now)) }
+fn next_listed(book: &ReadBook, row: &[u8; Colouring::ATOMS], taken: &Bits) -> Option<RuleNo>
+    ensures { picked result ≡ lowest (the_book book.now)
+        (may_list (the_book book.now)
+        (generating (the_book book.now) (set_in row.now))
+        (listed taken.now.w)) }
 {
     let mut headed = [false; Colouring::ATOMS];
-    heads_of(book, shape, taken, &mut headed);
-    let mut r: u8 = 0;
-    while r < shape.rules {
-        if may_list(book, shape, RuleNo(r), row, taken, &headed) {
-            return Picked::Rule(RuleNo(r));
+    book.heads_of(taken, &mut headed);
+    for r in 0..book.shape.rules {
+        if may_list(book, RuleNo(r), row, taken, &headed) {
+            return Some(RuleNo(r));
         }
-        r += 1;
     }
-    Picked::Nothing
+    None
 }
 
 // Writes the witness of the row's set behind the steps.
 pub fn write_witness(
-    book: &[u8],
-    shape: Shape,
+    book: &ReadBook,
     row: &[u8; Colouring::ATOMS],
     draft: &mut [u8; PAPER_BYTES],
     at: usize,
 ) -> Witness
-    requires { ReadAs book.now shape }
-    ensures { (result.count ≡ length (witness_of (book_in book.now) (set_in row.now)))
-        × Writes (numbers (witness_of (book_in book.now) (set_in row.now))) at
+    ensures { (result.count ≡ length (witness_of (the_book book.now) (set_in row.now)))
+        × Writes (numbers (witness_of (the_book book.now) (set_in row.now))) at
         draft.old result.length draft.new }
 {
-    let mut taken = [0u64; 4];
+    let mut taken = Bits::EMPTY;
     let mut n = at;
-    let mut count: u8 = 0;
-    while count < shape.rules {
-        let Picked::Rule(r) = next_listed(book, shape, row, &taken) else {
+    for count in 0..book.shape.rules {
+        let Some(r) = next_listed(book, row, &taken) else {
             return Witness { count, length: n };
         };
-        put(&mut taken, r.0);
+        taken.put(r.0);
         n = write(draft, n, r.0);
-        count += 1;
     }
-    Witness { count, length: n }
+    Witness {
+        count: book.shape.rules,
+        length: n,
+    }
 }

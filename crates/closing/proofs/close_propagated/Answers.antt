@@ -5,96 +5,53 @@ use mathlib.Core.Path.{sym, subst}
 use mathlib.Core.List.{List}
 use Prim.Native.Nat.{ℕ}
 use native.Mathlib.Omega.{arith}
-use borrow.Author.Rules.{rules}
-use Rattle.meaning.specs.Colours.{Pair, Under}
+use Rattle.meaning.specs.Colours.{Under}
 use Rattle.meaning.specs.Bits.{listed}
-use Rattle.meaning.specs.Written.{Tables, of, coloured, lent}
-use Rattle.meaning.specs.Propagation.{Propagated}
+use Rattle.meaning.specs.Written.{of, coloured, lent}
 use Rattle.meaning.specs.Suspects.{Settled}
 use Rattle.book.specs.Format.{book_in}
 use Rattle.book.proofs.Places.{shape-count}
-use Rattle.closing.proofs.Good.{Good, good-few}
+use Rattle.closing.proofs.Good.{good-book, good-few}
 use Rattle.closing.proofs.Propagating.{sized-coloured}
-use Rattle.closing.proofs.Closed.{UnderWay, closes-start, propagated-to, closes-propagated, propagated-no-more, dropped-above}
+use Rattle.closing.proofs.Closed.{propagated-to, closes-propagated, propagated-no-more}
 use Rattle.closing.proofs.Closed.{closes-dropped, dropped-settled, dropped-less, propagated-off, closed-to}
 use Rattle.closing.proofs.Leaving.{ends-left, ends-closed}
 use Rattle.closing.proofs.close_propagated.Goals as goal
-use Rattle.closing.proofs.close_propagated.Lts as lts
-use Rattle.closing.proofs.close_propagated.Tie as tie
-
-abbrev Start : Type 0
-Start = lts.Start tie.the-claims tie.handed_pre tie.handed_post goal.the-invariant-loop-shape goal.the-decreases-loop-shape
-
-abbrev After-drop_suspects : Type 0
-After-drop_suspects = lts.After-drop_suspects tie.the-claims tie.handed_pre tie.handed_post goal.the-invariant-loop-shape goal.the-decreases-loop-shape
-
-good : (s : Start) → Good s.args.book.now s.args.shape
-good s = search rules
-
--- behind the rules that nothing holds up: where the turn began, and the start of the function
-module _ (d : After-drop_suspects) where
-  abbrev first : Pair
-  first = lent (listed d.args.on.now) (listed d.args.off.now)
-
-  -- the sets then
-  abbrev off-then : List ℕ
-  off-then = d.drop_suspects.new.off
-
-  abbrev sets : Tables
-  sets = coloured (listed d.loop-shape.on) (listed off-then)
-
-  dropped : UnderWay (book_in d.args.book.now) first (lent (listed d.loop-shape.on) (listed off-then))
-  dropped = closes-dropped _ (good-few (good d.before.before.before.before.before.before.before.before.before.before)) _ _ d.drop_suspects.ensures.0.gone (of (listed d.loop-shape.on)) d.loop-shape.invariant.0
 
 -- ---- the needs
-pub loop-shape-init : goal.loop-shape-init
-loop-shape-init c = (closes-start _ _, c.requires.2, c.requires.3, c.requires.4)
-
 -- the closing is left at the start of a turn
 pub returns-then-is_left : goal.returns-then-is_left
 returns-then-is_left c =
-    ends-left _ (shape-count _ _ c.requires.0) (listed c.loop-shape.on) (listed c.loop-shape.off) c.loop-shape.invariant.0 c.is_left.ensures c.if-is_left.true
-
-pub drop_suspects-requires : goal.drop_suspects-requires
-drop_suspects-requires c =
-    (c.requires.0, c.requires.1, c.loop-shape.invariant.2, c.loop-shape.invariant.3)
+    ends-left _ (shape-count _ _ c.args.rowed.now.book.read_as) (listed c.loop-old.on.w) (listed c.loop-old.off.w) c.loop-old.invariant.0 c.is_left.ensures c.if-is_left.true
 
 pub returns-then-not-drop_suspects : goal.returns-then-not-drop_suspects
 returns-then-not-drop_suspects c =
-    let l = c.loop-shape in
-    ends-closed (closed-to _ (good-few (good c.before.before.before.before.before.before.before.before.before.before.before.before)) (first c.before.before) l.on l.off (off-then c.before.before) l.invariant.0 l.invariant.1
-    c.drop_suspects.ensures.0 c.if-not-drop_suspects.true)
+    let l = c.loop-old in
+    ends-closed (closed-to _ (good-few (good-book c.args.rowed.now.book)) (lent (listed c.args.on.now.w) (listed c.args.off.now.w)) l.on.w l.off.w c.drop_suspects.new.off.w
+    l.invariant.0 l.invariant.1 c.drop_suspects.ensures.0 c.if-not-drop_suspects.true)
 
-pub propagate_dropped-requires : goal.propagate_dropped-requires
-propagate_dropped-requires c =
-    let l = c.loop-shape in
-    let off = off-then c.before.before.before.before.before in
-    let above = dropped-above _ (good-few (good c.before.before.before.before.before.before.before.before.before.before.before.before.before.before.before)) (of (listed l.off)) (of (listed off)) c.drop_suspects.ensures.0.gone in (
-      c.requires.0,
-      c.requires.1,
-      subst (λ (v : List ℕ). Propagated (book_in c.args.book.now) (lent (listed l.on) (listed v))) (sym c.whole-was.ensures) l.invariant.1,
-      subst (λ (v : List ℕ). Under (book_in c.args.book.now) (of (listed v)) (of (listed off))) (sym c.whole-was.ensures) above,
-    )
-
-pub loop-shape-smaller : goal.loop-shape-smaller
-loop-shape-smaller c =
-    let few = good-few (good c.before.before.before.before.before.before.before.before.before.before.before.before.before.before.before.before) in
+pub loop-old-smaller : goal.loop-old-smaller
+loop-old-smaller c =
+    let fits = good-few (good-book c.args.rowed.now.book) in
+    let sets = coloured (listed c.loop-old.on.w) (listed c.drop_suspects.new.off.w) in
     omega (
       arith,
-      propagated-no-more _ few (sets c.before.before.before.before.before.before) (sized-coloured _ _) c.propagate_dropped.ensures.0 c.propagate_dropped.ensures.1,
-      dropped-less _ few _ _ c.drop_suspects.ensures.0 (of (listed c.loop-shape.on))
-          c.if-not-drop_suspects.false,
+      propagated-no-more _ fits sets (sized-coloured _ _) c.propagate_dropped.ensures.0 c.propagate_dropped.ensures.1,
+      dropped-less _ fits _ _ c.drop_suspects.ensures.0 (of (listed c.loop-old.on.w)) c.if-not-drop_suspects.false,
     )
 
-pub loop-shape-preserved : goal.loop-shape-preserved
-loop-shape-preserved c =
-    let few = good-few (good c.before.before.before.before.before.before.before.before.before.before.before.before.before.before.before.before) in
+pub loop-old-preserved : goal.loop-old-preserved
+loop-old-preserved c =
+    let fits = good-few (good-book c.args.rowed.now.book) in
+    let l = c.loop-old in
+    let sets = coloured (listed l.on.w) (listed c.drop_suspects.new.off.w) in
+    let dropped = closes-dropped _ fits _ _ c.drop_suspects.ensures.0.gone (of (listed l.on.w)) l.invariant.0 in
     let (e, f) = c.propagate_dropped.ensures in
     let same = c.drop_suspects.ensures.1 in (
-      closes-propagated _ few (sets c.before.before.before.before.before.before) (sized-coloured _ _) e f (dropped c.before.before.before.before.before.before),
-      (propagated-to _ few (sets c.before.before.before.before.before.before) (sized-coloured _ _) e f).good.propagated,
-      subst (λ (v : List ℕ). Settled (book_in c.args.book.now) (of (listed v))) (sym same)
-          (dropped-settled _ few (of (listed c.loop-shape.off)) _ c.drop_suspects.ensures.0.gone),
-      subst (λ (v : List ℕ). Under (book_in c.args.book.now) (of (listed v)) (of (listed c.propagate_dropped.new.off))) (sym same)
-          (propagated-off _ few (sets c.before.before.before.before.before.before) (sized-coloured _ _) e f),
+      closes-propagated _ fits sets (sized-coloured _ _) e f dropped,
+      (propagated-to _ fits sets (sized-coloured _ _) e f).good.propagated,
+      subst (λ (v : List ℕ). Settled (book_in c.args.rowed.now.book.bytes.now) (of (listed v))) (sym same)
+          (dropped-settled _ fits (of (listed l.off.w)) _ c.drop_suspects.ensures.0.gone),
+      subst (λ (v : List ℕ). Under (book_in c.args.rowed.now.book.bytes.now) (of (listed v)) (of (listed c.propagate_dropped.new.off.w))) (sym same)
+          (propagated-off _ fits sets (sized-coloured _ _) e f),
     )

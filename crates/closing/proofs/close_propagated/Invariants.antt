@@ -8,12 +8,12 @@ use Rattle.book.specs.Format.{book_in}
 use Rattle.closing.proofs.Closed.{UnderWay}
 use Rattle.closing.proofs.close_propagated.Given as goal
 
-abbrev pub invariant-loop-shape : goal.invariant-loop-shape
-invariant-loop-shape l =
-    UnderWay (book_in l.book) (lent (listed l.initial.on) (listed l.initial.off)) (lent (listed l.on) (listed l.off))
-    × Propagated (book_in l.book) (lent (listed l.on) (listed l.off))
-    × Settled (book_in l.book) (of (listed l.old))
-    × Under (book_in l.book) (of (listed l.old)) (of (listed l.off))
+abbrev pub invariant-loop-old : goal.invariant-loop-old
+invariant-loop-old l =
+    UnderWay (book_in l.rowed.book.bytes.now) (lent (listed l.initial.on.w) (listed l.initial.off.w)) (lent (listed l.on.w) (listed l.off.w))
+    × Propagated (book_in l.rowed.book.bytes.now) (lent (listed l.on.w) (listed l.off.w))
+    × Settled (book_in l.rowed.book.bytes.now) (of (listed l.old.w))
+    × Under (book_in l.rowed.book.bytes.now) (of (listed l.old.w)) (of (listed l.off.w))
 
-abbrev pub decreases-loop-shape : goal.decreases-loop-shape
-decreases-loop-shape l = remaining (book_in l.book) (lent (listed l.on) (listed l.off))
+abbrev pub decreases-loop-old : goal.decreases-loop-old
+decreases-loop-old l = remaining (book_in l.rowed.book.bytes.now) (lent (listed l.on.w) (listed l.off.w))

@@ -4,7 +4,7 @@ use Rattle.book.proofs.Places.{shape-atoms}
 use Rattle.checker.proofs.PaperChecked.{ends-fit}
 use Rattle.explaining.proofs.explain_paper.Goals as goal
 
-pub explain_steps-requires : goal.explain_steps-requires
-explain_steps-requires g c =
-    let ends = c.read_trailer.ensures (book_in c.args.book.now) (shape-atoms _ _ c.requires) in
-    let (fits, short) = ends-fit ends c.in-Good.is in (c.requires, fits, short)
+pub invariant_of-paper : goal.invariant_of-paper
+invariant_of-paper g c =
+    let ends = c.read_trailer.ensures (book_in c.args.book.bytes.now) (shape-atoms _ _ c.args.book.read_as) in
+    record { fits = ends-fit ends c.in-Ok.is }

@@ -5,19 +5,18 @@ use Rattle.aspif.proofs.Onward.{onward-start}
 use Rattle.aspif.proofs.LinesStored.{part_room, part-more, part-done}
 use Rattle.aspif.proofs.lines.put_part.Goals as goal
 
-pub loop-i-init : goal.loop-i-init
-loop-i-init c = (omega arith, onward-start _ _ _ (search rules))
+pub loop-n-init : goal.loop-n-init
+loop-n-init c = onward-start _ _ _ (search rules)
 
 pub put_item-end-requires : goal.put_item-end-requires
-put_item-end-requires c =
-    part_room _ _ _ _ _ c.loop-i.i c.loop-i.invariant.1 (omega arith) c.wide.ensures.0
+put_item-end-requires c = part_room _ _ _ _ _ c.loop-n.n-index c.loop-n.invariant (omega arith) c.wide.ensures.0
 
-pub loop-i-preserved : goal.loop-i-preserved
-loop-i-preserved c =
-    (search rules, part-more _ _ _ _ _ c.loop-i.i c.loop-i.invariant.1 (omega arith) c.wide.ensures.0 c.put_item-end.ensures)
+pub loop-n-preserved : goal.loop-n-preserved
+loop-n-preserved c =
+    part-more _ _ _ _ _ c.loop-n.n-index c.loop-n.invariant (omega arith) c.wide.ensures.0 c.put_item-end.ensures
 
 pub shape_of-out : goal.shape_of-out
-shape_of-out c = c.loop-i.invariant.1.long
+shape_of-out c = c.loop-n.invariant.long
 
 pub returns : goal.returns
-returns c = part-done _ _ _ _ _ c.loop-i.i c.loop-i.invariant.1 (omega arith)
+returns c = part-done _ _ _ _ _ c.loop-n.n-index c.loop-n.invariant (omega arith)

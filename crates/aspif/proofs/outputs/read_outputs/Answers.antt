@@ -52,10 +52,10 @@ pub loop-end-smaller : goal.loop-end-smaller
 loop-end-smaller c =
     let g = c.loop-end.invariant in
     let h : c.loop-end.count < 18446744073709551615 = omega (arith, g.1.ahead, g.1.inside) in
-    counted-less _ _ g.1 _ (stored-front _ _ c.put_output-size.ensures (omega (arith, g.0, (line-bounds _ h).1))) _ c.skip_text.ensures.result_value c.in-To.is c.skip_text.ensures.reaches h
+    counted-less _ _ g.1 _ (stored-front _ _ c.put_output-size.ensures (omega (arith, g.0, (line-bounds _ h).1))) _ c.skip_text.ensures.result_value c.in-Some.is c.skip_text.ensures.reaches h
 
 pub loop-end-preserved : goal.loop-end-preserved
 loop-end-preserved c =
     let g = c.loop-end.invariant in
     let h : c.loop-end.count < 18446744073709551615 = omega (arith, g.1.ahead, g.1.inside) in
-    (search rules, counted-more _ _ g.1 _ (stored-front _ _ c.put_output-size.ensures (omega (arith, g.0, (line-bounds _ h).1))) _ c.skip_text.ensures.result_value c.in-To.is c.skip_text.ensures.reaches h)
+    (search rules, counted-more _ _ g.1 _ (stored-front _ _ c.put_output-size.ensures (omega (arith, g.0, (line-bounds _ h).1))) _ c.skip_text.ensures.result_value c.in-Some.is c.skip_text.ensures.reaches h)

@@ -19,16 +19,16 @@ returns-in_default c =
 
 pub keep_atom-small-requires : goal.keep_atom-small-requires
 keep_atom-small-requires c =
-    omega (arith, item-above _ _ _ c.loop-value.invariant _ c.read_item.ensures.result_value c.in-Value.is c.read_item.ensures.behind)
+    omega (arith, item-above _ _ _ c.loop-value.invariant _ c.read_item.ensures.result_value c.in-Some.is c.read_item.ensures.behind)
 
 pub overflow_add-count : goal.overflow_add-count
 overflow_add-count c =
-    omega (arith, c.loop-value.invariant.ahead, c.loop-value.invariant.inside, behind c.read_item.ensures.behind c.in-Value.is)
+    omega (arith, c.loop-value.invariant.ahead, c.loop-value.invariant.inside, behind c.read_item.ensures.behind c.in-Some.is)
 
 pub loop-value-smaller : goal.loop-value-smaller
 loop-value-smaller c =
-    let (p, q, r) = behind c.read_item.ensures.behind c.in-Value.is in omega arith
+    let (p, q, r) = behind c.read_item.ensures.behind c.in-Some.is in omega arith
 
 pub loop-value-preserved : goal.loop-value-preserved
 loop-value-preserved c =
-    gathers-more _ _ _ c.loop-value.invariant _ c.read_item.ensures.result_value c.in-Value.is c.read_item.ensures.behind c.keep_atom-small.ensures
+    gathers-more _ _ _ c.loop-value.invariant _ c.read_item.ensures.result_value c.in-Some.is c.read_item.ensures.behind c.keep_atom-small.ensures

@@ -15,8 +15,8 @@ returns-in_default c =
 
 pub loop-made-smaller : goal.loop-made-smaller
 loop-made-smaller c =
-    let (h, k) = lines-behind _ _ c.loop-made.invariant c.read_rule.ensures c.in-Rule.is in omega arith
+    let (h, k) = lines-behind _ _ c.loop-made.invariant c.read_rule.ensures c.in-Some.is in omega arith
 
 pub loop-made-preserved : goal.loop-made-preserved
 loop-made-preserved c =
-    lines_more _ _ c.loop-made.invariant c.read_rule.ensures c.in-Rule.is c.larger-top.ensures
+    lines_more _ _ c.loop-made.invariant c.read_rule.ensures c.in-Some.is c.max-top.ensures

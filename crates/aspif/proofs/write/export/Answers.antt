@@ -1,29 +1,27 @@
 -- `export` reads the book, and hands its text over.
 use mathlib.Core.List.{[]}
 use native.Mathlib.Omega.{arith}
-use Rattle.aspif.proofs.Answering.{stored-front, export-refused, read_as, fits-draft, export-handed}
+use Rattle.std.proofs.lemmas.Result.{err_from_is_err_and}
+use Rattle.aspif.proofs.Answering.{stored-front, export-refused, fits-draft, export-handed}
 use Rattle.aspif.proofs.write.export.Goals as goal
+
+pub returns-in_err-read : goal.returns-in_err-read
+returns-in_err-read c =
+    let p = err_from_is_err_and c.from_residual.result c.from_residual.ensures.1 in
+    rw (p.1, p.2) (export-refused _ _ _ c.in_err-read.ensures.tells)
 
 pub put_book-n-requires : goal.put_book-n-requires
 put_book-n-requires c =
-    let answered = c.read_book.ensures in
-    let good = c.in-Good.is in
-    (read_as _ [] answered good, omega (arith, fits-draft _ [] answered good (omega arith) (omega arith)))
+    fits-draft _ [] c.in_ok-read.read.read_as (λ i. rw c.in_ok-read.ensures.bytes (omega (arith, c.type_inv.book i)))
 
 pub hand_over-requires : goal.hand_over-requires
 hand_over-requires c =
-    let answered = c.read_book.ensures in
-    let good = c.in-Good.is in
     let stored = c.put_book-n.ensures in
-    omega (arith, stored.ends, stored.long, fits-draft _ [] answered good (omega arith) (omega arith))
+    let short = fits-draft _ [] c.in_ok-read.read.read_as (λ i. rw c.in_ok-read.ensures.bytes (omega (arith, c.type_inv.book i))) in
+    omega (arith, stored.ends, stored.long, short)
 
-pub returns-in-Refused : goal.returns-in-Refused
-returns-in-Refused c =
-    export-refused _ _ c.read_book.ensures c.in-Refused.is
-
-pub returns-in-Good : goal.returns-in-Good
-returns-in-Good c =
-    let answered = c.read_book.ensures in
-    let good = c.in-Good.is in
-    let stored = c.put_book-n.ensures in
-    export-handed _ _ answered good (stored-front _ _ stored (omega (arith, fits-draft _ [] answered good (omega arith) (omega arith)))) c.hand_over.ensures
+pub returns : goal.returns
+returns c =
+    let read = c.in_ok-read.read.read_as in
+    let short = fits-draft _ [] read (λ i. rw c.in_ok-read.ensures.bytes (omega (arith, c.type_inv.book i))) in
+    rw (← c.in_ok-read.ensures.bytes) (export-handed _ _ read (stored-front _ _ c.put_book-n.ensures short) c.hand_over.ensures)

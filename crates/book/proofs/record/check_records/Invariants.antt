@@ -5,8 +5,5 @@ use Rattle.book.proofs.record.check_records.Given as goal
 
 abbrev pub invariant-loop-rule : goal.invariant-loop-rule
 invariant-loop-rule l =
-    (l.rule ≤ l.rules) × (l.start ≤ l.index)
+    (l.start ≤ l.index)
     × (records_of l.rules l.book l.atoms l.index 0 0 ≡ records_of (l.rules - l.rule) l.book l.atoms l.index l.rule l.start)
-
-abbrev pub decreases-loop-rule : goal.decreases-loop-rule
-decreases-loop-rule l = l.rules - l.rule

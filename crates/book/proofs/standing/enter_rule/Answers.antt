@@ -7,7 +7,7 @@ use Rattle.book.proofs.standing.enter_rule.Goals as goal
 
 pub enter-requires : goal.enter-requires
 enter-requires c =
-    (omega (arith, c.wide.ensures.1), c.requires.2)
+    (omega (arith, c.wide.ensures.1), c.requires.1)
 
 pub enter_part-requires : goal.enter_part-requires
 enter_part-requires c = (omega arith, c.enter.ensures.1)

@@ -4,9 +4,10 @@ use mathlib.Core.Bool.{not}
 use Rattle.checker.proofs.Conditions.{uncoloured-on, uncoloured-off}
 use Rattle.checker.proofs.condition.is_uncoloured.Goals as goal
 
-pub returns-then-has : goal.returns-then-has
-returns-then-has c = sym (uncoloured-on _ _ _ (sym c.has.ensures ∙ c.if-has.true))
+pub returns-then-not-has : goal.returns-then-not-has
+returns-then-not-has c =
+    ap not c.has-then-not-has.ensures ∙ sym (uncoloured-off _ _ _ (sym c.has.ensures ∙ c.if-not-has.true))
 
-pub returns : goal.returns
-returns c =
-    ap not c.has-2.ensures ∙ sym (uncoloured-off _ _ _ (sym c.has.ensures ∙ c.if-has.false))
+pub returns-else-not-has : goal.returns-else-not-has
+returns-else-not-has c =
+    ap not c.if-not-has.false ∙ sym (uncoloured-on _ _ _ (sym c.has.ensures ∙ c.if-not-has.false))

@@ -6,5 +6,5 @@ use Rattle.checker.proofs.condition.may_go_off.Goals as goal
 
 pub returns : goal.returns
 returns c =
-    c.is_blocked.ensures ∙ negative-some _ _ c.requires.0 (omega arith) _ c.requires.1 _ _
+    c.is_blocked.ensures ∙ negative-some _ _ c.args.book.now.read_as (omega arith) _ c.requires _ _
     c.heads_of.ensures

@@ -1,41 +1,30 @@
--- The first i numbers are below R, and whether the list ascends is what the rest says from `least` on.
-use borrow.Author.Rules.{rules}
+-- The first numbers are below R, and whether the list ascends is what the rest says from `least` on.
 use native.Mathlib.Omega.{arith}
+use borrow.Author.Rules.{rules}
 use mathlib.Core.Path.{sym, ◌∙◌}
-use mathlib.Core.List.{List}
-use Prim.Native.Nat.{ℕ}
 use Rattle.meaning.specs.Sets.{every}
 use Rattle.checker.proofs.Lists.{rising-all, rising-next, proper-out, proper-stops, proper-next, proper-end}
 use Rattle.checker.proofs.list.is_proper.Goals as goal
-use Rattle.checker.proofs.list.is_proper.Lts as lts
-use Rattle.checker.proofs.list.is_proper.Tie as tie
+use Rattle.checker.proofs.list.is_proper.Goals.{then-rules-n-via-then-rules-n, then-rules-n-via-else-rules-n+then-n-least}
 
-abbrev After-shared_slice_known-1 : Type 0
-After-shared_slice_known-1 = lts.After-shared_slice_known tie.handed_pre tie.handed_post goal.the-invariant-loop-i goal.the-decreases-loop-i
-
-pub loop-i-init : goal.loop-i-init
+pub loop-n-init : goal.loop-n-init
 unfolding every
-loop-i-init c = let e = rising-all c.args.list.now in search rules
-
--- a number is read: the list
-module _ (c : After-shared_slice_known-1) where
-  abbrev numbers : List ℕ
-  numbers = c.args.list.now
+loop-n-init c = let e = rising-all c.args.list.now in search rules
 
 pub returns-then-rules-n : goal.returns-then-rules-n
-returns-then-rules-n c = sym (proper-out (numbers c.before.before) c.loop-i.i _ (omega arith) (omega arith))
+returns-then-rules-n c =
+    let i = c.loop-n.n-index in
+    sym (elim c.then-rules-n.branch [
+      | then-rules-n-via-then-rules-n w ↦ proper-out c.args.list.now i _ (omega arith) (omega arith)
+      | then-rules-n-via-else-rules-n+then-n-least w ↦ proper-stops c.args.list.now _ i _ c.loop-n.invariant.1 (omega arith) (omega arith)
+    ])
 
-pub returns-then-n-least : goal.returns-then-n-least
-returns-then-n-least c =
-    sym (proper-stops (numbers c.before.before.before) _ c.loop-i.i _ c.loop-i.invariant.2 (omega arith) (omega arith))
-
-pub loop-i-preserved : goal.loop-i-preserved
-loop-i-preserved c = (
-  omega arith,
-  proper-next (numbers c.before.before.before) c.loop-i.i _ (omega arith) (omega arith) c.loop-i.invariant.1,
-  c.loop-i.invariant.2 ∙ rising-next (numbers c.before.before.before) _ c.loop-i.i (omega arith) (omega arith),
-)
+pub loop-n-preserved : goal.loop-n-preserved
+loop-n-preserved c =
+    let i = c.loop-n.n-index in (
+      proper-next c.args.list.now i _ (omega arith) (omega arith) c.loop-n.invariant.0,
+      c.loop-n.invariant.1 ∙ rising-next c.args.list.now _ i (omega arith) (omega arith),
+    )
 
 pub returns : goal.returns
-returns c =
-    sym (proper-end c.args.list.now _ c.loop-i.i _ c.loop-i.invariant.2 (omega arith) c.loop-i.invariant.1)
+returns c = sym (proper-end c.args.list.now _ c.loop-n.n-index _ c.loop-n.invariant.1 (omega arith) c.loop-n.invariant.0)

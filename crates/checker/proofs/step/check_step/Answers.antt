@@ -8,14 +8,11 @@ use Rattle.checker.proofs.step.check_step.Goals as goal
 pub returns-then-trailer-at : goal.returns-then-trailer-at
 returns-then-trailer-at c = step-late _ _ _ _ _ _ (omega arith)
 
-pub returns-then-code-eq-STEP_UNFOUNDED : goal.returns-then-code-eq-STEP_UNFOUNDED
-returns-then-code-eq-STEP_UNFOUNDED c =
-    c.check_list_step.ensures (listed c.args.on.now)
+pub returns-in-85 : goal.returns-in-85
+returns-in-85 c = c.check_list_step.ensures (listed c.args.on.now.w)
 
-pub returns-then-is_ended : goal.returns-then-is_ended
-returns-then-is_ended c =
-    end-holds _ _ _ _ _ _ (omega arith) c.if-code-eq-STEP_END.true (sym c.is_ended.ensures ∙ c.if-is_ended.true)
+pub returns-in-69 : goal.returns-in-69
+returns-in-69 c = end-holds _ _ _ _ _ _ (omega arith) (omega arith) (sym c.is_ended.ensures ∙ c.if-is_ended.true)
 
-pub returns-then-code-eq-STEP_END : goal.returns-then-code-eq-STEP_END
-returns-then-code-eq-STEP_END c =
-    end-fails _ _ _ _ _ _ (omega arith) c.if-code-eq-STEP_END.true (sym c.is_ended.ensures ∙ c.if-is_ended.false)
+pub returns-in-69-2 : goal.returns-in-69-2
+returns-in-69-2 c = end-fails _ _ _ _ _ _ (omega arith) (omega arith) (sym c.is_ended.ensures ∙ c.if-is_ended.false)

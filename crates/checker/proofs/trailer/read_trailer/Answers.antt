@@ -4,12 +4,16 @@ use mathlib.Core.Path.{sym, ◌∙◌}
 use Rattle.checker.proofs.PaperChecked.{ends-told, paper-short, paper-long, paper-marked}
 use Rattle.checker.proofs.PaperChecked.{mark-neither, mark-claims, mark-no-reading}
 use Rattle.checker.proofs.trailer.read_trailer.Goals as goal
+use Rattle.checker.proofs.trailer.read_trailer.Goals.{then-len-lt6-via-then-len-lt6, then-len-lt6-via-else-len-lt6+then-len-gt-PAPER_BYTES}
 
 pub returns-then-len-lt6 : goal.returns-then-len-lt6
-returns-then-len-lt6 c = λ b e. record { told = sym (paper-short _ _ (omega arith)); fits = tt }
-
-pub returns-then-len-gt-PAPER_BYTES : goal.returns-then-len-gt-PAPER_BYTES
-returns-then-len-gt-PAPER_BYTES c = λ b e. record { told = sym (paper-long _ _ (omega arith)); fits = tt }
+returns-then-len-lt6 c = λ b e. record {
+  told = sym (elim c.then-len-lt6.branch [
+    | then-len-lt6-via-then-len-lt6 w ↦ paper-short _ _ (omega arith)
+    | then-len-lt6-via-else-len-lt6+then-len-gt-PAPER_BYTES w ↦ paper-long _ _ (omega arith)
+  ]);
+  fits = tt;
+}
 
 pub returns-in-Neither : goal.returns-in-Neither
 returns-in-Neither c =

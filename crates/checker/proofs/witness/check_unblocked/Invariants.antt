@@ -1,14 +1,10 @@
 use mathlib.Core.Path.{◌≡◌}
-use Prim.Native.Nat.{◌+◌, ◌-◌, ◌≤◌}
-use lib.ListN.{length, drop}
-use Rattle.book.specs.Format.{book_in}
+use Prim.Native.Nat.{◌+◌}
+use lib.ListN.{drop}
+use Rattle.book.specs.ReadBook.{the_book}
 use Rattle.book.specs.Tables.{atoms_in}
 use Rattle.checker.specs.Witness.{blocked_of}
 use Rattle.checker.proofs.witness.check_unblocked.Given as goal
 
 abbrev pub invariant-loop-i : goal.invariant-loop-i
-invariant-loop-i l = (l.i ≤ length l.list)
-    × (blocked_of (book_in l.book) (atoms_in l.headed) l.from l.list ≡ blocked_of (book_in l.book) (atoms_in l.headed) (l.from + l.i) (drop l.i l.list))
-
-abbrev pub decreases-loop-i : goal.decreases-loop-i
-decreases-loop-i l = length l.list - l.i
+invariant-loop-i l = (blocked_of (the_book l.book) (atoms_in l.headed) l.from l.list ≡ blocked_of (the_book l.book) (atoms_in l.headed) (l.from + l.i) (drop l.i l.list))

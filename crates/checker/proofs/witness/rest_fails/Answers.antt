@@ -11,7 +11,7 @@ use Rattle.meaning.proofs.Sets.{all-next}
 use Rattle.book.proofs.Places.{shape-count, shape-in}
 use Rattle.checker.proofs.WitnessChecked.{rest-stops, rest_end}
 use Rattle.checker.proofs.witness.rest_fails.Goals as goal
-use Rattle.checker.proofs.witness.rest_fails.Goals.{then-not-has+else-not-fails_in, else-not-has}
+use Rattle.checker.proofs.witness.rest_fails.Goals.{else-not-has-via-then-not-has+else-not-fails_in, else-not-has-via-else-not-has}
 
 pub loop-r-init : goal.loop-r-init
 unfolding every_below
@@ -19,20 +19,18 @@ loop-r-init c = search rules
 
 pub returns-then-not-fails_in : goal.returns-then-not-fails_in
 returns-then-not-fails_in c =
-    sym (rest-stops _ _ (rule_no c.loop-r.r) (shape-in _ _ c.requires (rule_no c.loop-r.r)
+    sym (rest-stops _ _ (rule_no c.loop-r.r) (shape-in _ _ c.args.book.now.read_as (rule_no c.loop-r.r)
     (omega arith))
     (neither (sym c.has.ensures ∙ c.if-not-has.true)
     (sym c.fails_in.ensures ∙ c.if-not-fails_in.true)))
 
 pub loop-r-preserved : goal.loop-r-preserved
-loop-r-preserved c = (
-  omega arith,
-  all-next _ _ (elim c.if-not-has.branch [
-    | then-not-has+else-not-fails_in w ↦ or_right (of (listed c.args.set.now) (rule_no c.loop-r.r)) (sym w.fails_in.ensures ∙ w.if-not-fails_in.false)
-    | else-not-has w ↦ or_left _ (sym c.has.ensures ∙ w.if-not-has.false)
-  ]) c.loop-r.invariant.1,
-)
+loop-r-preserved c =
+    all-next _ _ (elim c.else-not-has.branch [
+      | else-not-has-via-then-not-has+else-not-fails_in w ↦ or_right (of (listed c.args.set.now.w) (rule_no c.loop-r.r)) (sym w.fails_in.ensures ∙ w.if-not-fails_in.false)
+      | else-not-has-via-else-not-has w ↦ or_left _ (sym c.has.ensures ∙ w.if-not-has.false)
+    ]) c.loop-r.invariant
 
 pub returns : goal.returns
 returns c =
-    sym (rest_end _ _ _ (omega (arith, shape-count _ _ c.requires)) c.loop-r.invariant.1)
+    sym (rest_end _ _ _ (omega (arith, shape-count _ _ c.args.book.now.read_as)) c.loop-r.invariant)

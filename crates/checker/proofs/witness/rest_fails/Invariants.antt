@@ -1,18 +1,13 @@
 use mathlib.Core.Path.{◌≡◌}
 use mathlib.Core.Bool.{true, ◌||◌}
-use Prim.Native.Nat.{◌-◌, ◌≤◌}
 use Rattle.meaning.specs.Sets.{every_below}
 use Rattle.meaning.specs.Books.{rule_no, rule}
 use Rattle.meaning.specs.Paper.{fails}
 use Rattle.meaning.specs.Bits.{listed}
 use Rattle.meaning.specs.Written.{of}
-use Rattle.book.specs.Format.{book_in}
+use Rattle.book.specs.ReadBook.{the_book}
 use Rattle.book.specs.Tables.{atoms_in}
 use Rattle.checker.proofs.witness.rest_fails.Given as goal
 
 abbrev pub invariant-loop-r : goal.invariant-loop-r
-invariant-loop-r l = (l.r ≤ l.shape.rules)
-    × (every_below l.r (λ n. of (listed l.set) (rule_no n) || fails (atoms_in l.headed) (rule (book_in l.book) (rule_no n))) ≡ true)
-
-abbrev pub decreases-loop-r : goal.decreases-loop-r
-decreases-loop-r l = l.shape.rules - l.r
+invariant-loop-r l = every_below l.r (λ n. of (listed l.set.w) (rule_no n) || fails (atoms_in l.headed) (rule (the_book l.book) (rule_no n))) ≡ true

@@ -7,9 +7,9 @@ use Rattle.book.specs.Format.{book_in}
 use Rattle.closing.proofs.Clearing.{Clearing}
 use Rattle.closing.proofs.cleared.clear.Given as goal
 
-abbrev pub invariant-loop-shape : goal.invariant-loop-shape
-invariant-loop-shape l =
-    Clearing (book_in l.book) (of (listed l.suspects)) (of (listed l.initial.held)) (of (listed l.held)) (of (listed l.cand))
+abbrev pub invariant-loop-cand : goal.invariant-loop-cand
+invariant-loop-cand l =
+    Clearing (book_in l.rowed.book.bytes.now) (of (listed l.suspects.w)) (of (listed l.initial.held.w)) (of (listed l.held.w)) (of (listed l.cand.w))
 
-abbrev pub decreases-loop-shape : goal.decreases-loop-shape
-decreases-loop-shape l = length (rules_in (book_in l.book) (live (of (listed l.held))))
+abbrev pub decreases-loop-cand : goal.decreases-loop-cand
+decreases-loop-cand l = length (rules_in (book_in l.rowed.book.bytes.now) (live (of (listed l.held.w))))

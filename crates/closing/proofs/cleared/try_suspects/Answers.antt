@@ -1,45 +1,33 @@
 -- The candidates below the one at which the search stands have had their look.
+use mathlib.Core.Path.{refl}
 use native.Mathlib.Omega.{arith}
 use lib.ListN.{replicate}
-use borrow.Author.Rules.{rules}
 use Rattle.meaning.specs.Books.{count, rule_no}
 use Rattle.meaning.specs.Bits.{listed}
 use Rattle.meaning.specs.Written.{of}
 use Rattle.meaning.proofs.Four.{members-nothing}
-use Rattle.meaning.proofs.Next.{next-further}
 use Rattle.book.specs.Format.{book_in}
-use Rattle.closing.proofs.Good.{Good, good-count, good-in}
+use Rattle.closing.proofs.Good.{good-book, good-count, good-in}
 use Rattle.closing.proofs.Falling.{at-rule}
 use Rattle.closing.proofs.Raising.{onward-last}
 use Rattle.closing.proofs.Clearing.{swept-start, swept-next, swept-end, left_at}
 use Rattle.closing.proofs.cleared.try_suspects.Goals as goal
-use Rattle.closing.proofs.cleared.try_suspects.Lts as lts
-use Rattle.closing.proofs.cleared.try_suspects.Tie as tie
-
-abbrev Start : Type 0
-Start = lts.Start tie.the-claims tie.handed_pre tie.handed_post goal.the-invariant-loop-r goal.the-decreases-loop-r
-
-good : (s : Start) → Good s.args.book.now s.args.shape
-good s = search rules
 
 pub loop-r-init : goal.loop-r-init
 loop-r-init c =
-    ((0, c.next_in-r.ensures), swept-start _ _ _ c.args.cand.now _ c.next_in-r.ensures _ (at-rule (replicate 4 0) members-nothing))
-
-pub loop-r-smaller : goal.loop-r-smaller
-loop-r-smaller c = let g = good c.before.before.before.before.before.before.before.before.before.before in omega (arith, next-further _ _ _ c.next_in-r-in-loop-r.ensures (omega (arith, g.rules)))
+    ((0, c.next_in-r.ensures), swept-start _ _ _ c.args.cand.now.w _ c.next_in-r.ensures _ (at-rule (replicate 4 0) members-nothing))
 
 pub loop-r-preserved : goal.loop-r-preserved
 loop-r-preserved c =
-    let g = good c.before.before.before.before.before.before.before.before.before.before in
+    let g = good-book c.args.rowed.now.book in
     let (from, n) = c.loop-r.invariant.0 in (
       (_, c.next_in-r-in-loop-r.ensures),
-      swept-next _ (of (listed c.args.suspects.now)) (of (listed c.args.held.now)) c.args.cand.now from c.loop-r.r _ c.loop-r.invariant.1 n (omega (arith, g.rules))
+      swept-next _ (of (listed c.args.suspects.now.w)) (of (listed c.args.held.now.w)) c.args.cand.now.w from c.loop-r.r _ c.loop-r.invariant.1 n (omega (arith, g.rules))
           c.next_in-r-in-loop-r.ensures (good-in g (rule_no c.loop-r.r) (omega arith)) c.try_suspect.ensures,
     )
 
 pub returns : goal.returns
 returns c =
-    swept-end c.loop-r.invariant.1 _ (onward-last c.args.cand.now c.loop-r.r (count (book_in c.args.book.now)) (omega (arith, good-count (good c.before.before.before.before.before.before.before.before.before.before.before.before.before), c.loop-r-test.false)))
-    (left_at c.difference-left.result.w c.intersection.result.w c.whole-3.result.w c.whole.result.w c.whole-2.result.w c.loop-r.woken c.args.suspects.now c.loop-r.held
-    c.difference-left.ensures c.whole-3.ensures c.intersection.ensures c.whole.ensures c.whole-2.ensures)
+    swept-end c.loop-r.invariant.1 _ (onward-last c.args.cand.now.w c.loop-r.r (count (book_in c.args.rowed.now.book.bytes.now)) (omega (arith, good-count (good-book c.args.rowed.now.book), c.loop-r-test.false)))
+    (left_at c.difference.result.w c.intersection.result.w _ _ _ c.loop-r.woken.w c.args.suspects.now.w c.loop-r.held.w
+    c.difference.ensures refl c.intersection.ensures refl refl)

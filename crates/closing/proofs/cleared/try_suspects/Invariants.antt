@@ -8,8 +8,8 @@ use Rattle.closing.proofs.cleared.try_suspects.Given as goal
 
 abbrev pub invariant-loop-r : goal.invariant-loop-r
 invariant-loop-r l =
-    ((from : ℕ) × NextIn (members l.cand) from l.r)
-    × Swept (book_in l.book) (of (listed l.suspects)) (of (listed l.initial.held)) (of (listed l.cand)) (of (listed l.held)) (onward l.cand l.r) (of (listed l.woken))
+    ((from : ℕ) × NextIn (members l.cand.w) from l.r)
+    × Swept (book_in l.rowed.book.bytes.now) (of (listed l.suspects.w)) (of (listed l.initial.held.w)) (of (listed l.cand.w)) (of (listed l.held.w)) (onward l.cand.w l.r) (of (listed l.woken.w))
 
 abbrev pub decreases-loop-r : goal.decreases-loop-r
 decreases-loop-r l = 256 - l.r

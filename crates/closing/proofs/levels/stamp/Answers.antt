@@ -3,41 +3,23 @@ use mathlib.Core.Path.{◌∙◌}
 use Prim.Native.Nat.{◌<◌}
 use native.Mathlib.Omega.{arith}
 use lib.ListN.{length-set}
-use borrow.Author.Rules.{rules}
-use Rattle.meaning.proofs.Next.{next-further}
 use Rattle.closing.proofs.Stamping.{stamp-start, stamp-turn, stamp-end}
 use Rattle.closing.proofs.levels.stamp.Goals as goal
-use Rattle.closing.proofs.levels.stamp.Lts as lts
-use Rattle.closing.proofs.levels.stamp.Tie as tie
-
-abbrev In-loop-r : Type 0
-In-loop-r = lts.In-loop tie.the-claims tie.handed_pre tie.handed_post goal.the-invariant-loop-r goal.the-decreases-loop-r
 
 pub loop-r-init : goal.loop-r-init
 loop-r-init c =
-    ((0, c.next_in-r.ensures), c.requires, stamp-start c.args.rules c.args.level c.args.new.now c.args.levels.now _ c.next_in-r.ensures)
-
--- a turn of the loop: the rule is one of the first, and has a level
-module _ (c : In-loop-r) where
-  low : c.loop-r.r < 255
-  low = omega (arith, c.ranges.rules.fits)
-
-pub bounds-levels-r : goal.bounds-levels-r
-bounds-levels-r c = let h = low c.before in search rules
-
-pub loop-r-smaller : goal.loop-r-smaller
-loop-r-smaller c = let h = low c.before.before in omega (arith, next-further _ _ _ c.next_in-r-in-loop-r.ensures (omega arith))
+    ((0, c.next_in-r.ensures), c.requires, stamp-start c.args.rules c.args.level c.args.new.now.w c.args.levels.now _ c.next_in-r.ensures)
 
 pub loop-r-preserved : goal.loop-r-preserved
 loop-r-preserved c =
-    let h = low c.before.before in
+    let h : c.loop-r.r < 255 = omega (arith, c.ranges.rules.fits) in
     let (from, n) = c.loop-r.invariant.0 in (
       (_, c.next_in-r-in-loop-r.ensures),
       length-set c.loop-r.levels _ _ ∙ c.loop-r.invariant.1,
-      stamp-turn c.args.rules c.args.level c.args.new.now c.args.levels.now from c.loop-r.r _ n (omega arith) c.next_in-r-in-loop-r.ensures
+      stamp-turn c.args.rules c.args.level c.args.new.now.w c.args.levels.now from c.loop-r.r _ n (omega arith) c.next_in-r-in-loop-r.ensures
           (omega arith) (omega (arith, c.requires)) c.loop-r.invariant.2,
     )
 
 pub returns : goal.returns
 returns c =
-    stamp-end c.args.rules c.args.level c.args.new.now c.args.levels.now c.loop-r.r (omega arith) c.loop-r.invariant.2
+    stamp-end c.args.rules c.args.level c.args.new.now.w c.args.levels.now c.loop-r.r (omega arith) c.loop-r.invariant.2

@@ -11,10 +11,10 @@ use Rattle.closing.specs.Conditions.{marking}
 use Rattle.closing.proofs.Growing.{room}
 use Rattle.closing.proofs.marking.support.Given as goal
 
-abbrev pub invariant-loop-shape : goal.invariant-loop-shape
-invariant-loop-shape l =
-    Grown (book_in l.book) (marking (book_in l.book) (of (listed l.off))) (replicate 256 false) (listed l.marks)
-    × (l.supported ≡ atom_table (heads (book_in l.book) (of (listed l.marks))))
+abbrev pub invariant-loop-supported : goal.invariant-loop-supported
+invariant-loop-supported l =
+    Grown (book_in l.book.bytes.now) (marking (book_in l.book.bytes.now) (of (listed l.off.w))) (replicate 256 false) (listed l.marks.w)
+    × (l.supported ≡ atom_table (heads (book_in l.book.bytes.now) (of (listed l.marks.w))))
 
-abbrev pub decreases-loop-shape : goal.decreases-loop-shape
-decreases-loop-shape l = room (book_in l.book) (listed l.marks)
+abbrev pub decreases-loop-supported : goal.decreases-loop-supported
+decreases-loop-supported l = room (book_in l.book.bytes.now) (listed l.marks.w)

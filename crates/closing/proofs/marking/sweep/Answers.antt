@@ -1,25 +1,20 @@
 -- One turn after another makes a pass, and the table of heads goes with the marks.
 use native.Mathlib.Omega.{arith}
-use borrow.Author.Rules.{rules}
 use Rattle.meaning.proofs.Listed.{listed-long}
 use Rattle.book.proofs.Places.{shape-count}
-use Rattle.closing.proofs.Growing.{pass-start, pass-turn, pass-end}
+use Rattle.closing.proofs.Growing.{pass-turn, pass-end}
 use Rattle.closing.proofs.Turns.{marking-mono}
 use Rattle.closing.proofs.marking.sweep.Goals as goal
 
-pub loop-r-init : goal.loop-r-init
-loop-r-init c = (search rules, pass-start _, c.requires.1)
-
 pub loop-r-preserved : goal.loop-r-preserved
 loop-r-preserved c =
-    let e = shape-count _ c.args.shape c.requires.0 in
-    let f = listed-long c.loop-r.marks in (
-      search rules,
-      pass-turn (marking-mono _ _) c.loop-r.r (omega arith) (omega arith) c.loop-r.invariant.1 c.try_rule-more.ensures.0,
+    let e = shape-count _ c.args.book.now.shape c.args.book.now.read_as in
+    let f = listed-long c.loop-r.marks.w in (
+      pass-turn (marking-mono _ _) c.loop-r.r (omega arith) (omega arith) c.loop-r.invariant.0 c.try_rule-more.ensures.0,
       c.try_rule-more.ensures.1,
     )
 
 pub returns : goal.returns
 returns c =
-    let e = shape-count _ c.args.shape c.requires.0 in
-    (pass-end c.loop-r.r (omega arith) (omega arith) c.loop-r.invariant.1, c.loop-r.invariant.2)
+    let e = shape-count _ c.args.book.now.shape c.args.book.now.read_as in
+    (pass-end c.loop-r.r (omega arith) (omega arith) c.loop-r.invariant.0, c.loop-r.invariant.1)

@@ -1,5 +1,4 @@
 use mathlib.Core.Path.{◌≡◌}
-use Prim.Native.Nat.{◌≤◌, ◌-◌}
 use Rattle.meaning.specs.Colours.{heads}
 use Rattle.meaning.specs.Bits.{listed}
 use Rattle.meaning.specs.Written.{of}
@@ -11,8 +10,5 @@ use Rattle.closing.proofs.marking.sweep.Given as goal
 
 abbrev pub invariant-loop-r : goal.invariant-loop-r
 invariant-loop-r l =
-    (l.r ≤ l.shape.rules) × Pass (book_in l.book) (marking (book_in l.book) (of (listed l.off))) l.r (listed l.initial.marks) (listed l.marks) l.more
-    × (l.supported ≡ atom_table (heads (book_in l.book) (of (listed l.marks))))
-
-abbrev pub decreases-loop-r : goal.decreases-loop-r
-decreases-loop-r l = l.shape.rules - l.r
+    Pass (book_in l.book.bytes.now) (marking (book_in l.book.bytes.now) (of (listed l.off.w))) l.r (listed l.initial.marks.w) (listed l.marks.w) l.more
+    × (l.supported ≡ atom_table (heads (book_in l.book.bytes.now) (of (listed l.marks.w))))

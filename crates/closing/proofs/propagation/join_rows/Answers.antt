@@ -5,6 +5,6 @@ use Rattle.closing.proofs.propagation.join_rows.Goals as goal
 pub returns : goal.returns
 returns c =
     let s = c.args in (
-      row-joined s.rows.now s.by_neg.now c.neg_row-neg.result.w _ c.neg_row-neg.ensures c.join.ensures,
-      row-joined s.rows.now s.by_pos.now c.pos_row-pos.result.w _ c.pos_row-pos.ensures c.join-2.ensures,
+      row-joined s.rowed.now.rows s.by_neg.now.w c.neg_row.result.w _ c.neg_row.ensures c.join.ensures,
+      row-joined s.rowed.now.rows s.by_pos.now.w c.pos_row.result.w _ c.pos_row.ensures c.join-2.ensures,
     )

@@ -11,8 +11,8 @@ use Rattle.closing.proofs.propagation.lost_heads.Given as goal
 
 abbrev pub invariant-loop-r : goal.invariant-loop-r
 invariant-loop-r l =
-    ((from : ℕ) × NextIn (members l.fresh) from l.r)
-    × (atom_set l.lost ≡ (λ a. heads (book_in l.book) (before (of (listed l.fresh)) l.r) a && all_in (book_in l.book) (of (listed l.off)) a))
+    ((from : ℕ) × NextIn (members l.fresh.w) from l.r)
+    × (atom_set l.lost.w ≡ (λ a. heads (book_in l.rowed.book.bytes.now) (before (of (listed l.fresh.w)) l.r) a && all_in (book_in l.rowed.book.bytes.now) (of (listed l.off.w)) a))
 
 abbrev pub decreases-loop-r : goal.decreases-loop-r
 decreases-loop-r l = 256 - l.r

@@ -8,7 +8,7 @@ use Rattle.closing.proofs.propagation.propagate_from.Given as goal
 
 abbrev pub invariant-loop-off : goal.invariant-loop-off
 invariant-loop-off l =
-    Propagating (book_in l.book) (lent (listed l.initial.on) (listed l.initial.off)) (lent (listed l.on) (listed l.off)) (atom_set l.nt) (atom_set l.nl) (of (listed l.cand))
+    Propagating (book_in l.rowed.book.bytes.now) (lent (listed l.initial.on.w) (listed l.initial.off.w)) (lent (listed l.on.w) (listed l.off.w)) (atom_set l.nt.w) (atom_set l.nl.w) (of (listed l.cand.w))
 
 abbrev pub decreases-loop-off : goal.decreases-loop-off
-decreases-loop-off l = remaining (book_in l.book) (lent (listed l.on) (listed l.off))
+decreases-loop-off l = remaining (book_in l.rowed.book.bytes.now) (lent (listed l.on.w) (listed l.off.w))

@@ -1,8 +1,7 @@
 -- The rows of the members below the one at which the search stands are joined.
 use native.Mathlib.Omega.{arith}
 use Rattle.meaning.specs.Bits.{members}
-use Rattle.meaning.proofs.Next.{next-further}
-use Rattle.closing.proofs.Spreading.{rows_start, rows-turn, rows_end}
+use Rattle.closing.proofs.Spreading.{rows_start, rows-turn}
 use Rattle.closing.proofs.propagation.spread.Goals as goal
 
 pub loop-a-init : goal.loop-a-init
@@ -10,12 +9,9 @@ loop-a-init c =
     let s = c.args in
     let n = c.next_in-a.ensures in (
       (0, n),
-      rows_start s.rows.now 512 (members s.atoms.now) (members s.by_neg.now) _ n,
-      rows_start s.rows.now 256 (members s.atoms.now) (members s.by_pos.now) _ n,
+      rows_start s.rowed.now.rows 512 (members s.atoms.now.w) (members s.by_neg.now.w) _ n,
+      rows_start s.rowed.now.rows 256 (members s.atoms.now.w) (members s.by_pos.now.w) _ n,
     )
-
-pub loop-a-smaller : goal.loop-a-smaller
-loop-a-smaller c = omega (arith, next-further _ _ _ c.next_in-a-in-loop-a.ensures (omega arith))
 
 pub loop-a-preserved : goal.loop-a-preserved
 loop-a-preserved c =
@@ -23,14 +19,6 @@ loop-a-preserved c =
     let j = c.join_rows.ensures in
     let (from, n) = c.loop-a.invariant.0 in (
       (_, c.next_in-a-in-loop-a.ensures),
-      rows-turn s.rows.now 512 (members s.atoms.now) (members s.by_neg.now) from c.loop-a.a _ n (omega arith) c.next_in-a-in-loop-a.ensures c.loop-a.invariant.1 j.0,
-      rows-turn s.rows.now 256 (members s.atoms.now) (members s.by_pos.now) from c.loop-a.a _ n (omega arith) c.next_in-a-in-loop-a.ensures c.loop-a.invariant.2 j.1,
-    )
-
-pub returns : goal.returns
-returns c =
-    let s = c.args in
-    let (from, n) = c.loop-a.invariant.0 in (
-      rows_end s.rows.now 512 (members s.atoms.now) (members s.by_neg.now) from c.loop-a.a n (omega arith) c.loop-a.invariant.1,
-      rows_end s.rows.now 256 (members s.atoms.now) (members s.by_pos.now) from c.loop-a.a n (omega arith) c.loop-a.invariant.2,
+      rows-turn s.rowed.now.rows 512 (members s.atoms.now.w) (members s.by_neg.now.w) from c.loop-a.a _ n (omega arith) c.next_in-a-in-loop-a.ensures c.loop-a.invariant.1 j.0,
+      rows-turn s.rowed.now.rows 256 (members s.atoms.now.w) (members s.by_pos.now.w) from c.loop-a.a _ n (omega arith) c.next_in-a-in-loop-a.ensures c.loop-a.invariant.2 j.1,
     )

@@ -6,9 +6,9 @@ use Rattle.closing.proofs.propagation.spread.Given as goal
 
 abbrev pub invariant-loop-a : goal.invariant-loop-a
 invariant-loop-a l =
-    ((from : ℕ) × NextIn (members l.atoms) from l.a)
-    × (members l.by_neg ≡ plus (members l.initial.by_neg) (rows_below l.rows 512 (members l.atoms) l.a))
-    × (members l.by_pos ≡ plus (members l.initial.by_pos) (rows_below l.rows 256 (members l.atoms) l.a))
+    ((from : ℕ) × NextIn (members l.atoms.w) from l.a)
+    × (members l.by_neg.w ≡ plus (members l.initial.by_neg.w) (rows_below l.rowed.rows 512 (members l.atoms.w) l.a))
+    × (members l.by_pos.w ≡ plus (members l.initial.by_pos.w) (rows_below l.rowed.rows 256 (members l.atoms.w) l.a))
 
 abbrev pub decreases-loop-a : goal.decreases-loop-a
 decreases-loop-a l = 256 - l.a

@@ -1,6 +1,5 @@
 use mathlib.Core.Path.{◌≡◌}
 use mathlib.Core.Bool.{◌&&◌}
-use Prim.Native.Nat.{◌-◌, ◌≤◌}
 use lib.Dec.{ltb}
 use Rattle.book.specs.RuleRows.{headed_by, lost_by}
 use Rattle.closing.specs.News.{atom_set}
@@ -8,7 +7,4 @@ use Rattle.closing.proofs.starting.begin.Given as goal
 
 abbrev pub invariant-loop-a : goal.invariant-loop-a
 invariant-loop-a l =
-    (l.a ≤ l.atoms) × (atom_set l.nt ≡ (λ x. ltb x.0 l.a && headed_by l.rows l.on x)) × (atom_set l.nl ≡ (λ x. ltb x.0 l.a && lost_by l.rows l.off x))
-
-abbrev pub decreases-loop-a : goal.decreases-loop-a
-decreases-loop-a l = l.atoms - l.a
+    (atom_set l.nt.w ≡ (λ x. ltb x.0 l.a && headed_by l.rowed.rows l.on.w x)) × (atom_set l.nl.w ≡ (λ x. ltb x.0 l.a && lost_by l.rowed.rows l.off.w x))

@@ -8,6 +8,6 @@ use Rattle.closing.proofs.starting.note_atom.Goals as goal
 pub returns : goal.returns
 returns c =
     let s = c.args in (
-      c.note.ensures ∙ noted (headed_by s.rows.now s.on.now) (atom_set s.nt.now) s.a _ c.is_headed.ensures,
-      c.note-2.ensures ∙ noted (lost_by s.rows.now s.off.now) (atom_set s.nl.now) s.a _ c.is_lost.ensures,
+      c.note.ensures ∙ noted (headed_by s.rowed.now.rows s.on.now.w) (atom_set s.nt.now.w) s.a _ c.is_headed.ensures,
+      c.note-2.ensures ∙ noted (lost_by s.rowed.now.rows s.off.now.w) (atom_set s.nl.now.w) s.a _ c.is_lost.ensures,
     )

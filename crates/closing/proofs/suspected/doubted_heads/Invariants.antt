@@ -12,8 +12,8 @@ use Rattle.closing.proofs.suspected.doubted_heads.Given as goal
 
 abbrev pub invariant-loop-r : goal.invariant-loop-r
 invariant-loop-r l =
-    ((from : ℕ) × NextIn (members l.fresh) from l.r)
-    × (atom_set l.atoms ≡ (λ a. heads (book_in l.book) (before (of (listed l.fresh)) l.r) a && not (sure (book_in l.book) (of (listed l.off)) a)))
+    ((from : ℕ) × NextIn (members l.fresh.w) from l.r)
+    × (atom_set l.atoms.w ≡ (λ a. heads (book_in l.rowed.book.bytes.now) (before (of (listed l.fresh.w)) l.r) a && not (sure (book_in l.rowed.book.bytes.now) (of (listed l.off.w)) a)))
 
 abbrev pub decreases-loop-r : goal.decreases-loop-r
 decreases-loop-r l = 256 - l.r

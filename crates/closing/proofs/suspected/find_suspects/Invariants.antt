@@ -9,9 +9,9 @@ use Rattle.closing.specs.News.{atom_set}
 use Rattle.closing.specs.Clearing.{Inside}
 use Rattle.closing.proofs.suspected.find_suspects.Given as goal
 
-abbrev pub invariant-loop-shape : goal.invariant-loop-shape
-invariant-loop-shape l =
-    Suspecting (book_in l.book) (of (listed l.old)) (of (listed l.off)) (of (listed l.suspects)) (atom_set l.todo) × Inside (book_in l.book) (of (listed l.suspects))
+abbrev pub invariant-loop-todo : goal.invariant-loop-todo
+invariant-loop-todo l =
+    Suspecting (book_in l.rowed.book.bytes.now) (of (listed l.old.w)) (of (listed l.off.w)) (of (listed l.suspects.w)) (atom_set l.todo.w) × Inside (book_in l.rowed.book.bytes.now) (of (listed l.suspects.w))
 
-abbrev pub decreases-loop-shape : goal.decreases-loop-shape
-decreases-loop-shape l = length (rules_in (book_in l.book) (live (of (listed l.suspects))))
+abbrev pub decreases-loop-todo : goal.decreases-loop-todo
+decreases-loop-todo l = length (rules_in (book_in l.rowed.book.bytes.now) (live (of (listed l.suspects.w))))

@@ -1,42 +1,29 @@
 -- No member of the set below the one at which the search stands is free.
 use native.Mathlib.Omega.{arith}
-use borrow.Author.Rules.{rules}
 use Rattle.meaning.specs.Books.{rule_no}
-use Rattle.meaning.proofs.Next.{next-further}
 use Rattle.book.specs.Format.{book_in}
-use Rattle.closing.proofs.Good.{Good, good-count, good-in}
+use Rattle.closing.proofs.Good.{good-book, good-count, good-in}
 use Rattle.closing.proofs.Suspecting.{free-yes, free-no, free-start, free-turn, free-none, free_one}
 use Rattle.closing.proofs.suspected.has_free.Goals as goal
-use Rattle.closing.proofs.suspected.has_free.Lts as lts
-use Rattle.closing.proofs.suspected.has_free.Tie as tie
-
-abbrev Start : Type 0
-Start = lts.Start tie.the-claims tie.handed_pre tie.handed_post goal.the-invariant-loop-r goal.the-decreases-loop-r
-
-good : (s : Start) → Good s.args.book.now s.args.shape
-good s = search rules
 
 pub loop-r-init : goal.loop-r-init
 loop-r-init c =
-    ((0, c.next_in-r.ensures), free-start (book_in c.args.book.now) c.args.set.now _ c.next_in-r.ensures)
+    ((0, c.next_in-r.ensures), free-start (book_in c.args.book.now.bytes.now) c.args.set.now.w _ c.next_in-r.ensures)
 
 pub returns-then-positives-eq0 : goal.returns-then-positives-eq0
 returns-then-positives-eq0 c =
-    let g = good c.before.before.before.before.before.before.before.before in
+    let g = good-book c.args.book.now in
     let (from, n) = c.loop-r.invariant.0 in
-    free_one (book_in c.args.book.now) c.args.set.now from c.loop-r.r n (good-in g (rule_no c.loop-r.r) (omega arith)) (omega (arith, g.rules))
+    free_one (book_in c.args.book.now.bytes.now) c.args.set.now.w from c.loop-r.r n (good-in g (rule_no c.loop-r.r) (omega arith)) (omega (arith, g.rules))
     (free-yes _ _ c.positives.ensures c.if-positives-eq0.true)
-
-pub loop-r-smaller : goal.loop-r-smaller
-loop-r-smaller c = let g = good c.before.before.before.before.before.before.before.before.before in omega (arith, next-further _ _ _ c.next_in-r-in-loop-r.ensures (omega (arith, g.rules)))
 
 pub loop-r-preserved : goal.loop-r-preserved
 loop-r-preserved c = (
   (_, c.next_in-r-in-loop-r.ensures),
-  free-turn (book_in c.args.book.now) c.args.set.now c.loop-r.r _ c.next_in-r-in-loop-r.ensures (free-no _ _ c.positives.ensures c.if-positives-eq0.false)
+  free-turn (book_in c.args.book.now.bytes.now) c.args.set.now.w c.loop-r.r _ c.next_in-r-in-loop-r.ensures (free-no _ _ c.positives.ensures c.if-positives-eq0.false)
       c.loop-r.invariant.1,
 )
 
 pub returns : goal.returns
 returns c =
-    free-none (book_in c.args.book.now) c.args.set.now c.loop-r.r (omega (arith, good-count (good c.before.before.before.before.before.before))) c.loop-r.invariant.1
+    free-none (book_in c.args.book.now.bytes.now) c.args.set.now.w c.loop-r.r (omega (arith, good-count (good-book c.args.book.now))) c.loop-r.invariant.1

@@ -1,19 +1,10 @@
 -- The live rules of the atom's row are asked for a free one.
-use Prim.Native.Nat.{◌<◌}
+use mathlib.Core.Path.{refl}
 use borrow.Author.Rules.{rules}
 use Rattle.closing.proofs.Suspecting.{sure-asked}
 use Rattle.closing.proofs.suspected.is_sure.Goals as goal
-use Rattle.closing.proofs.suspected.is_sure.Lts as lts
-use Rattle.closing.proofs.suspected.is_sure.Tie as tie
-
-abbrev Start : Type 0
-Start = lts.Start tie.the-claims tie.handed_pre tie.handed_post
-
--- an atom's number is a byte
-low : (s : Start) → s.args.a.0 < 256
-low s = search rules
 
 pub returns : goal.returns
 returns c =
-    sure-asked _ c.args.rows.now c.requires.1 c.args.a (low c.before.before.before.before.before.before.before.before) c.args.off.now c.difference-live.result.w c.head_row.result.w c.whole.result.w
-    c.difference-live.ensures c.head_row.ensures c.whole.ensures c.has_free.ensures
+    sure-asked _ c.args.rowed.now.rows c.args.rowed.now.rowed c.args.a (search rules) c.args.off.now.w c.difference-live.result.w c.head_row.result.w _
+    c.difference-live.ensures c.head_row.ensures refl c.has_free.ensures

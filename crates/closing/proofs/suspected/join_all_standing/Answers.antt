@@ -1,30 +1,20 @@
 -- The rows of the members below the one at which the search stands are joined.
 use native.Mathlib.Omega.{arith}
 use Rattle.meaning.specs.Bits.{members}
-use Rattle.meaning.proofs.Next.{next-further}
-use Rattle.closing.proofs.Spreading.{rows_start, rows-turn, rows_end}
+use Rattle.closing.proofs.Spreading.{rows_start, rows-turn}
 use Rattle.closing.proofs.suspected.join_all_standing.Goals as goal
 
 pub loop-a-init : goal.loop-a-init
 loop-a-init c =
     let s = c.args in
     let n = c.next_in-a.ensures in
-    ((0, n), rows_start s.rows.now 256 (members s.atoms.now) (members s.set.now) _ n)
-
-pub loop-a-smaller : goal.loop-a-smaller
-loop-a-smaller c = omega (arith, next-further _ _ _ c.next_in-a-in-loop-a.ensures (omega arith))
+    ((0, n), rows_start s.rowed.now.rows 256 (members s.atoms.now.w) (members s.set.now.w) _ n)
 
 pub loop-a-preserved : goal.loop-a-preserved
 loop-a-preserved c =
     let s = c.args in
     let (from, n) = c.loop-a.invariant.0 in (
       (_, c.next_in-a-in-loop-a.ensures),
-      rows-turn s.rows.now 256 (members s.atoms.now) (members s.set.now) from c.loop-a.a _ n (omega arith) c.next_in-a-in-loop-a.ensures c.loop-a.invariant.1
+      rows-turn s.rowed.now.rows 256 (members s.atoms.now.w) (members s.set.now.w) from c.loop-a.a _ n (omega arith) c.next_in-a-in-loop-a.ensures c.loop-a.invariant.1
           c.join_standing.ensures,
     )
-
-pub returns : goal.returns
-returns c =
-    let s = c.args in
-    let (from, n) = c.loop-a.invariant.0 in
-    rows_end s.rows.now 256 (members s.atoms.now) (members s.set.now) from c.loop-a.a n (omega arith) c.loop-a.invariant.1

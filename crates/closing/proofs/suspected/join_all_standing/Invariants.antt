@@ -6,8 +6,8 @@ use Rattle.closing.proofs.suspected.join_all_standing.Given as goal
 
 abbrev pub invariant-loop-a : goal.invariant-loop-a
 invariant-loop-a l =
-    ((from : ℕ) × NextIn (members l.atoms) from l.a)
-    × (members l.set ≡ plus (members l.initial.set) (rows_below l.rows 256 (members l.atoms) l.a))
+    ((from : ℕ) × NextIn (members l.atoms.w) from l.a)
+    × (members l.set.w ≡ plus (members l.initial.set.w) (rows_below l.rowed.rows 256 (members l.atoms.w) l.a))
 
 abbrev pub decreases-loop-a : goal.decreases-loop-a
 decreases-loop-a l = 256 - l.a

@@ -5,4 +5,4 @@ use Rattle.closing.proofs.suspected.join_standing.Goals as goal
 pub returns : goal.returns
 returns c =
     let s = c.args in
-    row-joined s.rows.now s.set.now c.pos_row-pos.result.w _ c.pos_row-pos.ensures c.join.ensures
+    row-joined s.rowed.now.rows s.set.now.w c.pos_row.result.w _ c.pos_row.ensures c.join.ensures

@@ -14,7 +14,7 @@ use Rattle.closing.proofs.suspected.note_doubted.Goals as goal
 pub returns : goal.returns
 returns c =
     c.note.ensures
-    ∙ noted (λ a. not (sure (book_in c.args.book.now) (of (listed c.args.off.now)) a)) (atom_set c.args.atoms.now) c.head-a.result (not c.is_sure.result)
+    ∙ noted (λ a. not (sure (book_in c.args.rowed.now.book.bytes.now) (of (listed c.args.off.now.w)) a)) (atom_set c.args.atoms.now.w) c.head-a.result (not c.is_sure.result)
     (ap not c.is_sure.ensures)
-    ∙ fun_ext (λ a. ap (λ (x : AtomNo). atom_set c.args.atoms.now a
-    || (same_atom x a && not (sure (book_in c.args.book.now) (of (listed c.args.off.now)) a))) c.head-a.ensures)
+    ∙ fun_ext (λ a. ap (λ (x : AtomNo). atom_set c.args.atoms.now.w a
+    || (same_atom x a && not (sure (book_in c.args.rowed.now.book.bytes.now) (of (listed c.args.off.now.w)) a))) c.head-a.ensures)

@@ -4,26 +4,22 @@ use Rattle.counting.proofs.Columns.{sums-fit, sums-turn, sums-end}
 use Rattle.counting.proofs.column.add_page.Goals as goal
 
 pub loop-a-init : goal.loop-a-init
-loop-a-init c = (search rules, c.requires.2, refl)
+loop-a-init c = (c.requires.2, refl)
 
 pub overflow_add-counts : goal.overflow_add-counts
 overflow_add-counts c =
-    let l = c.loop-a in
     let h = sums-fit c.args.page.now c.args.atoms c.args.rows c.args.counts.now c.requires.1 c.requires.2
-    c.loop-a-test.true l.invariant.2 c.count_atom.ensures c.requires.3 in
+    c.loop-a-test.true c.loop-a.invariant.1 c.count_atom.ensures c.requires.3 in
     search rules
 
 pub loop-a-preserved : goal.loop-a-preserved
-loop-a-preserved c =
-    let l = c.loop-a in (
-      search rules,
-      search rules,
-      sums-turn c.args.page.now c.args.atoms c.args.rows c.args.counts.now c.requires.1 c.requires.2
-          c.loop-a-test.true l.invariant.2 c.count_atom.ensures,
-    )
+loop-a-preserved c = (
+  search rules,
+  sums-turn c.args.page.now c.args.atoms c.args.rows c.args.counts.now c.requires.1 c.requires.2
+      c.loop-a-test.true c.loop-a.invariant.1 c.count_atom.ensures,
+)
 
 pub returns : goal.returns
 returns c =
     sums-end c.args.page.now c.args.atoms c.args.rows c.args.counts.now c.requires.1 c.requires.2
-    c.loop-a.invariant.0
-    c.loop-a-test.false c.loop-a.invariant.2
+    c.loop-a.auto.a-end c.loop-a-test.false c.loop-a.invariant.1

@@ -1,9 +1,7 @@
 -- 1 where the byte is 1.
-use Rattle.counting.proofs.Summing.{equal-yes, equal-no}
+use Rattle.std.proofs.Common.{◌∙◌}
+use Rattle.counting.proofs.Columns.{one-byte}
 use Rattle.counting.proofs.column.one.Goals as goal
 
-pub returns-then-byte-eq1 : goal.returns-then-byte-eq1
-returns-then-byte-eq1 c = equal-yes _ _ c.if-byte-eq1.true
-
 pub returns : goal.returns
-returns c = equal-no _ _ c.if-byte-eq1.false
+returns c = c.from.ensures ∙ one-byte _

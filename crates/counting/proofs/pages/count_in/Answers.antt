@@ -5,17 +5,17 @@ use Rattle.counting.proofs.pages.count_in.Goals as goal
 
 pub loop-made-init : goal.loop-made-init
 loop-made-init c =
-    (count-starts _ _ c.requires.0 (omega arith) _, search rules, refl)
+    (count-starts _ _ c.args.book.now.read_as (omega arith) _, search rules, refl)
 
 -- the part of the array that is lent has the bytes of a row
 pub slice_bounds-count_page-end : goal.slice_bounds-count_page-end
 slice_bounds-count_page-end c =
-    let n = c.args.shape.atoms in
+    let n = c.args.book.now.shape.atoms in
     let h : length (take n c.loop-made.last) ≡ n = length-take-le n c.loop-made.last (omega (arith, c.loop-made.invariant.1)) in
     search rules
 
 pub count_page-requires : goal.count_page-requires
-count_page-requires c = (c.requires.0, c.loop-made.invariant.0)
+count_page-requires c = c.loop-made.invariant.0
 
 pub loop-made-smaller : goal.loop-made-smaller
 loop-made-smaller c =
@@ -25,19 +25,19 @@ loop-made-smaller c =
 pub loop-made-preserved : goal.loop-made-preserved
 loop-made-preserved c =
     let f = comes-as _ _ _ _ _ c.in-More.is c.count_page.ensures in (
-      row_kept _ _ c.requires.0 _ f.0,
-      kept-long _ _ c.requires.0 (omega arith) _ f.0 c.loop-made.invariant.1,
+      row_kept _ _ c.args.book.now.read_as _ f.0,
+      kept-long _ _ c.args.book.now.read_as (omega arith) _ f.0 c.loop-made.invariant.1,
       c.loop-made.invariant.2,
     )
 
 pub copy_counts-requires : goal.copy_counts-requires
 copy_counts-requires c =
-    let h = c.requires.1 in
+    let h = c.requires in
     let z = ap length c.loop-made.invariant.2 in (search rules, search rules)
 
 pub returns-in-All : goal.returns-in-All
 returns-in-All c =
-    all-answers _ _ c.requires.0 c.args.counts.now
+    all-answers _ _ c.args.book.now.read_as c.args.counts.now
     (comes-as _ _ _ _ _ c.in-All.is c.count_page.ensures) c.loop-made.invariant.2
     c.copy_counts.ensures
 

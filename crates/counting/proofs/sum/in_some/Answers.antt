@@ -1,12 +1,11 @@
--- The tests of the second total, one after the other, and 1 or 0 by them.
-use Rattle.counting.proofs.Summing.{some-none, some-all, some-yes}
+-- 1 where both tests of the second total hold.
+use Rattle.std.proofs.Common.{◌∙◌}
+use Rattle.counting.proofs.Columns.{one-byte}
+use Rattle.counting.proofs.Summing.{some-above, some-none}
 use Rattle.counting.proofs.sum.in_some.Goals as goal
-
-pub returns-then-count-eq0 : goal.returns-then-count-eq0
-returns-then-count-eq0 c = some-none _ _ c.if-count-eq0.true
-
-pub returns-then-count-sets : goal.returns-then-count-sets
-returns-then-count-sets c = some-yes _ _ c.if-count-eq0.false c.if-count-sets.true
+use Rattle.counting.proofs.sum.in_some.Goals.{then-count-gt0, else-count-gt0}
 
 pub returns : goal.returns
-returns c = some-all _ _ c.if-count-sets.false
+returns c =
+    c.from.ensures ∙ one-byte _
+    ∙ elim c.if-count-gt0.branch [ then-count-gt0 w ↦ some-above _ _ w.from-is w.if-count-gt0.true | else-count-gt0 w ↦ some-none _ _ w.from-is w.if-count-gt0.false ]

@@ -1,31 +1,30 @@
 -- What is laid out decides; behind it the searches.
-use Rattle.crews.proofs.Reading.{blank, finished-inside, front_bytes, front_length, front-room}
-use Rattle.crews.proofs.Logging.{log-over, log-short, log-is-laid}
+use Rattle.std.proofs.lemmas.Result.{err_from_is_err_and}
+use Rattle.crews.proofs.Reading.{blank, finished-inside, front_length, front-room}
+use Rattle.crews.proofs.Logging.{log-refused, log-is-laid}
 use Rattle.crews.proofs.one_log.log_good.Goals as goal
 
 pub lay_out-requires : goal.lay_out-requires
-lay_out-requires c = (c.requires.0, c.requires.1, blank)
+lay_out-requires c = blank
+
+pub returns-in_err-n : goal.returns-in_err-n
+returns-in_err-n c =
+    let p = err_from_is_err_and c.from_residual.result c.from_residual.ensures.1 in
+    rw (p.1, p.2) (log-refused _ _ _ _ _ c.lay_out.ensures.0 c.in_err-n.was)
 
 -- the joined book is laid out, and both the draft and the buffer have room for it
+pub slice_bounds-draft-end : goal.slice_bounds-draft-end
+slice_bounds-draft-end c = finished-inside (c.lay_out.ensures.1 _ c.in_ok-n.was)
+
 pub slice_bounds-log_laid-end : goal.slice_bounds-log_laid-end
-slice_bounds-log_laid-end c = finished-inside (c.lay_out.ensures.1 _ c.in-Book.is)
+slice_bounds-log_laid-end c = front_length _ _ (c.lay_out.ensures.1 _ c.in_ok-n.was)
 
 pub log_laid-requires : goal.log_laid-requires
 log_laid-requires c =
-    let made = c.lay_out.ensures.1 _ c.in-Book.is in (
-      c.requires.0,
-      c.requires.1,
-      front-room _ _ made c.lay_out.ensures.0 c.in-Book.is,
-      front_bytes _ _ made,
-    )
+    let made = c.lay_out.ensures.1 _ c.in_ok-n.was in
+    (front-room _ _ made c.lay_out.ensures.0 c.in_ok-n.was, made.bytes)
 
-pub returns-in-TooMany : goal.returns-in-TooMany
-returns-in-TooMany c = log-over _ _ _ _ _ c.lay_out.ensures.0 c.in-TooMany.is
-
-pub returns-in-NoRoom : goal.returns-in-NoRoom
-returns-in-NoRoom c = log-short _ _ _ _ _ c.lay_out.ensures.0 c.in-NoRoom.is
-
-pub returns-in-Book : goal.returns-in-Book
-returns-in-Book c =
-    let made = c.lay_out.ensures.1 _ c.in-Book.is in
-    log-is-laid _ _ _ _ _ c.lay_out.ensures.0 c.in-Book.is (front_length _ _ made) c.log_laid.ensures
+pub returns : goal.returns
+returns c =
+    let made = c.lay_out.ensures.1 _ c.in_ok-n.was in
+    log-is-laid _ _ _ _ _ c.lay_out.ensures.0 c.in_ok-n.was (front_length _ _ made) c.log_laid.ensures

@@ -1,21 +1,19 @@
 -- The two tests tell which books have a reading.
-use mathlib.Core.Bool.{true, false}
 use Rattle.crews.specs.Log.{entry_of}
-use Rattle.crews.proofs.Logging.{entry-by}
 use Rattle.crews.proofs.one_log.tell.Goals as goal
 
-pub returns-then-two : goal.returns-then-two
+pub returns-in-true-true : goal.returns-in-true-true
 unfolding entry_of
-returns-then-two c = entry-by true true _ _ _ c.if-one.true c.if-two.true
+returns-in-true-true c = rw (c.in-true-true.is-0, c.in-true-true.is-1)
 
-pub returns-then-one : goal.returns-then-one
+pub returns-in-true-false : goal.returns-in-true-false
 unfolding entry_of
-returns-then-one c = entry-by true false _ _ _ c.if-one.true c.if-two.false
+returns-in-true-false c = rw (c.in-true-false.is-0, c.in-true-false.is-1)
 
-pub returns-then-two-2 : goal.returns-then-two-2
+pub returns-in-false-true : goal.returns-in-false-true
 unfolding entry_of
-returns-then-two-2 c = entry-by false true _ _ _ c.if-one.false c.if-two-2.true
+returns-in-false-true c = rw (c.in-false-true.is-0, c.in-false-true.is-1)
 
-pub returns : goal.returns
+pub returns-in-false-false : goal.returns-in-false-false
 unfolding entry_of
-returns c = entry-by false false _ _ _ c.if-one.false c.if-two-2.false
+returns-in-false-false c = rw (c.in-false-false.is-0, c.in-false-false.is-1)

@@ -9,30 +9,26 @@ use Rattle.explaining.proofs.steps.tell_step.Goals as goal
 
 pub tell_on-requires : goal.tell_on-requires
 tell_on-requires g c =
-    let read = c.requires.0.read in
-    (read, in-shape _ _ read _ (subst (StepWithin _ _ _ _) c.in-On.is c.requires.1).0)
+    in-shape _ _ c.args.paper.now.book.read_as _ (subst (StepWithin _ _ _ _) c.in-On.is c.requires).0
 
 pub tell_off-requires : goal.tell_off-requires
 tell_off-requires g c =
-    let read = c.requires.0.read in
-    (read, in-shape _ _ read _ (subst (StepWithin _ _ _ _) c.in-Off.is c.requires.1).0)
+    in-shape _ _ c.args.paper.now.book.read_as _ (subst (StepWithin _ _ _ _) c.in-Off.is c.requires).0
 
 -- ---- 55: its list ends before the witness
 pub overflow_add-first : goal.overflow_add-first
-overflow_add-first g c = let h = (subst (StepWithin _ _ _ _) c.in-Unfounded.is c.requires.1).0 in search rules
+overflow_add-first g c = let h = (subst (StepWithin _ _ _ _) c.in-Unfounded.is c.requires).0 in search rules
 
 pub overflow_add-end : goal.overflow_add-end
-overflow_add-end g c = let h = (subst (StepWithin _ _ _ _) c.in-Unfounded.is c.requires.1).0 in search rules
+overflow_add-end g c = let h = (subst (StepWithin _ _ _ _) c.in-Unfounded.is c.requires).0 in search rules
 
 pub slice_bounds-tell_list-end : goal.slice_bounds-tell_list-end
-slice_bounds-tell_list-end g c = let h = (subst (StepWithin _ _ _ _) c.in-Unfounded.is c.requires.1).0 in search rules
+slice_bounds-tell_list-end g c = let h = (subst (StepWithin _ _ _ _) c.in-Unfounded.is c.requires).0 in search rules
 
 pub tell_list-requires : goal.tell_list-requires
 tell_list-requires g c =
-    let read = c.requires.0.read in
-    let below = (subst (StepWithin _ _ _ _) c.in-Unfounded.is c.requires.1).1 in
-    (read, rw (part-is _ _ _) (below_more (omega (arith, shape-count _ _ read)) below))
+    let below = (subst (StepWithin _ _ _ _) c.in-Unfounded.is c.requires).1 in
+    rw (part-is _ _ _) (below_more (omega (arith, shape-count _ _ c.args.paper.now.book.read_as)) below)
 
 pub tell_stop-requires : goal.tell_stop-requires
-tell_stop-requires g c =
-    (c.requires.0.read, subst (StepWithin _ _ _ _) c.in-Stops.is c.requires.1)
+tell_stop-requires g c = subst (StepWithin _ _ _ _) c.in-Stops.is c.requires

@@ -6,4 +6,4 @@ use Rattle.explaining.proofs.steps.tell_stop.Goals as goal
 
 pub tell_split-requires : goal.tell_split-requires
 tell_split-requires g c =
-    (c.requires.0, in-shape _ _ c.requires.0 _ (subst (StopWithin _ _ _) c.in-Split.is c.requires.1).0)
+    in-shape _ _ c.args.paper.now.book.read_as _ (subst (StopWithin _ _ _) c.in-Split.is c.requires).0

@@ -1,8 +1,10 @@
 -- `list_pages`: the pages are those of one listing, which each step takes further; each full page makes a try.
-use Rattle.std.proofs.Common.{ℕ, [], drop, sym, subst, arith, rules}
+use Rattle.std.proofs.Common.{ℕ, [], drop, sym, ap, ◌∙◌, subst, arith, rules}
+use Rattle.std.specs.Prelude.{Ok}
+use Rattle.std.proofs.lemmas.Result.{err_from_is_err_and}
 use Rattle.book.proofs.Places.{shape-atoms}
 use Rattle.walk.specs.Listing.{SameRow}
-use Rattle.listing.proofs.Pages.{so-far-start, so_far_more, so-far-done}
+use Rattle.listing.proofs.Pages.{so-far-start, so_far_more, so-far-done, so-far-refused}
 use Rattle.listing.proofs.whole.list_pages.Goals as goal
 
 pub loop-sets-init : goal.loop-sets-init
@@ -28,7 +30,7 @@ loop-sets-smaller g c =
     let t = c.loop-sets in
     let (so_far, fewer) =
     so_far_more _ c.args.shape c.requires 1000000 t.invariant.4 t.rows _ (omega arith) t.invariant.1
-    c.in-Goes.is c.list_page.ensures.follows in
+    (c.in_ok-sets.was ∙ ap Ok c.in-Goes.is) c.list_page.ensures.follows in
     let within = so_far.within in omega arith
 
 pub loop-sets-preserved : goal.loop-sets-preserved
@@ -39,10 +41,17 @@ loop-sets-preserved g c =
       search rules,
       search rules,
       (so_far_more _ c.args.shape c.requires 1000000 t.invariant.4 t.rows _ (omega arith) t.invariant.1
-          c.in-Goes.is c.list_page.ensures.follows).0,
+          (c.in_ok-sets.was ∙ ap Ok c.in-Goes.is) c.list_page.ensures.follows).0,
     )
 
 pub returns-in-Done : goal.returns-in-Done
 returns-in-Done g c =
     so-far-done _ c.args.shape c.requires 1000000 c.loop-sets.invariant.4 c.loop-sets.rows _ (omega arith) c.loop-sets.invariant.1
-    c.in-Done.is c.list_page.ensures.follows (λ j. omega (arith, c.shared_slice_known-1.given j))
+    (c.in_ok-sets.was ∙ ap Ok c.in-Done.is) c.list_page.ensures.follows (λ j. omega (arith, c.type_inv.book j))
+
+pub returns-in_err-sets : goal.returns-in_err-sets
+returns-in_err-sets g c =
+    let p = err_from_is_err_and c.from_residual.result c.from_residual.ensures.1 in
+    rw (p.1, p.2)
+    (so-far-refused _ c.args.shape c.requires 1000000 c.loop-sets.invariant.4 c.loop-sets.rows _ (omega arith) c.loop-sets.invariant.1
+    c.in_err-sets.was c.list_page.ensures.follows)

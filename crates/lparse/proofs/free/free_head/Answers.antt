@@ -1,36 +1,38 @@
 -- The pass over the text: the head found so far, or else the one that the rest has, is the head.
-use mathlib.Core.Path.{sym, ◌∙◌}
+use mathlib.Core.Path.{◌≡◌, ap, sym, ◌∙◌}
 use native.Mathlib.Omega.{arith}
 use borrow.Author.Rules.{rules}
+use Rattle.std.specs.Prelude.{Ok}
 use Rattle.lparse.proofs.Reading.{took-behind}
-use Rattle.lparse.proofs.FreeHeads.{free-start, free-turn, free-format, free-kind, free-done}
+use Rattle.lparse.proofs.FreeHeads.{free-start, free-turn, free-unread, free-done}
 use Rattle.lparse.proofs.free.free_head.Goals as goal
 
-pub loop-next-init : goal.loop-next-init
-loop-next-init c = (search rules, free-start _ _)
+pub loop-word-init : goal.loop-word-init
+loop-word-init c = (search rules, free-start _ _)
 
-pub loop-next-smaller : goal.loop-next-smaller
-loop-next-smaller c = let h = took-behind c.args.text.now c.loop-next.at c.loop-next.due c.take_word.ensures _ _ _ _ c.in-Goes.is in omega (arith, h.0, h.1)
+pub loop-word-smaller : goal.loop-word-smaller
+loop-word-smaller c =
+    let i : c.take_word.result ≡ Ok c.in-Ok-Some.field-0 = c.in-Ok-Some.is in
+    let h = took-behind c.args.text.now c.loop-word.at c.loop-word.due c.take_word.ensures c.in-Ok-Some.word (i ∙ ap Ok c.in-Ok-Some.field-0-is) in
+    omega (arith, h.0, h.1)
 
-pub loop-next-preserved : goal.loop-next-preserved
-loop-next-preserved c = (
-  (took-behind c.args.text.now c.loop-next.at c.loop-next.due c.take_word.ensures _ _ _ _ c.in-Goes.is).1,
-  c.loop-next.invariant.1
-      ∙ free-turn c.args.text.now c.loop-next.at c.loop-next.due c.loop-next.found c.loop-next.left c.take_word.ensures
-      _ _ _ _ c.in-Goes.is c.head_said-here.ensures c.head_by-found.ensures c.left_behind-left.ensures,
-)
+pub loop-word-preserved : goal.loop-word-preserved
+loop-word-preserved c =
+    let i : c.take_word.result ≡ Ok c.in-Ok-Some.field-0 = c.in-Ok-Some.is in
+    let e = i ∙ ap Ok c.in-Ok-Some.field-0-is in (
+      (took-behind c.args.text.now c.loop-word.at c.loop-word.due c.take_word.ensures c.in-Ok-Some.word e).1,
+      c.loop-word.invariant.1
+          ∙ free-turn c.args.text.now c.loop-word.at c.loop-word.due c.loop-word.found c.loop-word.left c.take_word.ensures
+          c.in-Ok-Some.word e c.head_said-here.ensures c.kth_found-found.ensures c.kth_left-left.ensures,
+    )
 
-pub returns-in-Format : goal.returns-in-Format
-returns-in-Format c =
-    free-format _ c.loop-next.at c.loop-next.due c.loop-next.found c.loop-next.left c.take_word.ensures _ c.in-Format.is
-    ∙ sym c.loop-next.invariant.1
+pub returns-in-Err : goal.returns-in-Err
+returns-in-Err c =
+    free-unread _ c.loop-word.at c.loop-word.due c.loop-word.found c.loop-word.left c.take_word.ensures _ c.in-Err.is
+    ∙ sym c.loop-word.invariant.1
 
-pub returns-in-Kind : goal.returns-in-Kind
-returns-in-Kind c =
-    free-kind _ c.loop-next.at c.loop-next.due c.loop-next.found c.loop-next.left c.take_word.ensures _ c.in-Kind.is
-    ∙ sym c.loop-next.invariant.1
-
-pub returns-in-Done : goal.returns-in-Done
-returns-in-Done c =
-    free-done _ c.loop-next.at c.loop-next.due c.loop-next.found c.loop-next.left c.take_word.ensures c.in-Done.is
-    ∙ sym c.loop-next.invariant.1
+pub returns-in-Ok-None : goal.returns-in-Ok-None
+returns-in-Ok-None c =
+    let i : c.take_word.result ≡ Ok c.in-Ok-None.field-0 = c.in-Ok-None.is in
+    free-done _ c.loop-word.at c.loop-word.due c.loop-word.found c.loop-word.left c.take_word.ensures (i ∙ ap Ok c.in-Ok-None.field-0-is)
+    ∙ sym c.loop-word.invariant.1

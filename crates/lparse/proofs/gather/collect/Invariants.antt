@@ -5,9 +5,9 @@ use Rattle.lparse.specs.Reading.{heard_at}
 use Rattle.lparse.proofs.Collecting.{Gathering}
 use Rattle.lparse.proofs.gather.collect.Given as goal
 
-abbrev pub invariant-loop-next : goal.invariant-loop-next
-invariant-loop-next l =
+abbrev pub invariant-loop-word : goal.invariant-loop-word
+invariant-loop-word l =
     (l.at ≤ length l.text) × (l.seen ≡ l.initial.seen) × Gathering l.text l.initial.seen l.found l.n (heard_at l.text l.at l.due)
 
-abbrev pub decreases-loop-next : goal.decreases-loop-next
-decreases-loop-next l = length l.text - l.at
+abbrev pub decreases-loop-word : goal.decreases-loop-word
+decreases-loop-word l = length l.text - l.at

@@ -11,26 +11,26 @@ pub lay_out-requires : goal.lay_out-requires
 lay_out-requires c =
     let done = c.make-f.ensures c.requires.part c.requires.heard in (text_of c.requires.part, done.made)
 
-pub returns-in-NoFit : goal.returns-in-NoFit
-returns-in-NoFit c =
+pub returns-in_default : goal.returns-in_default
+returns-in_default c =
     let done = c.make-f.ensures c.requires.part c.requires.heard in
     let laid = c.lay_out.ensures (text_of c.requires.part) done.made (count-complete done c.count_atoms-count.ensures) in
-    given-short _ _ c.requires.heard laid.0 c.in-NoFit.is
+    given-short _ _ c.requires.heard laid.0 c.in_default.is
 
 pub slice_bounds-copy_front-end : goal.slice_bounds-copy_front-end
 slice_bounds-copy_front-end c =
     let done = c.make-f.ensures c.requires.part c.requires.heard in
     let laid = c.lay_out.ensures (text_of c.requires.part) done.made (count-complete done c.count_atoms-count.ensures) in
-    finished-inside (laid.1 _ c.in-Book.is)
+    finished-inside (laid.1 _ c.in-Some.is)
 
 pub copy_front-requires : goal.copy_front-requires
 copy_front-requires c =
     let done = c.make-f.ensures c.requires.part c.requires.heard in
     let laid = c.lay_out.ensures (text_of c.requires.part) done.made (count-complete done c.count_atoms-count.ensures) in
-    front-room _ (laid.1 _ c.in-Book.is) laid.0 c.in-Book.is
+    front-room _ (laid.1 _ c.in-Some.is) laid.0 c.in-Some.is
 
-pub returns-in-Book : goal.returns-in-Book
-returns-in-Book c =
+pub returns : goal.returns
+returns c =
     let done = c.make-f.ensures c.requires.part c.requires.heard in
     let laid = c.lay_out.ensures (text_of c.requires.part) done.made (count-complete done c.count_atoms-count.ensures) in
-    given-book _ _ c.requires.heard laid.0 c.in-Book.is (front_bytes _ (laid.1 _ c.in-Book.is)) c.copy_front.ensures
+    given-book _ _ c.requires.heard laid.0 c.in-Some.is (front_bytes _ (laid.1 _ c.in-Some.is)) c.copy_front.ensures

@@ -1,11 +1,7 @@
 use mathlib.Core.Path.{◌≡◌}
-use Prim.Native.Nat.{◌-◌, ◌≤◌}
-use lib.ListN.{length, drop}
+use lib.ListN.{drop}
 use Rattle.lparse.specs.Names.{whose_in, whose_of}
 use Rattle.lparse.proofs.named.atom_at.Given as goal
 
-abbrev pub invariant-loop-i : goal.invariant-loop-i
-invariant-loop-i l = (l.i ≤ length l.seen) × (whose_of l.seen l.n ≡ whose_in l.seen (drop l.i l.seen) l.n)
-
-abbrev pub decreases-loop-i : goal.decreases-loop-i
-decreases-loop-i l = length l.seen - l.i
+abbrev pub invariant-loop-x : goal.invariant-loop-x
+invariant-loop-x l = whose_of l.seen l.n ≡ whose_in l.seen (drop l.x-index l.seen) l.n

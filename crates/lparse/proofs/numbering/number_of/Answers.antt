@@ -1,22 +1,12 @@
--- The atoms passed are counted: those smaller of the rest come to them.
-use mathlib.Core.Path.{sym}
-use native.Mathlib.Omega.{arith}
-use borrow.Author.Rules.{rules}
-use Rattle.lparse.proofs.Counted.{place_end, place-smaller, place_other}
+-- The smaller atoms are filtered and counted.
+use mathlib.Core.Path.{◌∙◌}
+use Rattle.std.proofs.Common.{rules, tests, ltb}
+use Rattle.std.proofs.lemmas.Iterator.{YieldsList-from_slice}
+use Rattle.std.proofs.lemmas.Iterator.Consumers.{YieldsList-from_filter, count_from_yields_List}
+use Rattle.lparse.proofs.Counted.{counted}
 use Rattle.lparse.proofs.numbering.number_of.Goals as goal
-use Rattle.lparse.proofs.numbering.number_of.Goals.{then-seen-i, else-seen-i}
-
-pub loop-i-init : goal.loop-i-init
-loop-i-init c = (search rules, search rules, omega arith)
-
-pub loop-i-preserved : goal.loop-i-preserved
-loop-i-preserved c =
-    let s = c.args.seen.now in
-    let a = c.args.a in
-    elim c.if-seen-i.branch [
-      | then-seen-i w ↦ (search rules, omega (arith, w.n-is), place-smaller s a c.loop-i.i _ c.loop-i.invariant.2 (omega arith) w.if-seen-i.true w.n-is)
-      | else-seen-i w ↦ (search rules, omega (arith, w.n-is), place_other s a c.loop-i.i _ c.loop-i.invariant.2 (omega arith) w.if-seen-i.false w.n-is)
-    ]
 
 pub returns : goal.returns
-returns c = sym (place_end c.args.seen.now c.args.a c.loop-i.i _ c.loop-i.invariant.2 (omega arith))
+returns c =
+    count_from_yields_List _ _ c.count.ensures.ran (YieldsList-from_filter _ (λ x. ltb x c.args.a.0) (YieldsList-from_slice c.args.seen.now cc) c.filter.ensures.closure (λ x r q k. search (rules, tests)))
+    ∙ counted c.args.a c.args.seen.now

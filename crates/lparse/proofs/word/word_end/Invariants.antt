@@ -1,12 +1,7 @@
 use mathlib.Core.Path.{◌≡◌}
-use Prim.Native.Nat.{◌-◌, ◌≤◌}
-use lib.ListN.{length}
 use Rattle.lparse.specs.Words.{end_of}
 use Rattle.lparse.proofs.Words.{end_from}
 use Rattle.lparse.proofs.word.word_end.Given as goal
 
 abbrev pub invariant-loop-i : goal.invariant-loop-i
-invariant-loop-i l = (l.i ≤ length l.text) × (end_of l.text l.start ≡ end_from l.q l.text l.i)
-
-abbrev pub decreases-loop-i : goal.decreases-loop-i
-decreases-loop-i l = length l.text - l.i
+invariant-loop-i l = end_of l.text l.start ≡ end_from l.q l.text l.i

@@ -1,28 +1,14 @@
--- The start of a word: where the next word starts from here on is where it starts from `at` on.
-use mathlib.Core.Path.{refl, sym, ◌∙◌}
-use native.Mathlib.Omega.{arith}
-use borrow.Author.Rules.{rules}
-use Rattle.lparse.proofs.Words.{start-end, start-here, start-turn}
+-- The first byte that parts nothing, or the end of the text.
+use mathlib.Core.Bool.{true, false}
+use mathlib.Core.Path.{◌≡◌}
+use Rattle.std.proofs.Common.{rules, tests}
+use Rattle.std.proofs.lemmas.Iterator.{IsFirst-from_position, YieldsList-from_slice}
+use Rattle.lparse.specs.Words.{parting}
+use Rattle.lparse.proofs.Words.{start-found}
 use Rattle.lparse.proofs.word.word_start.Goals as goal
-
-pub loop-i-init : goal.loop-i-init
-loop-i-init c = (search rules, refl)
-
-pub returns-then-not-parts : goal.returns-then-not-parts
-returns-then-not-parts c =
-    let s = c.args.text.now in (
-      sym (c.loop-i.invariant.1 ∙ start-here s c.loop-i.i (omega arith) (sym c.parts.ensures ∙ c.if-not-parts.true)),
-      search rules,
-    )
-
-pub loop-i-preserved : goal.loop-i-preserved
-loop-i-preserved c =
-    let s = c.args.text.now in (
-      search rules,
-      c.loop-i.invariant.1 ∙ start-turn s c.loop-i.i (omega arith) (sym c.parts.ensures ∙ c.if-not-parts.false),
-    )
 
 pub returns : goal.returns
 returns c =
-    let s = c.args.text.now in
-    (sym (c.loop-i.invariant.1 ∙ start-end s c.loop-i.i (omega arith)), search rules)
+    let p = IsFirst-from_position _ _ _ (λ x. parting x ≡ false) (λ x. parting x ≡ true) c.position.ensures.ran (YieldsList-from_slice _ c.iter.ensures.rest) (λ x q k. search (rules, tests)) (λ x q k. search (rules, tests)) in
+    let e = start-found c.args.text.now c.args.at _ p in
+    (rw c.unwrap_or.ensures e, search rules)

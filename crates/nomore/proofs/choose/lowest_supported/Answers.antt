@@ -1,47 +1,14 @@
 -- The search among the rules without a colour: what is kept is Come, and each return is one of its ends.
-use Prim.Native.Nat.{◌<◌}
 use native.Mathlib.Omega.{arith}
-use borrow.Author.Rules.{rules}
-use Rattle.meaning.proofs.Next.{next-further}
-use Rattle.nomore.proofs.Choosing.{come-start, come-low, come-next, come-found, come-none}
+use Rattle.nomore.proofs.Choosing.{come-found, come-none}
 use Rattle.nomore.proofs.choose.lowest_supported.Goals as goal
-use Rattle.nomore.proofs.choose.lowest_supported.Lts as lts
-use Rattle.nomore.proofs.choose.lowest_supported.Tie as tie
-
-abbrev At-loop-r : Type 0
-At-loop-r = lts.At-loop tie.the-claims tie.handed_pre tie.handed_post goal.the-invariant-loop-r goal.the-decreases-loop-r
-
--- a turn of the loop, and the sets that were made before it
-module _ (c : At-loop-r) where
-  few : c.args.shape.rules < 256
-  few = search rules
-
-pub loop-r-init : goal.loop-r-init
-loop-r-init c = come-start _ _ _ _ c.next_in-r.ensures
-
-pub is_supported-requires : goal.is_supported-requires
-is_supported-requires c =
-    let p = c.requires in (
-      p.0,
-      p.1,
-      come-low _ _ _ _ _ _ _ c.below.ensures c.union.ensures c.difference-left.ensures
-          _ c.loop-r.invariant (omega arith),
-    )
 
 pub returns-then-is_supported : goal.returns-then-is_supported
 returns-then-is_supported c =
-    come-found _ _ _ _ _ _ _ c.below.ensures c.union.ensures c.difference-left.ensures
+    come-found _ _ _ _ _ _ _ c.below.ensures c.union.ensures c.difference-free.ensures
     _ c.loop-r.invariant (omega arith) c.is_supported.ensures c.if-is_supported.true
-
-pub loop-r-smaller : goal.loop-r-smaller
-loop-r-smaller c =
-    omega (arith, next-further _ c.loop-r.r _ c.next_in-r-in-loop-r.ensures (omega arith))
-
-pub loop-r-preserved : goal.loop-r-preserved
-loop-r-preserved c =
-    come-next _ _ _ _ c.loop-r.invariant c.is_supported.ensures c.if-is_supported.false _ c.next_in-r-in-loop-r.ensures
 
 pub returns : goal.returns
 returns c =
-    come-none _ _ _ _ _ _ _ c.below.ensures c.union.ensures c.difference-left.ensures
-    _ c.loop-r.invariant (omega arith) (omega (arith, few c.before.before))
+    come-none _ _ _ _ _ _ _ c.below.ensures c.union.ensures c.difference-free.ensures
+    _ c.loop-r.invariant (omega arith) (omega (arith, c.args.rowed.now.book.small.1))

@@ -7,13 +7,10 @@ use Rattle.nomore.proofs.kth.kth.Goals as goal
 
 pub own-requires : goal.own-requires
 own-requires c =
-    let a = c.args in (
-      c.requires.0,
-      room-start _ (a.k - 1) 1 0 _ (omega arith) (one-row _ _ c.requires.0 a.answer.now c.requires.2),
-      c.make_rows.ensures,
-      tt,
-    )
+    let a = c.args in
+    let b = c.of-rowed.result.book in
+    (room-start _ (a.k - 1) 1 0 _ (omega arith) (one-row _ _ b.read_as a.answer.now (rw c.of-rowed.ensures c.requires.1)), tt)
 
 pub returns : goal.returns
 returns c =
-    own-start _ _ _ _ _ c.empty.ensures c.empty-2.ensures c.own.ensures
+    rw (← c.of-rowed.ensures) (own-start _ _ _ _ _ c.empty.ensures c.empty-2.ensures c.own.ensures)

@@ -6,4 +6,4 @@ use Rattle.closing.specs.Taken.{puts}
 use Rattle.nomore.proofs.own.+own.Given as goal
 
 abbrev pub decreases-own : goal.decreases-own
-decreases-own l = left (book_in l.book.now) (puts l.choice (coloured (listed l.on.w) (listed l.off.w)))
+decreases-own l = left (book_in l.rowed.now.book.bytes.now) (puts l.choice (coloured (listed l.on.w) (listed l.off.w)))

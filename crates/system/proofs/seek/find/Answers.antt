@@ -1,18 +1,16 @@
-use Rattle.std.proofs.Common.{arith, ◌≡◌, ℕ, ap}
-use Rattle.system.specs.Places.{index_of, slice}
-use Rattle.system.proofs.Places.{found, passed, none}
+-- What the search for the byte finds in the part is what the definition says of it.
+use Rattle.std.proofs.Common.{◌≡◌, ◌-◌, length, take, drop, arith, sym, ◌∙◌, length-take, length-drop}
+use Rattle.system.proofs.Places.{part, found, nowhere}
 use Rattle.system.proofs.seek.find.Goals as goal
 
-pub returns-then-bytes-at-clause-value : goal.returns-then-bytes-at-clause-value
-returns-then-bytes-at-clause-value c =
-    omega (arith, found c.args.bytes.now c.loop-at.at c.args.to (omega arith) (omega arith) c.args.byte c.if-bytes-at.true, c.loop-at.invariant.2)
+pub returns-in-Some-clause-value : goal.returns-in-Some-clause-value
+returns-in-Some-clause-value c =
+    rw (← part c.args.from c.args.to c.args.bytes.now c.requires.0)
+    (omega (arith, found c.args.byte _ c.in-Some.i (sym c.place_of.ensures ∙ c.in-Some.is)))
 
-pub loop-at-preserved : goal.loop-at-preserved
-loop-at-preserved c =
-    let p = passed c.args.bytes.now c.loop-at.at c.args.to (omega arith) (omega arith) c.args.byte c.if-bytes-at.false in
-    (omega arith, omega arith, omega (arith, p, c.loop-at.invariant.2))
-
-pub returns-clause-value : goal.returns-clause-value
-returns-clause-value c =
-    let e : c.loop-at.at ≡ c.args.to = omega arith in
-    omega (arith, none c.args.bytes.now c.args.to c.args.byte (omega arith), c.loop-at.invariant.2, ap (λ (i : ℕ). index_of c.args.byte (slice i c.args.to c.args.bytes.now)) e)
+pub returns-in-None-clause-value : goal.returns-in-None-clause-value
+returns-in-None-clause-value c =
+    let bytes = take (c.args.to - c.args.from) (drop c.args.from c.args.bytes.now) in
+    let long : length bytes ≡ c.args.to - c.args.from = simp (length-take, length-drop) (omega arith) in
+    rw (← part c.args.from c.args.to c.args.bytes.now c.requires.0)
+    (omega (arith, nowhere c.args.byte _ (sym c.place_of.ensures ∙ c.in-None.is), long))

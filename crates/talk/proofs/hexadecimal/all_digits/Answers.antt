@@ -1,24 +1,12 @@
--- `all_digits`: as long as no other byte was met, the rest of the word decides.
-use mathlib.Core.Path.{sym, ◌∙◌}
-use native.Mathlib.Omega.{arith}
-use borrow.Author.Rules.{rules}
-use Rattle.talk.proofs.Turns.{digits-end, digits-turn}
-use Rattle.meaning.proofs.Choice.{lt_yes, lt_no}
+-- `all_digits` asks of each byte what its definition asks.
+use Rattle.std.proofs.Common.{◌∙◌, rules, tests, nat_lt}
+use Rattle.std.proofs.lemmas.Iterator.{YieldsList-from_slice}
+use Rattle.std.proofs.lemmas.Iterator.Search.{all_from_yields_List}
+use Rattle.talk.specs.Hexadecimal.{digit_of}
+use Rattle.talk.proofs.Turns.{digits-all}
 use Rattle.talk.proofs.hexadecimal.all_digits.Goals as goal
 
-pub returns-then-digit-gt15 : goal.returns-then-digit-gt15
-returns-then-digit-gt15 c =
-    sym (c.loop-i.invariant.1 ∙ digits-turn c.args.word.now c.loop-i.i (omega arith) ∙ lt_no _ _ _ _ (omega (
-      arith,
-      c.digit.ensures,
-    )))
-
-pub loop-i-preserved : goal.loop-i-preserved
-loop-i-preserved c = (
-  search rules,
-  c.loop-i.invariant.1 ∙ digits-turn c.args.word.now c.loop-i.i (omega arith)
-      ∙ lt_yes _ _ _ _ (omega (arith, c.digit.ensures)),
-)
-
 pub returns : goal.returns
-returns c = sym (c.loop-i.invariant.1 ∙ digits-end c.args.word.now c.loop-i.i (omega arith))
+returns c =
+    all_from_yields_List (λ x. nat_lt (digit_of x) 16) _ _ _ c.all.ensures.ran (YieldsList-from_slice c.args.word.now cc) (λ x b q k. search (rules, tests))
+    ∙ digits-all c.args.word.now

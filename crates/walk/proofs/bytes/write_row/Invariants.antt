@@ -1,12 +1,8 @@
 use mathlib.Core.Path.{◌≡◌}
-use Prim.Native.Nat.{◌-◌, ◌≤◌}
 use lib.ListN.{length}
 use lib.Seq.{paste}
 use Rattle.walk.proofs.RowBytes.{table_row}
 use Rattle.walk.proofs.bytes.write_row.Given as goal
 
 abbrev pub invariant-loop-a : goal.invariant-loop-a
-invariant-loop-a l = (l.a ≤ l.atoms) × (length l.out ≡ length l.initial.out) × (l.out ≡ paste l.initial.out l.at (table_row l.atoms l.set) l.a)
-
-abbrev pub decreases-loop-a : goal.decreases-loop-a
-decreases-loop-a l = l.atoms - l.a
+invariant-loop-a l = (length l.out ≡ length l.initial.out) × (l.out ≡ paste l.initial.out l.at (table_row l.atoms l.set) l.a)

@@ -1,5 +1,5 @@
 use Rattle.meaning.specs.Written.{written}
-use Rattle.book.specs.Format.{book_in}
+use Rattle.book.specs.ReadBook.{the_book}
 use Rattle.closing.specs.Left.{left}
 use Rattle.closing.specs.Taken.{taken, Takes}
 use Rattle.walk.specs.Page.{set_in}
@@ -8,7 +8,7 @@ use Rattle.walk.proofs.descent.descend.Given as goal
 
 abbrev pub invariant-loop-d : goal.invariant-loop-d
 invariant-loop-d l =
-    Descends (book_in l.book) (set_in l.row) (taken l.choice (written l.c)) × Takes (book_in l.book) (written l.c) l.choice
+    Descends (the_book l.rowed.book) (set_in l.row) (taken l.choice (written l.c)) × Takes (the_book l.rowed.book) (written l.c) l.choice
 
 abbrev pub decreases-loop-d : goal.decreases-loop-d
-decreases-loop-d l = left (book_in l.book) (taken l.choice (written l.c))
+decreases-loop-d l = left (the_book l.rowed.book) (taken l.choice (written l.c))

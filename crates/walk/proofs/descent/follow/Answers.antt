@@ -5,5 +5,5 @@ use Rattle.walk.proofs.descent.follow.Goals as goal
 pub returns-then-generates : goal.returns-then-generates
 returns-then-generates c = follow-on _ c.generates.ensures c.if-generates.true
 
-pub returns : goal.returns
-returns c = follow-off _ c.generates.ensures c.if-generates.false
+pub returns-else-generates : goal.returns-else-generates
+returns-else-generates c = follow-off _ c.generates.ensures c.if-generates.false

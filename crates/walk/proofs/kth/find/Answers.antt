@@ -1,35 +1,27 @@
 -- find keeps its promise: each return is one case of what is answered. A refused book comes first, then k, the room and the walk.
+use mathlib.Core.Path.{ap}
 use native.Mathlib.Omega.{arith}
-use Rattle.book.specs.Format.{ReadAs}
-use Rattle.book.proofs.Verdict.{read_as}
+use Rattle.std.proofs.lemmas.Result.{err_from_is_err_and}
+use Rattle.book.specs.ReadBook.{shape_in}
 use Rattle.walk.proofs.Answering.{find-no-number, find-no-room, find-refused, find-walked}
 use Rattle.walk.proofs.kth.find.Goals as goal
-use Rattle.walk.proofs.kth.find.Lts as lts
-use Rattle.walk.proofs.kth.find.Tie as tie
 
-abbrev In-Good : Type 0
-In-Good = lts.Past-After-known_told2 tie.the-claims tie.handed_pre tie.handed_post
-
--- where the book is good, it is read as its shape says
-module _ (c : In-Good) where
-  good : ReadAs c.args.book.now c.in-Good.shape
-  good = read_as _ c.read_book.ensures c.in-Good.is
+pub returns-in_err-book : goal.returns-in_err-book
+returns-in_err-book c =
+    let p = err_from_is_err_and c.from_residual.result c.from_residual.ensures.1 in
+    rw (p.1, p.2) (find-refused _ c.read.ensures.tells _ _ _ _ (ap shape_in c.in_err-book.was))
 
 pub returns-then-k-eq0 : goal.returns-then-k-eq0
-returns-then-k-eq0 c = find-no-number _ _ (good c.before.before) _ _ _ _ c.if-k-eq0.true
+returns-then-k-eq0 c = find-no-number _ _ (rw c.in_ok-book.ensures.bytes at c.in_ok-book.book.read_as) _ _ _ _ c.if-k-eq0.true
 
-pub returns-then-answer-shape : goal.returns-then-answer-shape
-returns-then-answer-shape c = find-no-room _ _ (good c.before.before.before.before) _ _ _ _ c.if-k-eq0.false c.if-answer-shape.true
+pub returns-then-answer-book : goal.returns-then-answer-book
+returns-then-answer-book c =
+    find-no-room _ _ (rw c.in_ok-book.ensures.bytes at c.in_ok-book.book.read_as) _ _ _ _ c.if-k-eq0.false c.if-answer-book.true
 
 pub kth-requires : goal.kth-requires
-kth-requires c =
-    let z = c.if-k-eq0.false in
-    (good c.before.before.before.before.before, omega arith, c.if-answer-shape.false)
+kth-requires c = let z = c.if-k-eq0.false in (omega arith, rw c.of.ensures c.if-answer-book.false)
 
-pub returns-in-Refused : goal.returns-in-Refused
-returns-in-Refused c =
-    find-refused _ c.read_book.ensures _ _ _ _ c.in-Refused.is
-
-pub returns-else-answer-shape : goal.returns-else-answer-shape
-returns-else-answer-shape c =
-    find-walked _ _ (good c.before.before.before.before.before.before.before.before.before) _ _ _ _ c.if-k-eq0.false c.if-answer-shape.false c.kth.ensures c.tell.ensures
+pub returns : goal.returns
+returns c =
+    find-walked _ _ (rw c.in_ok-book.ensures.bytes at c.in_ok-book.book.read_as) _ _ _ _ c.if-k-eq0.false c.if-answer-book.false
+    (rw c.in_ok-book.ensures.bytes at (rw c.of.ensures at c.kth.ensures)) c.tell.ensures

@@ -3,19 +3,15 @@ use mathlib.Core.Path.{refl}
 use Rattle.walk.proofs.ToldClash.{told_none, told-still, told-rule, origin-read}
 use Rattle.walk.proofs.origin.tell_clash.Goals as goal
 
--- ---- the needs
-pub returns-then-rule : goal.returns-then-rule
-returns-then-rule c = told_none _ _ _ c.if-rule.true
-
-pub close-closed-requires : goal.close-closed-requires
-close-closed-requires c = c.requires
+pub returns-then-t-eq255 : goal.returns-then-t-eq255
+returns-then-t-eq255 c = told_none _ _ _ c.if-t-eq255.true
 
 pub returns-in_default : goal.returns-in_default
 returns-in_default c =
-    told-still _ _ _ c.if-rule.false (origin-read _ _ _ c.empty-c.ensures c.words_at-c.ensures c.words_at-c-2.ensures refl) _
+    told-still _ _ _ c.if-t-eq255.false (origin-read _ _ _ c.empty.ensures c.words_at.ensures c.words_at-2.ensures refl) _
     c.close-closed.ensures.1 c.in_default.is
 
 pub returns : goal.returns
 returns c =
-    told-rule _ _ _ c.if-rule.false (origin-read _ _ _ c.empty-c.ensures c.words_at-c.ensures c.words_at-c-2.ensures refl) _
-    c.close-closed.ensures.1 c.in-Rule.is
+    told-rule _ _ _ c.if-t-eq255.false (origin-read _ _ _ c.empty.ensures c.words_at.ensures c.words_at-2.ensures refl) _
+    c.close-closed.ensures.1 c.in-Some.is

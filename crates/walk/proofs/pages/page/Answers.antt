@@ -1,15 +1,15 @@
 -- page keeps its promise: the book refused, or the next page of a good one.
-use Rattle.book.proofs.Verdict.{read_as}
+use mathlib.Core.Path.{ap}
+use Rattle.std.proofs.lemmas.Result.{err_from_is_err_and}
+use Rattle.book.specs.ReadBook.{shape_in}
 use Rattle.walk.proofs.Answering.{page-refused, page-read}
 use Rattle.walk.proofs.pages.page.Goals as goal
 
-pub page_in-requires : goal.page_in-requires
-page_in-requires c = read_as _ c.read_book.ensures c.in-Good.is
+pub returns-in_err-read : goal.returns-in_err-read
+returns-in_err-read c =
+    let p = err_from_is_err_and c.from_residual.result c.from_residual.ensures.1 in
+    rw (p.1, p.2) (page-refused _ c.read.ensures.tells _ _ _ _ (ap shape_in c.in_err-read.was))
 
-pub returns-in-Refused : goal.returns-in-Refused
-returns-in-Refused c =
-    page-refused _ c.read_book.ensures _ _ _ _ c.in-Refused.is
-
-pub returns-in-Good : goal.returns-in-Good
-returns-in-Good c =
-    page-read _ c.read_book.ensures _ _ _ _ c.in-Good.is c.page_in.ensures
+pub returns : goal.returns
+returns c =
+    page-read _ c.read.ensures.tells _ _ _ _ (ap shape_in c.in_ok-read.was) (rw c.in_ok-read.ensures.bytes at c.page_in.ensures)

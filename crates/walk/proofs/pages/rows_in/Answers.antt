@@ -7,5 +7,5 @@ use Rattle.walk.proofs.pages.rows_in.Goals as goal
 pub returns-then-atoms-eq0 : goal.returns-then-atoms-eq0
 returns-then-atoms-eq0 c = sym (eq_yes _ _ _ _ (omega arith))
 
-pub returns : goal.returns
-returns c = sym (eq_no _ _ _ _ (λ e. omega arith))
+pub returns-else-atoms-eq0 : goal.returns-else-atoms-eq0
+returns-else-atoms-eq0 c = sym (eq_no _ _ _ _ (λ e. omega arith))

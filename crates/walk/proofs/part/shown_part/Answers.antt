@@ -2,6 +2,7 @@
 use mathlib.Core.Path.{◌∙◌, ap}
 use native.Mathlib.Omega.{arith}
 use Rattle.meaning.specs.Bits.{listed}
+use Rattle.meaning.specs.declared.bitset.Bits.{Bits}
 use Rattle.meaning.proofs.Next.{next-further}
 use Rattle.meaning.proofs.Four.{members-nothing}
 use Rattle.walk.proofs.Gathering.{parted-start, parted-skip, parted-put, parted-all}
@@ -19,7 +20,7 @@ loop-i-preserved c =
     elim c.if-meets.branch [
       | then-meets w ↦
           parted-put _ _ _ _ c.loop-i.invariant (omega arith) _ c.head_row.ensures c.meets.ensures c.next_in-i-in-loop-i.ensures
-          w.if-meets.true _ (ap listed w.part-is ∙ w.put.ensures)
+          w.if-meets.true _ (ap (λ (b : Bits). listed b.w) w.part-is ∙ w.put.ensures)
       | else-meets w ↦
           rw w.part-is (parted-skip _ _ _ _ c.loop-i.invariant (omega arith) _ c.head_row.ensures c.meets.ensures
           c.next_in-i-in-loop-i.ensures w.if-meets.false)

@@ -1,23 +1,18 @@
--- A part of a body gone through: its first i atoms are as is asked, so that the first that isn't says no, and the end yes.
-use native.Mathlib.Omega.{arith}
-use borrow.Author.Tests.{not-false}
+-- The test of each atom of the part is whether it is as is asked.
+use mathlib.Core.Path.{◌∙◌}
 use borrow.Author.Rules.{rules}
-use Rattle.walk.proofs.Agreeing.{so-none, so-next, so-fails, so-all}
+use borrow.Author.Tests.{tests}
+use Rattle.std.specs.Bool.{beq}
+use Rattle.std.proofs.lemmas.Iterator.{YieldsList-from_slice}
+use Rattle.std.proofs.lemmas.Iterator.Search.{all_from_yields_List}
+use Rattle.meaning.specs.Books.{atom_no}
+use Rattle.walk.specs.Page.{set_in}
+use Rattle.walk.proofs.Agreeing.{every-list}
 use Rattle.walk.proofs.resume.all_so.Goals as goal
-
-pub returns-then-not-agrees : goal.returns-then-not-agrees
-returns-then-not-agrees c =
-    let s = c.args in
-    so-fails s.inside s.row.now s.part.now c.loop-i.i (omega arith) c.in_row.ensures c.agrees.ensures
-    c.if-not-agrees.true
 
 pub returns : goal.returns
 returns c =
-    let s = c.args in
-    so-all s.inside s.row.now s.part.now c.loop-i.i (omega arith) c.loop-i.invariant.1
-
-pub loop-i-init : goal.loop-i-init
-loop-i-init c = search (rules, so-none)
-
-pub loop-i-preserved : goal.loop-i-preserved
-loop-i-preserved c = search (rules, so-next, not-false)
+    let a = c.args in
+    all_from_yields_List (λ n. beq (set_in a.row.now (atom_no n)) a.inside) _ _ c.all.result c.all.ensures.ran
+    (YieldsList-from_slice a.part.now cc) (λ x b q k. search (rules, tests))
+    ∙ every-list a.inside a.row.now a.part.now

@@ -7,7 +7,7 @@ use Rattle.walk.proofs.walk.walk.Goals as goal
 
 pub walk_shown-requires : goal.walk_shown-requires
 walk_shown-requires c =
-    (c.requires.0, c.requires.1, c.requires.2, c.requires.3, record { kept = λ e. true-and-false refl e }, c.requires.4)
+    (c.requires.0, c.requires.1, record { kept = λ e. true-and-false refl e }, c.requires.2)
 
 pub returns : goal.returns
 returns c =

@@ -8,19 +8,19 @@ use Rattle.words.proofs.known.number_of.Goals as goal
 
 pub loop-i-init : goal.loop-i-init
 unfolding place_of
-loop-i-init c = let a = c.args in (search rules, search rules, first-begun a.n (is_spelled a.text.now a.from.now a.to.now a.word.now))
+loop-i-init c = let a = c.args in first-begun a.n (is_spelled a.text.now a.from.now a.to.now a.word.now)
 
 pub returns-then-stands_between : goal.returns-then-stands_between
 returns-then-stands_between c =
     let a = c.args in
-    (sym (c.loop-i.invariant.2 ∙ first-here a.n (is_spelled a.text.now a.from.now a.to.now a.word.now) c.loop-i.i (omega arith) (sym c.stands_between.ensures ∙ c.if-stands_between.true)), search rules)
+    (sym (c.loop-i.invariant ∙ first-here a.n (is_spelled a.text.now a.from.now a.to.now a.word.now) c.loop-i.i (omega arith) (sym c.stands_between.ensures ∙ c.if-stands_between.true)), search rules)
 
 pub loop-i-preserved : goal.loop-i-preserved
 loop-i-preserved c =
     let a = c.args in
-    (search rules, search rules, c.loop-i.invariant.2 ∙ first-turn a.n (is_spelled a.text.now a.from.now a.to.now a.word.now) c.loop-i.i (omega arith) (sym c.stands_between.ensures ∙ c.if-stands_between.false))
+    c.loop-i.invariant ∙ first-turn a.n (is_spelled a.text.now a.from.now a.to.now a.word.now) c.loop-i.i (omega arith) (sym c.stands_between.ensures ∙ c.if-stands_between.false)
 
 pub returns : goal.returns
 returns c =
     let a = c.args in
-    (sym (c.loop-i.invariant.2 ∙ first-over a.n (is_spelled a.text.now a.from.now a.to.now a.word.now) c.loop-i.i (omega arith) (omega arith)), search rules)
+    (sym (c.loop-i.invariant ∙ first-over a.n (is_spelled a.text.now a.from.now a.to.now a.word.now) c.loop-i.i (omega arith) (omega arith)), search rules)

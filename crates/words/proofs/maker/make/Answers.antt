@@ -1,7 +1,7 @@
 -- A refusal is told, or the book of what was read is finished and copied, with the places of the names.
 use mathlib.Core.Path.{ap}
 use native.Mathlib.Omega.{arith}
-use Rattle.words.proofs.Handing.{over-made, over-finished, over_done, over-form, over-name, over-many, never-goes, front-copied, make-wrong, make-short, make-given}
+use Rattle.words.proofs.Handing.{over-made, over-finished, over_done, over-barred, never-goes, front-copied, make-wrong, make-short, make-given}
 use Rattle.words.proofs.maker.make.Goals as goal
 
 pub finish_book-n-requires : goal.finish_book-n-requires
@@ -17,20 +17,11 @@ pub returns-in-Goes : goal.returns-in-Goes
 returns-in-Goes c =
     never-goes c.args.text.now c.read_text-r.result c.read_text-r.new.draft c.read_text-r.ensures.1 c.in-Goes.is
 
-pub returns-in-Form : goal.returns-in-Form
-returns-in-Form c =
+pub returns-in-Refused : goal.returns-in-Refused
+returns-in-Refused c =
     let a = c.args in
-    make-wrong a.text.now a.out.now a.from.now a.to.now 40 _ (over-form a.text.now _ c.read_text-r.new.draft c.read_text-r.ensures.0 _ c.in-Form.is)
-
-pub returns-in-Name : goal.returns-in-Name
-returns-in-Name c =
-    let a = c.args in
-    make-wrong a.text.now a.out.now a.from.now a.to.now 41 _ (over-name a.text.now _ c.read_text-r.new.draft c.read_text-r.ensures.0 _ c.in-Name.is)
-
-pub returns-in-TooMany : goal.returns-in-TooMany
-returns-in-TooMany c =
-    let a = c.args in
-    make-wrong a.text.now a.out.now a.from.now a.to.now 42 _ (over-many a.text.now _ c.read_text-r.new.draft c.read_text-r.ensures.0 _ c.in-TooMany.is)
+    rw c.unworded.ensures
+    (make-wrong a.text.now a.out.now a.from.now a.to.now _ _ (over-barred a.text.now _ c.read_text-r.new.draft c.read_text-r.ensures.0 _ _ c.in-Refused.is))
 
 pub returns-else-out-n : goal.returns-else-out-n
 returns-else-out-n c =

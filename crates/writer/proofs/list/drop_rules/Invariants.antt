@@ -1,11 +1,7 @@
-use Prim.Native.Nat.{◌-◌, ◌≤◌}
 use Rattle.meaning.specs.Bits.{listed}
 use Rattle.meaning.specs.Written.{of}
 use Rattle.writer.proofs.Lists.{Dropped}
 use Rattle.writer.proofs.list.drop_rules.Given as goal
 
 abbrev pub invariant-loop-r : goal.invariant-loop-r
-invariant-loop-r l = (l.r ≤ l.rules) × Dropped (of (listed l.dropped)) (listed l.initial.off) l.initial.n l.initial.draft l.r (listed l.off) l.n l.draft
-
-abbrev pub decreases-loop-r : goal.decreases-loop-r
-decreases-loop-r l = l.rules - l.r
+invariant-loop-r l = Dropped (of (listed l.dropped.w)) (listed l.initial.off.w) l.initial.n l.initial.draft l.r (listed l.off.w) l.n l.draft

@@ -6,5 +6,5 @@ use Rattle.writer.proofs.list.list_unsupported.Goals as goal
 
 pub returns : goal.returns
 returns c =
-    let v = c.list_unmarked.ensures (book_in c.args.book.now) (shape-count _ _ c.requires) in
+    let v = c.list_unmarked.ensures (book_in c.args.book.now.bytes.now) (shape-count _ _ c.args.book.now.read_as) in
     λ on. rw (outside-unsupported _ _ on _ c.support.ensures) at v

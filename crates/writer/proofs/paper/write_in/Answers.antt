@@ -1,36 +1,25 @@
 -- The claim decides: 13 for an atom that the book doesn't have, then a paper with a witness or one without.
 use mathlib.Core.Path.{refl}
-use Prim.Native.Nat.{◌<◌}
 use native.Mathlib.Omega.{arith}
-use borrow.Author.Rules.{rules}
 use Rattle.book.proofs.Places.{shape-atoms}
 use Rattle.writer.proofs.Answering.{claimed-atom, claimed-nothing, about-no-atom, about-atom, about-nothing}
 use Rattle.writer.proofs.paper.write_in.Goals as goal
-use Rattle.writer.proofs.paper.write_in.Lts as lts
-use Rattle.writer.proofs.paper.write_in.Tie as tie
 
-abbrev Start : Type 0
-Start = lts.Start tie.the-claims tie.handed_pre tie.handed_post
-
--- atoms are counted in a byte
-small : (s : Start) → s.args.shape.atoms < 256
-small s = search rules
-
-pub returns-then-shape-atom : goal.returns-then-shape-atom
-returns-then-shape-atom c =
-    about-no-atom _ _ _ _ c.in-About.is (omega (arith, shape-atoms _ _ c.requires, c.if-shape-atom.true))
+pub returns-then-book-atom : goal.returns-then-book-atom
+returns-then-book-atom c =
+    about-no-atom _ _ _ _ c.in-About.is (omega (arith, shape-atoms _ _ c.args.book.now.read_as, c.if-book-atom.true))
 
 pub write_witnessed-requires : goal.write_witnessed-requires
 write_witnessed-requires c =
-    (c.requires, claimed-atom _ refl (omega (arith, small c.before.before.before.before.before.before.before.before, c.if-shape-atom.false)))
+    claimed-atom _ refl (omega arith)
 
 pub write_unwitnessed-requires : goal.write_unwitnessed-requires
 write_unwitnessed-requires c =
-    (c.requires, claimed-nothing _ c.in-NoReading.is)
+    claimed-nothing _ c.in-NoReading.is
 
-pub returns-else-shape-atom : goal.returns-else-shape-atom
-returns-else-shape-atom c =
-    about-atom _ _ _ _ c.in-About.is (omega (arith, shape-atoms _ _ c.requires, c.if-shape-atom.false))
+pub returns-else-book-atom : goal.returns-else-book-atom
+returns-else-book-atom c =
+    about-atom _ _ _ _ c.in-About.is (omega (arith, shape-atoms _ _ c.args.book.now.read_as, c.if-book-atom.false))
     c.write_witnessed.ensures
 
 pub returns-in-NoReading : goal.returns-in-NoReading

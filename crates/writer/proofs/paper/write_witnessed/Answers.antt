@@ -1,22 +1,10 @@
 -- The first walk decides, then the paper's walk, then whether the paper fits.
-use mathlib.Core.Path.{◌≡◌}
 use native.Mathlib.Omega.{arith}
-use Rattle.walk.specs.declared.tally.Halt.TheVariants.{Full}
 use Rattle.walk.specs.Find.{first_walk}
 use Rattle.writer.proofs.Drafts.{stands-most}
 use Rattle.writer.proofs.Handing.{stands-long}
 use Rattle.writer.proofs.Answering.{write-fewer, write-first-limit, write-full, after-limited, after-refuted, after-handed}
 use Rattle.writer.proofs.paper.write_witnessed.Goals as goal
-use Rattle.writer.proofs.paper.write_witnessed.Lts as lts
-use Rattle.writer.proofs.paper.write_witnessed.Tie as tie
-
-abbrev After-write_steps-steps : Type 0
-After-write_steps-steps = lts.After-write_steps tie.the-claims tie.handed_pre tie.handed_post
-
--- behind the paper's walk: the first walk found its reading
-module _ (c : After-write_steps-steps) where
-  full : c.first-reading.result.halt ≡ Full
-  full = c.in-Full.is
 
 -- ---- the first walk ends otherwise
 pub returns-in-Going : goal.returns-in-Going
@@ -32,7 +20,7 @@ returns-in-Limit c = write-first-limit _ _ _ _ c.first-reading.ensures c.in-Limi
 pub finish-length-requires : goal.finish-length-requires
 finish-length-requires c =
     let m = stands-most c.write_steps-steps.ensures.bytes in
-    (c.requires.0, omega arith)
+    omega arith
 
 pub hand_over-requires : goal.hand_over-requires
 hand_over-requires c =
@@ -41,18 +29,18 @@ hand_over-requires c =
 pub returns-in-Limited : goal.returns-in-Limited
 unfolding first_walk
 returns-in-Limited c =
-    write-full _ _ _ _ c.first-reading.ensures (full c.before.before)
+    write-full _ _ _ _ c.first-reading.ensures c.in-Full.is
     (after-limited _ _ _ _ _ c.write_steps-steps.ensures c.in-Limited.is)
 
 pub returns-in-Refuted : goal.returns-in-Refuted
 unfolding first_walk
 returns-in-Refuted c =
-    write-full _ _ _ _ c.first-reading.ensures (full c.before.before.before)
+    write-full _ _ _ _ c.first-reading.ensures c.in-Full.is
     (after-refuted _ _ _ _ _ c.write_steps-steps.ensures c.in-Refuted.is c.unproved.ensures)
 
 pub returns-in-Writing : goal.returns-in-Writing
 unfolding first_walk
 returns-in-Writing c =
-    write-full _ _ _ _ c.first-reading.ensures (full c.before.before.before.before.before.before.before.before.before.before)
+    write-full _ _ _ _ c.first-reading.ensures c.in-Full.is
     (after-handed _ _ _ _ _ c.write_steps-steps.ensures c.in-Writing.is
     (c.hand_over.ensures _ (c.finish-length.ensures _ c.write_steps-steps.ensures.bytes)))

@@ -1,7 +1,7 @@
 use Rattle.meaning.specs.Written.{written, pair}
-use Rattle.book.specs.Format.{book_in}
+use Rattle.book.specs.ReadBook.{the_book}
 use Rattle.writer.proofs.Branches.{left}
 use Rattle.writer.proofs.split.+write_branches.Given as goal
 
 abbrev pub decreases-write_branches : goal.decreases-write_branches
-decreases-write_branches l = left (book_in l.book.now) (pair (written l.c))
+decreases-write_branches l = left (the_book l.book.now) (pair (written l.c))

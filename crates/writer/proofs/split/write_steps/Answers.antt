@@ -6,4 +6,4 @@ use Rattle.writer.proofs.split.write_steps.Goals as goal
 pub returns : goal.returns
 returns c =
     stage-paper _ _ _ c.empty.ensures
-    (c.write_branches.ensures blank (stage-blank c.requires.2) (omega arith))
+    (c.write_branches.ensures blank (stage-blank c.requires.1) (omega arith))

@@ -1,7 +1,6 @@
-use Prim.Native.Nat.{◌-◌, ◌≤◌}
 use Rattle.meaning.specs.AnswerSet.{generating}
 use Rattle.meaning.specs.Bits.{listed}
-use Rattle.book.specs.Format.{book_in}
+use Rattle.book.specs.ReadBook.{the_book}
 use Rattle.walk.specs.Page.{set_in}
 use Rattle.writer.specs.Steps.{may_list}
 use Rattle.writer.proofs.Searches.{NoneBelow}
@@ -9,7 +8,4 @@ use Rattle.writer.proofs.witness.next_listed.Given as goal
 
 abbrev pub invariant-loop-r : goal.invariant-loop-r
 invariant-loop-r l =
-    (l.r ≤ l.shape.rules) × NoneBelow (may_list (book_in l.book) (generating (book_in l.book) (set_in l.row)) (listed l.taken)) l.r
-
-abbrev pub decreases-loop-r : goal.decreases-loop-r
-decreases-loop-r l = l.shape.rules - l.r
+    NoneBelow (may_list (the_book l.book) (generating (the_book l.book) (set_in l.row)) (listed l.taken.w)) l.r

@@ -1,18 +1,11 @@
-use Rattle.meaning.proofs.Four.{Words, words, each, within-every}
-use borrow.Author.Rules.{rules}
+use mathlib.Core.Path.{◌∙◌, ap, sym}
+use mathlib.Core.Bool.{Bool, not}
+use Prim.Native.Nat.{ℕ}
+use Rattle.meaning.specs.Sets.{Set, some_below}
+use Rattle.meaning.proofs.Four.{not-not, not_some}
 use Rattle.meaning.proofs.bitset.Bits.is_within.Goals as goal
-use Rattle.meaning.proofs.bitset.Bits.is_within.Lts as lts
-use Rattle.meaning.proofs.bitset.Bits.is_within.Tie as tie
-
-abbrev Start : Type 0
-Start = lts.Start tie.handed_pre tie.handed_post
-
-self-words : (s : Start) → Words s.args.self.w
-self-words s = words s.args.self.w (search rules) (λ n l. search rules)
-
-other-words : (s : Start) → Words s.args.other.w
-other-words s = words s.args.other.w (search rules) (λ n l. search rules)
 
 pub returns : goal.returns
-unfolding each
-returns c = within-every c.args.self.w c.args.other.w (self-words c.before.before) (other-words c.before.before)
+returns c =
+    sym (not-not _) ∙ ap (λ (t : Bool). not t) (c.is_empty.ensures ∙ ap (λ (s : Set ℕ). some_below 256 s) c.difference.ensures)
+    ∙ not_some 256 _ _

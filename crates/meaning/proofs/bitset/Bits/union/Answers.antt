@@ -1,18 +1,9 @@
-use Rattle.meaning.proofs.Four.{Words, words, each, members-union}
 use borrow.Author.Rules.{rules}
+use Rattle.meaning.proofs.Four.{words, each, members-union}
 use Rattle.meaning.proofs.bitset.Bits.union.Goals as goal
-use Rattle.meaning.proofs.bitset.Bits.union.Lts as lts
-use Rattle.meaning.proofs.bitset.Bits.union.Tie as tie
-
-abbrev Start : Type 0
-Start = lts.Start tie.handed_pre tie.handed_post
-
-self-words : (s : Start) → Words s.args.self.w
-self-words s = words s.args.self.w (search rules) (λ n l. search rules)
-
-other-words : (s : Start) → Words s.args.other.w
-other-words s = words s.args.other.w (search rules) (λ n l. search rules)
 
 pub returns : goal.returns
 unfolding each
-returns c = members-union c.args.self.w c.args.other.w (self-words c.before.before) (other-words c.before.before)
+returns c =
+    let a = c.args in
+    members-union a.self.w a.other.w (words a.self.w (search rules) (λ n l. search rules)) (words a.other.w (search rules) (λ n l. search rules))

@@ -1,0 +1,8 @@
+-- The row with the atom's number.
+use mathlib.Core.Path.{ap, ◌∙◌}
+use Prim.Native.Nat.{ℕ}
+use Rattle.book.specs.RuleRows.{row}
+use Rattle.book.proofs.rowed.RowedBook.head_row.Goals as goal
+
+pub returns : goal.returns
+returns c = c.row_at.ensures ∙ ap (λ (n : ℕ). row c.args.self.now.rows (n)) c.wide.ensures.0

@@ -1,9 +1,0 @@
-use Prim.Native.Nat.{◌-◌, ◌≤◌}
-use lib.ListN.{length}
-use Rattle.explaining.proofs.tell.tell_each.Given as goal
-
-abbrev pub invariant-loop-i : goal.invariant-loop-i
-invariant-loop-i g l = (l.i ≤ length l.list)
-
-abbrev pub decreases-loop-i : goal.decreases-loop-i
-decreases-loop-i g l = length l.list - l.i

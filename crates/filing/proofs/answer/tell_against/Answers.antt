@@ -1,8 +1,0 @@
--- `tell_against` lends as many bytes of the row as the book has atoms, which are at most 255.
-use mathlib.Core.Path.{sym}
-use native.Mathlib.Omega.{arith}
-use lib.Seq.{length-take-le}
-use Rattle.filing.proofs.answer.tell_against.Goals as goal
-
-pub slice_bounds-explain_against-end : goal.slice_bounds-explain_against-end
-slice_bounds-explain_against-end g c = sym (length-take-le _ _ (omega arith))

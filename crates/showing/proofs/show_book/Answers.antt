@@ -1,9 +1,0 @@
--- `show_book` shows what stands in a book that was read as good only.
-use mathlib.Core.Path.{ap}
-use mathlib.Core.Path.{sym, ◌∙◌}
-use Rattle.book.specs.Numbers.{told}
-use Rattle.showing.proofs.show_book.Goals as goal
-
-pub show_all-requires : goal.show_all-requires
-show_all-requires g c =
-    sym c.read_book.ensures ∙ ap told c.in-Good.is

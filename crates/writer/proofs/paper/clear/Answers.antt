@@ -1,5 +1,0 @@
--- clear is the writer over its kind of claim.
-use Rattle.writer.proofs.paper.clear.Goals as goal
-
-pub returns : goal.returns
-returns c = c.write_claim.ensures
