@@ -2,6 +2,7 @@
 // of a good book are handed out in place. Stands on meaning.
 #![tactic(auto)]
 
+mod asking;
 mod conditions;
 mod making;
 mod number;
@@ -13,6 +14,7 @@ mod refusal;
 mod rowed;
 mod standing;
 
+pub use asking::{every_headed, is_headed, is_lost};
 pub use conditions::{every_in, some_in};
 pub use making::{Making, add_rule, copy_front, count_atoms, finish_book};
 pub use number::{u16_at, wide};
@@ -20,6 +22,7 @@ pub use read::ReadBook;
 pub use reader::{Shape, read_book};
 pub use refusal::Refusal;
 pub use rowed::RowedBook;
+pub use standing::{head_row, neg_row, pos_row};
 
 // The last two bytes of every book: 52 42.
 pub const BOOK_MARK: [u8; 2] = [0x52, 0x42];

@@ -1,5 +1,5 @@
 // A good book with the rows of its atoms: where each atom stands, made once for a book. What is asked
-// of an atom takes one question, whatever the number of its rules.
+// of an atom is asked by these rows.
 ghost use Rattle.std.specs.Prelude.{◌≡◌, map, ◌+◌, ◌<◌};
 ghost use Rattle.meaning.specs.Sets.{every};
 ghost use Rattle.meaning.specs.Books.{atom_no};
@@ -9,9 +9,9 @@ ghost use Rattle.meaning.specs.Colours.{may_on};
 ghost use Rattle.book.specs.Format.{book_in};
 ghost use Rattle.book.specs.RuleRows.{row, headed_by, lost_by, RuleRows};
 
-use crate::number::wide;
+use crate::asking::{every_headed, every_lost, is_headed, is_lost};
 use crate::read::ReadBook;
-use crate::standing::{enter_rule, row_at};
+use crate::standing::{enter_rule, head_row, neg_row, pos_row};
 use meaning::{AtomNo, Bits, RuleNo};
 
 #[derive(Clone, Copy)]
@@ -39,35 +39,35 @@ impl<'a> RowedBook<'a> {
     pub fn head_row(&self, a: AtomNo) -> Bits
         ensures { result.w ≡ row self.now.rows a.0 }
     {
-        row_at(&self.rows, wide(a.0))
+        head_row(&self.rows, a)
     }
 
     // The rules with that atom among their positive ones.
     pub fn pos_row(&self, a: AtomNo) -> Bits
         ensures { result.w ≡ row self.now.rows (256 + a.0) }
     {
-        row_at(&self.rows, 256 + wide(a.0))
+        pos_row(&self.rows, a)
     }
 
     // The rules with that atom among their negative ones.
     pub fn neg_row(&self, a: AtomNo) -> Bits
         ensures { result.w ≡ row self.now.rows (512 + a.0) }
     {
-        row_at(&self.rows, 512 + wide(a.0))
+        neg_row(&self.rows, a)
     }
 
     // The atom is the head of a rule of the set.
     pub fn is_headed(&self, a: AtomNo, on: &Bits) -> bool
         ensures { result ≡ headed_by self.now.rows on.now.w a }
     {
-        self.head_row(a).meets(*on)
+        is_headed(&self.rows, a, on)
     }
 
     // All rules of the atom are in the set.
     pub fn is_lost(&self, a: AtomNo, off: &Bits) -> bool
         ensures { result ≡ lost_by self.now.rows off.now.w a }
     {
-        self.head_row(a).is_within(*off)
+        is_lost(&self.rows, a, off)
     }
 
     // Every atom of the part is the head of a rule of the set.
@@ -75,15 +75,7 @@ impl<'a> RowedBook<'a> {
         ensures { result ≡
             every (headed_by self.now.rows on.now.w) (map atom_no part.now) }
     {
-        part.iter().all(|a| self.is_headed(AtomNo(*a), on))
-    }
-
-    // Of every atom of the part all rules are in the set.
-    fn every_lost(&self, part: &[u8], off: &Bits) -> bool
-        ensures { result ≡
-            every (lost_by self.now.rows off.now.w) (map atom_no part.now) }
-    {
-        part.iter().all(|a| self.is_lost(AtomNo(*a), off))
+        every_headed(part, &self.rows, on)
     }
 
     // The rule may go on: each positive atom is the head of an on rule, and each negative atom has all
@@ -94,6 +86,6 @@ impl<'a> RowedBook<'a> {
             (lent (listed on.now.w) (listed off.now.w)) r }
     {
         self.every_headed(self.book.positives(r), on)
-            && self.every_lost(self.book.negatives(r), off)
+            && every_lost(self.book.negatives(r), &self.rows, off)
     }
 }

@@ -1,7 +1,7 @@
 // Where each atom of a good book stands: for each atom the set of rules with that head, the set of
 // rules with it among their positive atoms, and among their negative ones. 768 rows of four words: row
 // a for the rules with head a, row 256 + a for those with a among their positive atoms, row 512 + a
-// among the negative ones.
+// among the negative ones. What a row says is said of any rows; `RowedBook` has those of its book.
 ghost use Rattle.std.specs.Prelude.{◌≡◌, ◌+◌, ◌<◌, ◌≤◌, length};
 ghost use Rattle.meaning.specs.Books.{rule, rule_no};
 ghost use Rattle.meaning.specs.Bits.{one};
@@ -10,10 +10,31 @@ ghost use Rattle.book.specs.RuleRows.{row, sets, entered, in_part, in_rows};
 
 use crate::number::wide;
 use crate::read::ReadBook;
-use meaning::{Bits, RuleNo};
+use meaning::{AtomNo, Bits, RuleNo};
+
+// The rules with that head.
+pub fn head_row(rows: &[u64; 3072], a: AtomNo) -> Bits
+    ensures { result.w ≡ row rows.now a.0 }
+{
+    row_at(rows, wide(a.0))
+}
+
+// The rules with that atom among their positive ones.
+pub fn pos_row(rows: &[u64; 3072], a: AtomNo) -> Bits
+    ensures { result.w ≡ row rows.now (256 + a.0) }
+{
+    row_at(rows, 256 + wide(a.0))
+}
+
+// The rules with that atom among their negative ones.
+pub fn neg_row(rows: &[u64; 3072], a: AtomNo) -> Bits
+    ensures { result.w ≡ row rows.now (512 + a.0) }
+{
+    row_at(rows, 512 + wide(a.0))
+}
 
 // Row k, in a set by value.
-pub fn row_at(rows: &[u64; 3072], k: usize) -> Bits
+fn row_at(rows: &[u64; 3072], k: usize) -> Bits
     requires { k < 768 }
     ensures { result.w ≡ row rows.now k }
 {

@@ -14,7 +14,8 @@ pub fn name_in<'a>(text: &'a [u8], a: TextAtom, k: usize) -> Option<&'a [u8]> {
     text.get(from..end)
 }
 
-// The names of the atom, each behind a space, or `#` and its number in the text where it has none.
+// The names of the atom, each behind a space, or `#` and its number in the text where it has none. Each
+// name is looked for from the text's start on; a full line ends the search.
 fn put_atom(text: &[u8], a: TextAtom, line: &mut Line) {
     for k in 0..MOST_NAMES {
         let Some(name) = name_in(text, a, k) else {
@@ -26,6 +27,9 @@ fn put_atom(text: &[u8], a: TextAtom, line: &mut Line) {
         };
         line.text(b" ");
         line.name(name);
+        if line.room_left() == 0 {
+            return;
+        }
     }
 }
 

@@ -1,5 +1,6 @@
 // The book of a text that a grounder wrote, and what its atoms are called.
-ghost use Rattle.std.specs.Prelude.{◌≤◌};
+ghost use Rattle.std.specs.Prelude.{◌≤◌, IfSome};
+ghost use Rattle.calling.specs.Opened.{FitsIn};
 
 use crate::described::put_described;
 use crate::opened::{Opened, Unasked, atoms_of};
@@ -10,19 +11,20 @@ use meaning::AtomNo;
 use std::rt::{Env, Files};
 use talk::{Refused, explain_text_of, first_bytes};
 
-// Why a text is refused.
-pub fn refused_text(why: Unimported) -> Refused {
-    match why {
-        Unimported::Format(place) => Refused::at(30, place),
-        Unimported::Kind(place) => Refused::at(31, place),
-        Unimported::NoFit => Refused::plain(32),
+// Why a text is refused; 0 where its book was made.
+pub fn refused_text(answer: Result<usize, Unimported>) -> Refused {
+    match answer {
+        Ok(_) => Refused::plain(0),
+        Err(Unimported::Format(place)) => Refused::at(30, place),
+        Err(Unimported::Kind(place)) => Refused::at(31, place),
+        Err(Unimported::NoFit) => Refused::plain(32),
     }
 }
 
 // Writes why a text is refused, in one line. `whose` says of which book it is the text, where there
 // are two.
-pub fn explain_text(rt: &impl Print, why: Unimported, whose: &[u8]) {
-    explain_text_of(rt, refused_text(why), whose);
+pub fn explain_text(rt: &impl Print, answer: Result<usize, Unimported>, whose: &[u8]) {
+    explain_text_of(rt, refused_text(answer), whose);
 }
 
 // Puts what the book's atoms are called into their rows, and gives the atom that an argument names.
@@ -50,7 +52,9 @@ fn import_book<'a>(
     whose: &[u8],
     book: &'a mut [u8],
     names: &'a mut [u8],
-) -> Option<Opened<'a>> {
+) -> Option<Opened<'a>>
+    ensures { IfSome result (FitsIn book.old names.old) }
+{
     match import(text, book) {
         Ok(n) => {
             let book = first_bytes(book, n);
@@ -63,7 +67,7 @@ fn import_book<'a>(
             })
         }
         Err(why) => {
-            explain_text(rt, why, whose);
+            explain_text(rt, Err(why), whose);
             None
         }
     }
@@ -79,6 +83,7 @@ pub fn open_text<'a>(
     names: &'a mut [u8],
 ) -> Option<Opened<'a>>
     requires { i ≤ 4 }
+    ensures { IfSome result (FitsIn book.old names.old) }
 {
     let mut room = [0u8; TEXT_ROOM];
     let text = read_text(rt, i, &mut room)?;

@@ -18,7 +18,7 @@ impl Unmade {
             Unmade::Words(Unworded::Name(_)) => 41,
             Unmade::Words(Unworded::TooMany(_)) => 42,
             Unmade::Words(Unworded::NoRoom) => 43,
-            Unmade::Text(why) => refused_text(why).number,
+            Unmade::Text(why) => refused_text(Err(why)).number,
         }
     }
 }

@@ -1,5 +1,6 @@
 // Where the book of a call comes from, and how it is opened.
-ghost use Rattle.std.specs.Prelude.{◌≤◌};
+ghost use Rattle.std.specs.Prelude.{◌≤◌, IfSome};
+ghost use Rattle.calling.specs.Opened.{FitsIn};
 
 use crate::grounded::open_text;
 use crate::opened::{Opened, Unasked};
@@ -56,6 +57,7 @@ pub fn open_at<'a>(
     names: &'a mut [u8],
 ) -> Option<Opened<'a>>
     requires { i ≤ 3 }
+    ensures { IfSome result (FitsIn book.old names.old) }
 {
     match source_at(rt, i) {
         Source::Book => {
@@ -80,7 +82,9 @@ pub fn open_book<'a>(
     usage: &[u8],
     book: &'a mut [u8],
     names: &'a mut [u8],
-) -> Option<Opened<'a>> {
+) -> Option<Opened<'a>>
+    ensures { IfSome result (FitsIn book.old names.old) }
+{
     if !is_right {
         complain_of_call(rt, usage);
         return None;

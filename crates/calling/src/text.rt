@@ -1,4 +1,6 @@
 // A text that is read from a file.
+ghost use Rattle.std.specs.Prelude.{◌<◌, length, IfSome};
+
 use std::rt::{Env, Files};
 use system::{PATH_ROOM, arg};
 use talk::{complain, read_argument};
@@ -13,7 +15,9 @@ pub fn read_text<'a>(
     rt: &(impl Env + Files + Print),
     i: usize,
     room: &'a mut [u8],
-) -> Option<&'a [u8]> {
+) -> Option<&'a [u8]>
+    ensures { IfSome result (λ t. length t.now < length room.old) }
+{
     let n = read_argument(rt, i, room)?;
     if n < room.len() {
         return Some(&room[..n]);

@@ -1,5 +1,6 @@
 // The book of rules in words, and the names that they give its atoms.
-ghost use Rattle.std.specs.Prelude.{◌≤◌};
+ghost use Rattle.std.specs.Prelude.{◌≤◌, IfSome};
+ghost use Rattle.calling.specs.Opened.{FitsIn};
 
 use crate::names::put_rows;
 use crate::opened::{Opened, Unasked, atoms_of};
@@ -34,7 +35,9 @@ fn make_book<'a>(
     whose: &[u8],
     book: &'a mut [u8],
     names: &'a mut [u8],
-) -> Option<Opened<'a>> {
+) -> Option<Opened<'a>>
+    ensures { IfSome result (FitsIn book.old names.old) }
+{
     let mut from = [0usize; 255];
     let mut to = [0usize; 255];
     match make(text, book, &mut from, &mut to) {
@@ -66,6 +69,7 @@ pub fn open_words<'a>(
     names: &'a mut [u8],
 ) -> Option<Opened<'a>>
     requires { i ≤ 4 }
+    ensures { IfSome result (FitsIn book.old names.old) }
 {
     let mut room = [0u8; TEXT_ROOM];
     let text = read_text(rt, i, &mut room)?;

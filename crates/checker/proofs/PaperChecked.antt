@@ -3,7 +3,7 @@
 use mathlib.Core.Path.{◌≡◌, refl, sym, ◌∙◌, ap, subst}
 use mathlib.Core.Bool.{Bool, true, false}
 use mathlib.Core.List.{List}
-use Rattle.std.specs.Prelude.{Result}
+use Rattle.std.specs.Prelude.{Result, Err}
 use Prim.Native.Nat.{ℕ, suc, ◌+◌, ◌-◌, ◌≤◌, ◌<◌}
 use native.Mathlib.Omega.{arith}
 use lib.Dec.{ltb, eqb}
@@ -29,8 +29,11 @@ use Rattle.book.specs.Format.{u16_at, BookRead, good, bad, read_of, told_of, boo
 use Rattle.checker.specs.Branches.{Walked, done, BranchTo}
 use Rattle.checker.specs.Witness.{Check, fine, wrong, witness_verdict, grounds_verdict}
 use Rattle.checker.specs.declared.answer.Rejected.{Rejected}
+use Rattle.checker.specs.declared.answer.Rejected.TheVariants.{Length, Mark, Atom, Form, Fails, Gap}
+use Rattle.checker.specs.declared.answer.Rejected.TheVariants.{Book as BadBook, Trailer as Count, Witness as Wrong}
 use Rattle.checker.specs.declared.trailer.Trailer.{Trailer}
-use Rattle.checker.specs.Parts.{EndFits, EndsAs}
+use Rattle.checker.specs.Numbers.{number_of}
+use Rattle.checker.specs.Parts.{OfTheEnd, EndFits, EndsAs}
 use Rattle.checker.specs.Check.{witness_told, branch_told, steps_told, stated, trailer_told, marked_told, paper_of, check_read, check_of}
 use Rattle.checker.proofs.Marked.{mark_in}
 
@@ -75,12 +78,27 @@ module _ (b : Book) (k : Claim) (s : List ℕ) (from w : ℕ) where
 
 -- ---- what the last bytes come to
 
+of-the-end : (f : Rejected) → OfTheEnd f → (20 ≤ number_of f) × (number_of f ≤ 23)
+of-the-end Length u = (omega arith, omega arith)
+of-the-end (Mark at) u = (omega arith, omega arith)
+of-the-end (Count at) u = (omega arith, omega arith)
+of-the-end (Atom at) u = (omega arith, omega arith)
+of-the-end (BadBook why) u = absurd u
+of-the-end (Form at) u = absurd u
+of-the-end (Fails at) u = absurd u
+of-the-end (Gap at) u = absurd u
+of-the-end (Wrong at) u = absurd u
+
 module _ {b : Book} {s : List ℕ} {x : Told Claim} {e : Result Trailer Rejected} (p : EndsAs b s x e) where
   pub ends-told : {y : Told Claim} → x ≡ y → EndsAs b s y e
   ends-told q = record { told = p.told ∙ q; fits = p.fits }
 
   pub ends-fit : {f : Result Trailer Rejected} → e ≡ f → EndFits s f
   ends-fit q = subst (EndFits s) q p.fits
+
+  -- a refusal is one of the last bytes, and none of the book, the steps or the witness
+  pub ends-refused : {f : Rejected} → e ≡ Err f → (20 ≤ number_of f) × (number_of f ≤ 23)
+  ends-refused q = of-the-end _ (ends-fit q)
 
 -- ---- the length, the mark and the trailer
 

@@ -9,7 +9,8 @@
 --   walked w, verdict v   what a branch and a witness come to
 --   Ends at from w        a branch that is done ends past its start, and not past the witness
 --   end_told b s e         what is told of a paper whose last bytes come to e: what its steps come to, or 20 to 23
---   EndsAs b s x e        what reading a trailer promises: this is x, and the witness of a good one ends at it
+--   OfTheEnd f            a refusal of the last bytes, and of nothing before them
+--   EndsAs b s x e        what reading a trailer promises: this is x, the witness of a good one ends at it, and a bad one is refused by its last bytes
 use Rattle.std.specs.Prelude.{Result, Ok, Err, ⊤, ◌≡◌, List, [], ◌∷◌, map, ℕ, ◌+◌, ◌<◌, ◌≤◌, length, take, drop}
 use Rattle.meaning.specs.declared.RuleNo.{RuleNo}
 use Rattle.meaning.specs.Books.{rule_no, Book, count, InBook}
@@ -25,6 +26,8 @@ use Rattle.checker.specs.declared.step.Stop.{Stop}
 use Rattle.checker.specs.declared.step.Stop.TheVariants.{End, Split, Form, Fails}
 use Rattle.checker.specs.declared.run.Ran.{Ran}
 use Rattle.checker.specs.declared.answer.Rejected.{Rejected}
+use Rattle.checker.specs.declared.answer.Rejected.TheVariants.{Length, Mark, Atom, Gap}
+use Rattle.checker.specs.declared.answer.Rejected.TheVariants.{Book as BadBook, Trailer as Count, Form as BadForm, Fails as BadFails, Witness as Wrong}
 use Rattle.checker.specs.declared.trailer.Trailer.{Trailer}
 use Rattle.checker.specs.Numbers.{number_of, place_of}
 use Rattle.checker.specs.Steps.{Stepped, goes, parts, ends, fails, step_of}
@@ -98,9 +101,21 @@ abbrev pub end_told : Book → List ℕ → Result Trailer Rejected → Told Cla
 end_told b s (Ok t) = steps_told b t.claim s t.count t.from
 end_told b s (Err f) = refused_at (number_of f) (place_of f)
 
+-- the refusals of a paper's last bytes: 20 to 23, and none of the book, the steps or the witness
+abbrev pub OfTheEnd : Rejected → Type 0
+OfTheEnd Length = Unit {0}
+OfTheEnd (Mark at) = Unit {0}
+OfTheEnd (Count at) = Unit {0}
+OfTheEnd (Atom at) = Unit {0}
+OfTheEnd (BadBook f) = ⊥
+OfTheEnd (BadForm at) = ⊥
+OfTheEnd (BadFails at) = ⊥
+OfTheEnd (Gap at) = ⊥
+OfTheEnd (Wrong at) = ⊥
+
 abbrev pub EndFits : List ℕ → Result Trailer Rejected → Type 0
 EndFits s (Ok t) = (t.from + t.count + 6 ≡ length s) × (length s ≤ paper_bytes)
-EndFits s (Err f) = Unit {0}
+EndFits s (Err f) = OfTheEnd f
 
 pub record EndsAs (b : Book) (s : List ℕ) (x : Told Claim) (e : Result Trailer Rejected) : Type 0 where
   pub told : end_told b s e ≡ x

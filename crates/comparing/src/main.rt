@@ -5,6 +5,9 @@
 //     comparing BOOKFILE --text TEXTFILE
 #![tactic(auto)]
 
+ghost use Rattle.std.specs.Prelude.{IfSome};
+ghost use Rattle.calling.specs.Opened.{FitsIn};
+
 use book::read_book;
 use calling::{Opened, open_at, open_words, shift_at};
 use std::rt::{Env, Files};
@@ -36,7 +39,9 @@ fn open_other<'a>(
     rt: &(impl Env + Files + Print),
     book: &'a mut [u8],
     names: &'a mut [u8],
-) -> Option<Opened<'a>> {
+) -> Option<Opened<'a>>
+    ensures { IfSome result (FitsIn book.old names.old) }
+{
     if shift_at(rt, 2) == 1 {
         return open_at(rt, 2, b"", book, names);
     }

@@ -41,11 +41,19 @@ fn print_words(rt: &impl Print, line: &[u8], book: &mut [u8]) {
     table.end(rt, LAYOUT);
 }
 
+// Whether there are more words behind the command than a table has books.
+fn are_too_many(line: &[u8]) -> bool {
+    line.split(|x| *x == b' ')
+        .skip(1 + MOST_BOOKS)
+        .next()
+        .is_some()
+}
+
 // Answers the command, or that its words are not right.
 pub fn answer_table(rt: &impl Print, line: &[u8], book: &mut [u8]) {
     if !are_right(line, book) {
         print(rt, b"bad line\n");
-    } else if MOST_BOOKS < line.split(|x| *x == b' ').skip(1).count() {
+    } else if are_too_many(line) {
         print(rt, b"refused 36|\n");
     } else {
         print_words(rt, line, book);

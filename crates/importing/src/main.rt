@@ -30,7 +30,7 @@ fn import_text(rt: &(impl Env + Files + Print), text: &[u8]) {
     let mut room = [0u8; BOOK_BYTES];
     match import(text, &mut room) {
         Ok(n) => save_made(rt, text, first_bytes(&room, n)),
-        Err(why) => explain_text(rt, why, b""),
+        Err(why) => explain_text(rt, Err(why), b""),
     }
 }
 

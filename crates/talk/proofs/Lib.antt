@@ -3,5 +3,6 @@ pub mod Parting
 pub mod Turns
 pub mod Spelling
 pub mod Names
+pub mod Counted
 pub mod ToldRefusals
 pub mod Gathered

@@ -3,5 +3,6 @@ pub mod Words
 pub mod Decimal
 pub mod Hexadecimal
 pub mod Names
+pub mod Counts
 pub mod Refusals
 pub mod Gathered

@@ -1,6 +1,7 @@
 // What the checker says of a paper, in a line for people.
 use crate::line::Line;
 use crate::name::put_subject;
+use crate::refusals::Refused;
 use crate::sentences::{explain_book, explain_paper};
 use checker::{Rejected, check};
 use meaning::{AtomNo, Claim, Kind};
@@ -30,6 +31,6 @@ pub fn tell_checked(rt: &impl Print, book: &[u8], names: &[u8], paper: &[u8]) {
     match check(book, paper) {
         Ok(claim) => accept(rt, claim, names),
         Err(Rejected::Book(why)) => explain_book(rt, why, book),
-        Err(why) => explain_paper(rt, why, paper),
+        Err(why) => explain_paper(rt, Refused::from(why), paper),
     }
 }

@@ -31,7 +31,7 @@ pub use line::Line;
 pub use name::{NAME_ROOM, NAMES_ROOM, name_of, put_called, put_subject};
 pub use numbers::read_number;
 pub use part::{common, first_bytes};
-pub use refusals::Refused;
+pub use refusals::{Refused, refused_book, refused_name, refused_paper};
 pub use rule::{count_rules, put_rule, show_rule};
 pub use sentences::{
     explain, explain_book, explain_book_of, explain_paper, explain_text_of, put_refused,

@@ -25,26 +25,27 @@ pub fn name_of<'a>(names: &'a [u8], a: u8) -> &'a [u8]
     &names[from..end]
 }
 
-// The name with the word and the number in brackets, or these alone where there is no name.
-fn put_atom(names: &[u8], a: u8, word: &[u8], line: &mut Line) {
+// The name and the number in brackets, or the word and the number where there is no name. What stands
+// between name and number, `bracket`, is put as one text, so that a line without room for it has none
+// of it.
+fn put_atom(names: &[u8], a: u8, word: &[u8], bracket: &[u8], line: &mut Line) {
     let name = name_of(names, a);
     if name.is_empty() {
         line.text(word);
         return line.number(a as u64);
     }
     line.text(name);
-    line.text(b" (");
-    line.text(word);
+    line.text(bracket);
     line.number(a as u64);
     line.text(b")");
 }
 
 // The atom as `anna (2)`, or by its number alone.
 pub fn put_called(names: &[u8], a: u8, line: &mut Line) {
-    put_atom(names, a, b"", line);
+    put_atom(names, a, b"", b" (", line);
 }
 
 // The same in a sentence: `anna (atom 2)`, or `atom 2`.
 pub fn put_subject(names: &[u8], a: u8, line: &mut Line) {
-    put_atom(names, a, b"atom ", line);
+    put_atom(names, a, b"atom ", b" (atom ", line);
 }

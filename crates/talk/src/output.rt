@@ -1,5 +1,7 @@
 // How bytes look on standard output.
 ghost use Rattle.std.specs.Prelude.{◌≡◌, ◌*◌, ◌≤◌, length};
+ghost use Rattle.std.specs.Char.{is_ascii_control};
+ghost use Rattle.meaning.specs.Choice.{ifb};
 ghost use Rattle.talk.specs.Hexadecimal.{digit_for, spelled};
 
 // A digit of a byte in hexadecimal, in lower case.
@@ -27,6 +29,8 @@ pub fn put_digits(bytes: &[u8], out: &mut [u8]) -> usize
 }
 
 // The byte, or `?` for one that could break a line or write over it.
-pub fn plain(x: u8) -> u8 {
+pub fn plain(x: u8) -> u8
+    ensures { result ≡ ifb (is_ascii_control x) 63 x }
+{
     if x.is_ascii_control() { b'?' } else { x }
 }

@@ -5,10 +5,12 @@ ghost use Rattle.talk.specs.Refusals.{at, plain, of_book, of_paper, of_name};
 
 use book::Refusal;
 use checker::Rejected;
+use meaning::Claim;
 use writer::Unwritten;
 
 #[derive(Clone, Copy)]
 pub struct Refused {
+    // 0 for an answer that refuses nothing.
     pub number: u8,
     pub place: Option<usize>,
 }
@@ -35,47 +37,68 @@ impl Refused {
 }
 
 // Why bytes are no book.
-impl From<Refusal> for Refused {
-    ghost from_gives = { λ why it. it ≡ of_book why };
-
-    fn from(why: Refusal) -> Refused {
-        Refused::at(why.number(), why.place())
-    }
+pub fn refused_book(why: Refusal) -> Refused
+    ensures { result ≡ of_book why }
+{
+    Refused::at(why.number(), why.place())
 }
 
 // Why a paper is refused.
-impl From<Rejected> for Refused {
-    ghost from_gives = { λ why it. it ≡ of_paper (Err why) };
-
-    fn from(why: Rejected) -> Refused {
-        match why {
-            Rejected::Book(why) => Refused::from(why),
-            Rejected::Length => Refused::at(20, 0),
-            Rejected::Mark(at) => Refused::at(21, at),
-            Rejected::Trailer(at) => Refused::at(22, at),
-            Rejected::Atom(at) => Refused::at(23, at),
-            Rejected::Form(at) => Refused::at(24, at),
-            Rejected::Fails(at) => Refused::at(25, at),
-            Rejected::Gap(at) => Refused::at(26, at),
-            Rejected::Witness(at) => Refused::at(27, at),
-        }
+pub fn refused_paper(answer: Result<Claim, Rejected>) -> Refused
+    ensures { result ≡ of_paper answer }
+{
+    match answer {
+        Ok(_) => Refused::plain(0),
+        Err(Rejected::Book(why)) => refused_book(why),
+        Err(Rejected::Length) => Refused::at(20, 0),
+        Err(Rejected::Mark(at)) => Refused::at(21, at),
+        Err(Rejected::Trailer(at)) => Refused::at(22, at),
+        Err(Rejected::Atom(at)) => Refused::at(23, at),
+        Err(Rejected::Form(at)) => Refused::at(24, at),
+        Err(Rejected::Fails(at)) => Refused::at(25, at),
+        Err(Rejected::Gap(at)) => Refused::at(26, at),
+        Err(Rejected::Witness(at)) => Refused::at(27, at),
     }
 }
 
 // Why no paper was written.
+pub fn refused_name(answer: Result<(u32, usize), Unwritten>) -> Refused
+    ensures { result ≡ of_name answer }
+{
+    match answer {
+        Ok((_, _)) => Refused::plain(0),
+        Err(Unwritten::Fewer(_, _)) => Refused::plain(11),
+        Err(Unwritten::Stopped(_)) => Refused::plain(9),
+        Err(Unwritten::Book(why)) => refused_book(why),
+        Err(Unwritten::NotCertain) => Refused::plain(12),
+        Err(Unwritten::NotClear) => Refused::plain(18),
+        Err(Unwritten::NoAtom) => Refused::plain(13),
+        Err(Unwritten::HasReading) => Refused::plain(38),
+        Err(Unwritten::TooLong) => Refused::plain(14),
+    }
+}
+
+// Each refusal alone, which is what most callers hold.
+impl From<Refusal> for Refused {
+    ghost from_gives = { λ why it. it ≡ of_book why };
+
+    fn from(why: Refusal) -> Refused {
+        refused_book(why)
+    }
+}
+
+impl From<Rejected> for Refused {
+    ghost from_gives = { λ why it. it ≡ of_paper (Err why) };
+
+    fn from(why: Rejected) -> Refused {
+        refused_paper(Err(why))
+    }
+}
+
 impl From<Unwritten> for Refused {
     ghost from_gives = { λ why it. it ≡ of_name (Err why) };
 
     fn from(why: Unwritten) -> Refused {
-        match why {
-            Unwritten::Fewer(_, _) => Refused::plain(11),
-            Unwritten::Stopped(_) => Refused::plain(9),
-            Unwritten::Book(why) => Refused::from(why),
-            Unwritten::NotCertain => Refused::plain(12),
-            Unwritten::NotClear => Refused::plain(18),
-            Unwritten::NoAtom => Refused::plain(13),
-            Unwritten::HasReading => Refused::plain(38),
-            Unwritten::TooLong => Refused::plain(14),
-        }
+        refused_name(Err(why))
     }
 }

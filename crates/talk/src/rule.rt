@@ -1,6 +1,8 @@
 // One rule in words, as `rule 2: 0 if 3 and not 1`, or with a word for it, as `rule 2 off: 0 if 3 and
 // not 1`; where there are names, each atom by its name and number.
-ghost use Rattle.std.specs.Prelude.{◌<◌};
+ghost use Rattle.std.specs.Prelude.{◌≡◌, ◌<◌};
+ghost use Rattle.book.specs.ReadBook.{the_book};
+ghost use Rattle.talk.specs.Counts.{rules_with};
 
 use crate::line::Line;
 use crate::name::put_called;
@@ -50,7 +52,9 @@ pub fn show_rule(rt: &impl Print, book: &ReadBook, r: RuleNo, word: &[u8], names
 }
 
 // How many rules of the book have the atom as head.
-pub fn count_rules(book: &ReadBook, a: AtomNo) -> usize {
+pub fn count_rules(book: &ReadBook, a: AtomNo) -> usize
+    ensures { result ≡ rules_with a (the_book book.now) }
+{
     let rules = 0..book.shape.rules;
     rules.filter(|r| book.head(RuleNo(*r)) == a).count()
 }

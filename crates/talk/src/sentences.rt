@@ -4,7 +4,6 @@ use crate::hints::{put_hint_of_book, put_hint_of_paper};
 use crate::line::Line;
 use crate::refusals::Refused;
 use book::Refusal;
-use checker::Rejected;
 use meaning::Kind;
 
 // Text, a number and more text.
@@ -146,10 +145,10 @@ pub fn explain_text_of(rt: &impl Print, refused: Refused, whose: &[u8]) {
 }
 
 // Writes why the paper is refused, with a hint where its bytes look like something else.
-pub fn explain_paper(rt: &impl Print, why: Rejected, paper: &[u8]) {
+pub fn explain_paper(rt: &impl Print, refused: Refused, paper: &[u8]) {
     let mut room = [0u8; 256];
     let mut line = Line::new(&mut room);
-    put_explained(Refused::from(why), b"", Kind::Naming, 0, &mut line);
+    put_explained(refused, b"", Kind::Naming, 0, &mut line);
     put_hint_of_paper(paper, &mut line);
     line.text(b"\n");
     line.print(rt);

@@ -13,12 +13,15 @@ use Rattle.book.specs.Format.{book_in}
 use Rattle.book.proofs.Places.{shape-count}
 use Rattle.closing.proofs.Good.{good-book, good-few}
 use Rattle.closing.proofs.Propagating.{sized-coloured}
-use Rattle.closing.proofs.Closed.{propagated-to, closes-propagated, propagated-no-more}
+use Rattle.closing.proofs.Closed.{closes-start, propagated-to, closes-propagated, propagated-no-more, dropped-above}
 use Rattle.closing.proofs.Closed.{closes-dropped, dropped-settled, dropped-less, propagated-off, closed-to}
 use Rattle.closing.proofs.Leaving.{ends-left, ends-closed}
 use Rattle.closing.proofs.close_propagated.Goals as goal
 
 -- ---- the needs
+pub loop-old-init : goal.loop-old-init
+loop-old-init c = (closes-start _ _, c.requires.0, c.requires.1, c.requires.2)
+
 -- the closing is left at the start of a turn
 pub returns-then-is_left : goal.returns-then-is_left
 returns-then-is_left c =
@@ -29,6 +32,13 @@ returns-then-not-drop_suspects c =
     let l = c.loop-old in
     ends-closed (closed-to _ (good-few (good-book c.args.rowed.now.book)) (lent (listed c.args.on.now.w) (listed c.args.off.now.w)) l.on.w l.off.w c.drop_suspects.new.off.w
     l.invariant.0 l.invariant.1 c.drop_suspects.ensures.0 c.if-not-drop_suspects.true)
+
+pub propagate_dropped-requires : goal.propagate_dropped-requires
+propagate_dropped-requires c =
+    let l = c.loop-old in (
+      l.invariant.1,
+      dropped-above _ (good-few (good-book c.args.rowed.now.book)) (of (listed l.off.w)) (of (listed c.drop_suspects.new.off.w)) c.drop_suspects.ensures.0.gone,
+    )
 
 pub loop-old-smaller : goal.loop-old-smaller
 loop-old-smaller c =

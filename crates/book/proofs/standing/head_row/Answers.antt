@@ -2,7 +2,7 @@
 use mathlib.Core.Path.{ap, ◌∙◌}
 use Prim.Native.Nat.{ℕ}
 use Rattle.book.specs.RuleRows.{row}
-use Rattle.book.proofs.rowed.RowedBook.head_row.Goals as goal
+use Rattle.book.proofs.standing.head_row.Goals as goal
 
 pub returns : goal.returns
-returns c = c.row_at.ensures ∙ ap (λ (n : ℕ). row c.args.self.now.rows (n)) c.wide.ensures.0
+returns c = c.row_at.ensures ∙ ap (λ (n : ℕ). row c.args.rows.now (n)) c.wide.ensures.0
